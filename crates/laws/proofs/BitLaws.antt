@@ -1,0 +1,121 @@
+-- The bits of and, or, a power of two and a complement, at any width.
+-- Assumes nothing.
+use Prim.Native.Nat.{ℕ, zero, suc, _+_, _*_, _-_, _/_, _%_, _^_, _≤_, _<_, min, max}
+use mathlib.Core.Path.{_≡_, refl, ap, sym, _∙_}
+use mathlib.Core.Logic.{⊎-elim, _⊎_, inl, inr}
+use mathlib.Core.Bool.{Bool, true, false, not, _&&_, _||_, and-false, and-comm}
+use native.Mathlib.Nat.{pow-zero, pow-succ', div-one, zero-div, div-div-eq-div-mul, one-mul, div-eq-of-lt, mod-eq-of-lt, lt-of-lt-of-le, add-comm}
+use native.Mathlib.Numerals.{add-one}
+use native.Mathlib.Omega.{arith}
+use lib.Dec.{eqb, ltb, eqb·suc-suc, eqb·zero-suc, eqb·suc-zero}
+use lib.Pow.{pow-pos, pow-lt, pow-mono}
+use lib.Bits.{bitAnd, bitOr, and-step, or-step, and-shr, or-shr, and-high}
+use borrow.Author.Tests.{eq-eqb, ne-eqb, eqb-true, eqb-false, ltb-true, ltb-false}
+use Rattle.laws.specs.Bits.{has}
+use Rattle.laws.proofs.Choice.{true-or, lt-or}
+
+odd-or : (x : ℕ) → (x % 2 ≡ 0) ⊎ (x % 2 ≡ 1)
+odd-or x = ⊎-elim (λ e. inl e) (λ e. inr (omega (arith, e))) (go (eqb (x % 2) 0) refl)
+  where
+    go : (t : Bool) → eqb (x % 2) 0 ≡ t → (x % 2 ≡ 0) ⊎ (x % 2 ≡ 0 → ⊥)
+    go true e = inl (eqb-true (x % 2) 0 e)
+    go false e = inr (eqb-false (x % 2) 0 e)
+
+and-odd : (x y : ℕ) → eqb (bitAnd x y % 2) 1 ≡ (eqb (x % 2) 1 && eqb (y % 2) 1)
+and-odd x y =
+    let s = and-step x y in
+    ⊎-elim
+    (λ (a : x % 2 ≡ 0). ⊎-elim
+    (λ (b : y % 2 ≡ 0). let e : bitAnd x y % 2 ≡ 0 = let t = rw (a, b) at s in omega arith in simp (e, a, b))
+    (λ (b : y % 2 ≡ 1). let e : bitAnd x y % 2 ≡ 0 = let t = rw (a, b) at s in omega arith in simp (e, a, b))
+    (odd-or y))
+    (λ (a : x % 2 ≡ 1). ⊎-elim
+    (λ (b : y % 2 ≡ 0). let e : bitAnd x y % 2 ≡ 0 = let t = rw (a, b) at s in omega arith in simp (e, a, b))
+    (λ (b : y % 2 ≡ 1). let e : bitAnd x y % 2 ≡ 1 = let t = rw (a, b) at s in omega arith in simp (e, a, b))
+    (odd-or y))
+    (odd-or x)
+
+or-odd : (x y : ℕ) → eqb (bitOr x y % 2) 1 ≡ (eqb (x % 2) 1 || eqb (y % 2) 1)
+or-odd x y =
+    let s = or-step x y in
+    ⊎-elim
+    (λ (a : x % 2 ≡ 0). ⊎-elim
+    (λ (b : y % 2 ≡ 0). let e : bitOr x y % 2 ≡ 0 = let t = rw (a, b) at s in omega arith in simp (e, a, b))
+    (λ (b : y % 2 ≡ 1). let e : bitOr x y % 2 ≡ 1 = let t = rw (a, b) at s in omega arith in simp (e, a, b))
+    (odd-or y))
+    (λ (a : x % 2 ≡ 1). ⊎-elim
+    (λ (b : y % 2 ≡ 0). let e : bitOr x y % 2 ≡ 1 = let t = rw (a, b) at s in omega arith in simp (e, a, b))
+    (λ (b : y % 2 ≡ 1). let e : bitOr x y % 2 ≡ 1 = let t = rw (a, b) at s in omega arith in simp (e, a, b))
+    (odd-or y))
+    (odd-or x)
+
+pub has-and : (a b i : ℕ) → has (bitAnd a b) i ≡ (has a i && has b i)
+has-and a b i = rw (and-shr a b i) (and-odd (a / 2 ^ i) (b / 2 ^ i))
+
+pub has-or : (a b i : ℕ) → has (bitOr a b) i ≡ (has a i || has b i)
+has-or a b i = rw (or-shr a b i) (or-odd (a / 2 ^ i) (b / 2 ^ i))
+
+-- one bit on is the half's bit
+pub has-suc : (a i : ℕ) → has a (suc i) ≡ has (a / 2) i
+has-suc a i = rw (pow-succ' 2 i, ← div-div-eq-div-mul a 2 (2 ^ i))
+
+pub has-zero : (a : ℕ) → has a 0 ≡ eqb (a % 2) 1
+has-zero a = rw (pow-zero 2, div-one a)
+
+has-none : (i : ℕ) → has 0 i ≡ false
+has-none i = rw (zero-div (2 ^ i))
+
+pub has-pow : (c i : ℕ) → has (2 ^ c) i ≡ eqb i c
+has-pow zero zero = has-zero (2 ^ 0)
+has-pow zero (suc i) = has-suc (2 ^ 0) i ∙ has-none i ∙ sym (eqb·suc-zero i)
+has-pow (suc c) zero = has-zero (2 ^ suc c) ∙ ne-eqb (2 ^ suc c % 2) 1 (λ z. omega (arith, pow-succ' 2 c)) ∙ sym (eqb·zero-suc c)
+has-pow (suc c) (suc i) =
+    let e : 2 ^ suc c / 2 ≡ 2 ^ c = omega (arith, pow-succ' 2 c) in
+    has-suc (2 ^ suc c) i ∙ rw e (has-pow c i ∙ sym (eqb·suc-suc i c))
+
+-- what is not among the first k numbers is in no set below 2 ^ k
+pub has-high : (k a i : ℕ) → a < 2 ^ k → k ≤ i → has a i ≡ false
+has-high k a i h l = rw (div-eq-of-lt (lt-of-lt-of-le h (pow-mono l)))
+
+-- the complement among the first k numbers
+pub has-not : (k m i : ℕ) → m < 2 ^ k → i < k → has (2 ^ k - 1 - m) i ≡ not (has m i)
+has-not zero m i h l = absurd (omega arith)
+has-not (suc k) m zero h l =
+    let p = pow-succ' 2 k in
+    let q = pow-pos k in
+    ⊎-elim
+    (λ (e : m % 2 ≡ 0). has-zero (2 ^ suc k - 1 - m) ∙ eq-eqb ((2 ^ suc k - 1 - m) % 2) 1 (omega arith) ∙ sym (ap not (has-zero m ∙ ne-eqb (m % 2) 1 (λ z. omega arith))))
+    (λ (e : m % 2 ≡ 1). has-zero (2 ^ suc k - 1 - m) ∙ ne-eqb ((2 ^ suc k - 1 - m) % 2) 1 (λ z. omega arith) ∙ sym (ap not (has-zero m ∙ eq-eqb (m % 2) 1 e)))
+    (odd-or m)
+has-not (suc k) m (suc i) h l =
+    let p = pow-succ' 2 k in
+    let e : (2 ^ suc k - 1 - m) / 2 ≡ 2 ^ k - 1 - m / 2 = omega arith in
+    has-suc (2 ^ suc k - 1 - m) i ∙ rw e (has-not k (m / 2) i (omega arith) (omega arith) ∙ sym (ap not (has-suc m i)))
+
+-- 1 << c at a width of k bits
+pub one-shl : (k c : ℕ) → c < k → 1 * 2 ^ c % 2 ^ k ≡ 2 ^ c
+one-shl k c h = rw (one-mul (2 ^ c)) (mod-eq-of-lt (pow-lt h))
+
+-- a mask of one bit
+pub mask-one : (s c : ℕ) → bitAnd s (2 ^ c) ≡ (s / 2 ^ c % 2) * 2 ^ c
+mask-one s c =
+    let e : 2 ^ (1 + c) - 2 ^ c ≡ 2 ^ c = rw (add-comm 1 c) (rw (add-one c) (let p = pow-succ' 2 c in omega arith)) in
+    rw e at (and-high s 1 c)
+
+pub mask-test : (s c : ℕ) → not (eqb (bitAnd s (2 ^ c)) 0) ≡ has s c
+mask-test s c =
+    let p = pow-pos c in
+    let m = mask-one s c in
+    ⊎-elim
+    (λ (e : s / 2 ^ c % 2 ≡ 0). ap not (eq-eqb (bitAnd s (2 ^ c)) 0 (let n = rw e at m in omega arith)) ∙ sym (ne-eqb (s / 2 ^ c % 2) 1 (λ z. omega arith)))
+    (λ (e : s / 2 ^ c % 2 ≡ 1). ap not (ne-eqb (bitAnd s (2 ^ c)) 0 (λ z. let n = rw e at m in omega arith)) ∙ sym (eq-eqb (s / 2 ^ c % 2) 1 e))
+    (odd-or (s / 2 ^ c))
+
+-- the set without c, at a width of k bits
+pub has-without : (k s c i : ℕ) → s < 2 ^ k → c < k → has (bitAnd s (2 ^ k - 1 - 2 ^ c)) i ≡ (not (eqb i c) && has s i)
+has-without k s c i hs hc =
+    has-and s (2 ^ k - 1 - 2 ^ c) i
+    ∙ ⊎-elim
+    (λ (l : i < k). rw (has-not k (2 ^ c) i (pow-lt hc) l, has-pow c i) (and-comm (has s i) (not (eqb i c))))
+    (λ (l : k ≤ i). rw (has-high k s i hs l) (sym (and-false (not (eqb i c)))))
+    (lt-or i k)

@@ -1,0 +1,70 @@
+-- Bytes written over the start of a buffer, and numbers of 16 bits in bytes.
+-- Assumes nothing.
+use Prim.Native.Nat.{ℕ, zero, suc, _+_, _*_, _/_, _%_, _≤_, _<_}
+use mathlib.Core.Path.{_≡_, refl, ap, sym, _∙_}
+use mathlib.Core.List.{List, [], _∷_, _++_}
+use native.Mathlib.Nat.{zero-add}
+use native.Mathlib.Numerals.{add-one}
+use native.Mathlib.Omega.{arith}
+use lib.ListN.{length, getD, set, take, drop, length-set, length-append, length-drop}
+use lib.Seq.{paste, paste-zero, paste-suc, take-length, sets, sets-eq, getD-set-same, getD-set-other, set-set, set-comm, set-getD}
+use Rattle.laws.specs.Bytes.{over, pairAt, putAt}
+
+-- a copy from the front: nothing yet, one byte more, all
+pub copied-none : (d s : List ℕ) → d ≡ paste d 0 s 0
+copied-none d s = paste-zero d 0 s
+
+pub copied-more : (d₀ s d : List ℕ) (i : ℕ) → i < length s → length s ≤ length d₀ → d ≡ paste d₀ 0 s i → set d i (getD s i 0) ≡ paste d₀ 0 s (i + 1)
+copied-more d₀ s d i h l e =
+    let n : 0 + i ≡ i = zero-add i in
+    let p : set (paste d₀ 0 s i) (0 + i) (getD s i 0) ≡ paste d₀ 0 s (suc i) = paste-suc d₀ 0 s i 0 (omega arith) h in
+    rw (add-one i) (rw e (ap (λ (k : ℕ). set (paste d₀ 0 s i) k (getD s i 0)) (sym n) ∙ p))
+
+pub copied-all : (d₀ s d : List ℕ) (i : ℕ) → i ≡ length s → d ≡ paste d₀ 0 s i → d ≡ over s d₀
+copied-all d₀ s d i q e = e ∙ rw (q, take-length s, zero-add (length s))
+
+pub length-over : (w d : List ℕ) → length w ≤ length d → length (over w d) ≡ length d
+length-over w d h = omega (arith, length-append w (drop (length w) d), length-drop (length w) d)
+
+-- stores from the front, one after the other, write over it
+pub written : (w d : List ℕ) → length w ≤ length d → sets d 0 w ≡ over w d
+written w d h = sets-eq w d 0 (omega arith) ∙ rw (zero-add (length w))
+
+-- a number that was put is read back, elsewhere nothing changed
+pub length-put : (d : List ℕ) (k n : ℕ) → length (putAt d k n) ≡ length d
+length-put d k n = simp length-set
+
+pub pair-put : (d : List ℕ) (k n : ℕ) → k + 1 < length d → n < 65536 → pairAt (putAt d k n) k ≡ n
+pair-put d k n h l =
+    let e : getD (putAt d k n) k 0 ≡ n / 256 = getD-set-other (set d k (n / 256)) (k + 1) k (n % 256) 0 (λ z. omega arith) ∙ getD-set-same d k (n / 256) 0 (omega arith) in
+    let f : getD (putAt d k n) (k + 1) 0 ≡ n % 256 = getD-set-same (set d k (n / 256)) (k + 1) (n % 256) 0 (simp length-set h) in
+    rw (e, f) (omega arith)
+
+pub pair-put-other : (d : List ℕ) (k n j : ℕ) → k + 1 < j → pairAt (putAt d k n) j ≡ pairAt d j
+pair-put-other d k n j h =
+    rw (
+      getD-set-other (set d k (n / 256)) (k + 1) j (n % 256) 0 (λ z. omega arith),
+      getD-set-other d k j (n / 256) 0 (λ z. omega arith),
+      getD-set-other (set d k (n / 256)) (k + 1) (j + 1) (n % 256) 0 (λ z. omega arith),
+      getD-set-other d k (j + 1) (n / 256) 0 (λ z. omega arith),
+    )
+
+pub put-put : (d : List ℕ) (k a b : ℕ) → putAt (putAt d k a) k b ≡ putAt d k b
+put-put d k a b =
+    rw (set-comm (set d k (a / 256)) (k + 1) k (a % 256) (b / 256) (λ z. omega arith), set-set d k (a / 256) (b / 256), set-set (set d k (b / 256)) (k + 1) (a % 256) (b % 256))
+
+pub put-comm : (d : List ℕ) (k a j b : ℕ) → k + 1 < j → putAt (putAt d k a) j b ≡ putAt (putAt d j b) k a
+put-comm d k a j b h =
+    rw (
+      set-comm (set d k (a / 256)) (k + 1) j (a % 256) (b / 256) (λ z. omega arith),
+      set-comm d k j (a / 256) (b / 256) (λ z. omega arith),
+      set-comm (set (set d j (b / 256)) k (a / 256)) (k + 1) (j + 1) (a % 256) (b % 256) (λ z. omega arith),
+      set-comm (set d j (b / 256)) k (j + 1) (a / 256) (b % 256) (λ z. omega arith),
+    )
+
+-- the number that is there, put there, changes nothing
+pub put-same : (d : List ℕ) (k : ℕ) → getD d (k + 1) 0 < 256 → putAt d k (pairAt d k) ≡ d
+put-same d k b =
+    let e : (getD d k 0 * 256 + getD d (k + 1) 0) / 256 ≡ getD d k 0 = omega arith in
+    let f : (getD d k 0 * 256 + getD d (k + 1) 0) % 256 ≡ getD d (k + 1) 0 = omega arith in
+    rw (e, f, set-getD d k 0, set-getD d (k + 1) 0)

@@ -1,0 +1,52 @@
+-- Every test is true or false, two numbers are equal or not, and what the parts of a test say.
+-- Assumes nothing.
+use Prim.Native.Nat.{ℕ, _≤_, _<_}
+use mathlib.Core.Path.{_≡_, refl}
+use mathlib.Core.Logic.{⊎-elim, _⊎_, inl, inr}
+use mathlib.Core.Bool.{Bool, true, false, cond, _&&_, _||_, false≢true, true≢false}
+use lib.Dec.{eqb, ltb}
+use borrow.Author.Tests.{eqb-true, eqb-false, ltb-true, ltb-false}
+
+pub true-or : (t : Bool) → (t ≡ true) ⊎ (t ≡ false)
+true-or true = inl refl
+true-or false = inr refl
+
+pub eq-or : (a b : ℕ) → (a ≡ b) ⊎ (a ≡ b → ⊥)
+eq-or a b = ⊎-elim (λ e. inl (eqb-true a b e)) (λ e. inr (eqb-false a b e)) (true-or (eqb a b))
+
+pub lt-or : (a b : ℕ) → (a < b) ⊎ (b ≤ a)
+lt-or a b = ⊎-elim (λ e. inl (ltb-true a b e)) (λ e. inr (ltb-false a b e)) (true-or (ltb a b))
+
+pub and-left : (a b : Bool) → (a && b) ≡ true → a ≡ true
+and-left true b t = refl
+and-left false b t = t
+
+pub and-right : (a b : Bool) → (a && b) ≡ true → b ≡ true
+and-right true b t = t
+and-right false b t = absurd (false≢true t)
+
+-- where neither holds
+pub or-left : (a b : Bool) → (a || b) ≡ false → a ≡ false
+or-left true b e = absurd (true≢false e)
+or-left false b e = refl
+
+pub or-right : (a b : Bool) → (a || b) ≡ false → b ≡ false
+or-right true b e = absurd (true≢false e)
+or-right false b e = e
+
+-- where one holds and it is not the first
+pub or-second : (a b : Bool) → a ≡ false → (a || b) ≡ true → b ≡ true
+or-second true b e t = absurd (true≢false e)
+or-second false b e t = t
+
+-- two tests that follow from each other are equal
+pub same-test : (a b : Bool) → (a ≡ true → b ≡ true) → (b ≡ true → a ≡ true) → a ≡ b
+same-test true true f g = refl
+same-test true false f g = absurd (false≢true (f refl))
+same-test false true f g = absurd (false≢true (g refl))
+same-test false false f g = refl
+
+-- a chain of tests that ends in 0 passed each of them
+pub past : (t : Bool) (n r : ℕ) → (n ≡ 0 → ⊥) → cond t n r ≡ 0 → (t ≡ false) × (r ≡ 0)
+past true n r h e = absurd (h e)
+past false n r h e = (refl, e)

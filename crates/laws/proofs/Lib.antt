@@ -1,0 +1,10 @@
+pub mod Choice
+pub mod ListLaws
+pub mod FilterLaws
+pub mod SearchLaws
+pub mod CountLaws
+pub mod PigeonLaws
+pub mod CircleLaws
+pub mod BitLaws
+pub mod DigitLaws
+pub mod ByteLaws

@@ -1,0 +1,57 @@
+-- Lists made by a rule.
+-- Assumes nothing.
+use Prim.Native.Nat.{ℕ, zero, suc, _+_, _≤_, _<_}
+use mathlib.Core.Path.{_≡_, refl, ap, sym, _∙_}
+use mathlib.Core.Logic.{⊎-elim}
+use mathlib.Core.List.{List, [], _∷_, _++_, map, map-append}
+use native.Mathlib.Numerals.{add-one}
+use native.Mathlib.Omega.{arith}
+use lib.ListN.{length, getD, set, length-append, List·getD-append}
+use lib.Seq.{set-at, set-append-left, getD-at}
+use Rattle.laws.specs.Lists.{tab}
+use Rattle.laws.proofs.Choice.{eq-or}
+
+module _ {A : Type 0} where
+  pub tab-ext : (n : ℕ) (f g : ℕ → A) → ((j : ℕ) → j < n → f j ≡ g j) → tab n f ≡ tab n g
+  unfolding tab
+  tab-ext zero f g h = refl
+  tab-ext (suc n) f g h = rw (tab-ext n f g (λ j l. h j (omega arith)), h n (omega arith))
+
+  pub tab-more : (n : ℕ) (f : ℕ → A) → tab (n + 1) f ≡ tab n f ++ (f n ∷ [])
+  unfolding tab
+  tab-more n f = rw (add-one n)
+
+  pub length-tab : (n : ℕ) (f : ℕ → A) → length (tab n f) ≡ n
+  unfolding tab
+  length-tab zero f = refl
+  length-tab (suc n) f = omega (arith, length-append (tab n f) (f n ∷ []), length-tab n f)
+
+  pub getD-tab : (n : ℕ) (f : ℕ → A) (k : ℕ) (d : A) → k < n → getD (tab n f) k d ≡ f k
+  unfolding tab
+  getD-tab zero f k d h = absurd (omega arith)
+  getD-tab (suc n) f k d h =
+      ⊎-elim
+      (λ (q : k ≡ n). rw q (getD-at (tab n f) (f n) [] d n (length-tab n f)))
+      (λ (q : k ≡ n → ⊥). List·getD-append (tab n f) (f n ∷ []) d k (omega (arith, length-tab n f, q)) ∙ getD-tab n f k d (omega (arith, q)))
+      (eq-or k n)
+
+  -- two rules that differ at one place give lists that differ there
+  pub tab-set : (n p : ℕ) (f g : ℕ → A) (v : A) → p < n → g p ≡ v → ((k : ℕ) → k < n → (k ≡ p → ⊥) → g k ≡ f k) → tab n g ≡ set (tab n f) p v
+  unfolding tab
+  tab-set zero p f g v h e o = absurd (omega arith)
+  tab-set (suc n) p f g v h e o =
+      ⊎-elim
+      (λ (q : p ≡ n).
+      tab-ext n g f (λ j l. o j (omega arith) (λ z. omega arith)) ⊢ q)
+      (λ (q : p ≡ n → ⊥).
+      rw (tab-set n p f g v (omega (arith, q)) e (λ k l. o k (omega arith)), o n (omega arith) (λ z. q (sym z)), set-append-left (tab n f) (f n ∷ []) p v (omega (arith, length-tab n f, q))))
+      (eq-or p n)
+    where
+      infixl 10 _⊢_
+      _⊢_ : tab n g ≡ tab n f → p ≡ n → tab n g ++ (g n ∷ []) ≡ set (tab n f ++ (f n ∷ [])) p v
+      _⊢_ a q = rw (a, set-at (tab n f) (f n) [] v p (length-tab n f ∙ sym q), ← q, e)
+
+pub map-tab : {A B : Type 0} (h : A → B) (n : ℕ) (f : ℕ → A) → map h (tab n f) ≡ tab n (λ i. h (f i))
+unfolding tab
+map-tab h zero f = refl
+map-tab h (suc n) f = map-append h (tab n f) (f n ∷ []) ∙ rw (map-tab h n f)

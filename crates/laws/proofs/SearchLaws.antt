@@ -1,0 +1,155 @@
+-- What a search over places finds: a place that passes and that no other beats, or none where none passes.
+-- Assumes nothing.
+use Prim.Native.Nat.{ℕ, zero, suc, _+_, _≤_, _<_}
+use mathlib.Core.Path.{_≡_, refl, ap, sym, _∙_}
+use mathlib.Core.Logic.{⊎-elim, _⊎_, inl, inr}
+use mathlib.Core.Bool.{Bool, true, false, cond, _&&_, _||_, false≢true, true≢false, or-false}
+use native.Mathlib.Numerals.{add-one}
+use native.Mathlib.Omega.{arith}
+use lib.Dec.{eqb}
+use borrow.Author.Tests.{eq-eqb, ne-eqb, eqb-false}
+use Rattle.laws.specs.Search.{best, first}
+use Rattle.laws.proofs.Choice.{true-or, eq-or, and-left, and-right, or-second}
+
+module _ (test : ℕ → Bool) (beats : ℕ → ℕ → Bool) (none : ℕ) where
+  pub best-wins : (k b : ℕ) → b ≡ best test beats none k → (test k && (eqb b none || beats k b)) ≡ true → k ≡ best test beats none (k + 1)
+  unfolding best
+  best-wins k b e t = rw (add-one k, ← e, t)
+
+  pub best-stays : (k b : ℕ) → b ≡ best test beats none k → (test k && (eqb b none || beats k b)) ≡ false → b ≡ best test beats none (k + 1)
+  unfolding best
+  best-stays k b e t = rw (add-one k, ← e, t)
+
+-- the first place that passes: no place beats another
+module _ (test : ℕ → Bool) (none : ℕ) where
+  pub first-wins : (k b : ℕ) → b ≡ best test (λ i j. false) none k → (test k && eqb b none) ≡ true → k ≡ best test (λ i j. false) none (k + 1)
+  first-wins k b e t = best-wins test (λ i j. false) none k b e (rw (or-false (eqb b none)) t)
+
+  pub first-stays : (k b : ℕ) → b ≡ best test (λ i j. false) none k → (test k && eqb b none) ≡ false → b ≡ best test (λ i j. false) none (k + 1)
+  first-stays k b e t = best-stays test (λ i j. false) none k b e (rw (or-false (eqb b none)) t)
+
+pub cond-ext : (a a′ : Bool) (x y y′ : ℕ) → a ≡ a′ → y ≡ y′ → cond a x y ≡ cond a′ x y′
+cond-ext a a′ x y y′ e f = rw (e, f)
+
+-- what was found is a place that passed
+pub best-in : (test : ℕ → Bool) (beats : ℕ → ℕ → Bool) (none n : ℕ) → (best test beats none n ≡ none) ⊎ ((best test beats none n < n) × (test (best test beats none n) ≡ true))
+unfolding best
+best-in test beats none zero = inl refl
+best-in test beats none (suc n) =
+    ⊎-elim
+    (λ t. rw t (inr (omega arith, and-left (test n) _ t)))
+    (λ t. rw t (⊎-elim inl (λ w. inr (omega (arith, w .0), w .1)) (best-in test beats none n)))
+    (true-or (test n && (eqb (best test beats none n) none || beats n (best test beats none n))))
+
+pub best-all : (test : ℕ → Bool) (beats : ℕ → ℕ → Bool) (n : ℕ) → n ≤ best test beats n n → best test beats n n ≡ n
+best-all test beats n h = ⊎-elim (λ e. e) (λ w. absurd (omega (arith, w .0))) (best-in test beats n n)
+
+pub best-some : (test : ℕ → Bool) (beats : ℕ → ℕ → Bool) (n : ℕ) → best test beats n n < n → test (best test beats n n) ≡ true
+best-some test beats n h = ⊎-elim (λ e. absurd (omega (arith, e))) (λ w. w .1) (best-in test beats n n)
+
+-- two searches whose tests agree find the same
+pub best-ext : (test test′ : ℕ → Bool) (beats beats′ : ℕ → ℕ → Bool) (none n : ℕ) → ((k : ℕ) → k < n → test k ≡ test′ k)
+    → ((j k : ℕ) → j < n → k < n → test j ≡ true → test k ≡ true → beats j k ≡ beats′ j k)
+    → best test beats none n ≡ best test′ beats′ none n
+unfolding best
+best-ext test test′ beats beats′ none zero h g = refl
+best-ext test test′ beats beats′ none (suc n) h g =
+    let e = best-ext test test′ beats beats′ none n (λ k l. h k (omega arith)) (λ j k a b. g j k (omega arith) (omega arith)) in
+    cond-ext
+    (test n && (eqb (best test beats none n) none || beats n (best test beats none n)))
+    (test′ n && (eqb (best test′ beats′ none n) none || beats′ n (best test′ beats′ none n)))
+    n
+    (best test beats none n)
+    (best test′ beats′ none n)
+    (rw (← e, ← h n (omega arith))
+    (⊎-elim
+    (λ (t : test n ≡ true). ⊎-elim
+    (λ (z : best test beats none n ≡ none). rw (eq-eqb (best test beats none n) none z))
+    (λ (w : (best test beats none n < n) × (test (best test beats none n) ≡ true)).
+    let q : beats n (best test beats none n) ≡ beats′ n (best test beats none n) = g n (best test beats none n) (omega arith) (omega (arith, w .0)) t (w .1) in
+    rw q)
+    (best-in test beats none n))
+    (λ (t : test n ≡ false). rw t)
+    (true-or (test n))))
+    e
+
+pub best-bound : (test : ℕ → Bool) (beats : ℕ → ℕ → Bool) (n r : ℕ) → r ≡ best test beats n n → r ≤ n
+best-bound test beats n r e = ⊎-elim (λ z. omega arith) (λ w. omega (arith, w .0)) (best-in test beats n n)
+
+lost : (a b d : Bool) → a ≡ true → (a && (b || d)) ≡ false → (b ≡ false) × (d ≡ false)
+lost true true d e w = absurd (true≢false w)
+lost true false d e w = (refl, w)
+lost false b d e w = absurd (false≢true e)
+
+-- what was found is beaten by no place that passes, where beating is an order
+module _ (test : ℕ → Bool) (beats : ℕ → ℕ → Bool) (none : ℕ) (irr : (k : ℕ) → beats k k ≡ false)
+    (trans : (i j k : ℕ) → beats i j ≡ true → beats j k ≡ true → beats i k ≡ true) where
+  pub best-right : (n : ℕ) → n ≤ none → (k : ℕ) → k < n → test k ≡ true → (best test beats none n ≡ none → ⊥) × (beats k (best test beats none n) ≡ false)
+  unfolding best
+  best-right zero l k h t = absurd (omega arith)
+  best-right (suc n) l k h t =
+      let b = best test beats none n in
+      ⊎-elim
+      (λ (w : (test n && (eqb b none || beats n b)) ≡ true). rw w (
+        λ z. omega arith,
+        ⊎-elim
+            (λ (q : k ≡ n). rw q (irr n))
+            (λ (q : k ≡ n → ⊥).
+            let ih = best-right n (omega arith) k (omega (arith, q)) t in
+            ⊎-elim
+            (λ (x : beats k n ≡ true). absurd (true≢false (sym (trans k n b x (or-second (eqb b none) (beats n b) (ne-eqb b none (ih .0)) (and-right (test n) _ w))) ∙ ih .1)))
+            (λ x. x)
+            (true-or (beats k n)))
+            (eq-or k n),
+      ))
+      (λ (w : (test n && (eqb b none || beats n b)) ≡ false). rw w
+      (⊎-elim
+      (λ (q : k ≡ n). let p = lost (test n) (eqb b none) (beats n b) (rw q at t) w in (eqb-false b none (p .0), rw q (p .1)))
+      (λ (q : k ≡ n → ⊥). best-right n (omega arith) k (omega (arith, q)) t)
+      (eq-or k n)))
+      (true-or (test n && (eqb b none || beats n b)))
+
+-- nothing was found: no place passes
+pub best-empty : (test : ℕ → Bool) (beats : ℕ → ℕ → Bool) (none n : ℕ) → n ≤ none → best test beats none n ≡ none → (k : ℕ) → k < n → test k ≡ false
+unfolding best
+best-empty test beats none zero l e k h = absurd (omega arith)
+best-empty test beats none (suc n) l e k h =
+    let b = best test beats none n in
+    ⊎-elim
+    (λ (w : (test n && (eqb b none || beats n b)) ≡ true). absurd (let z : n ≡ none = sym (rw w refl) ∙ e in omega arith))
+    (λ (w : (test n && (eqb b none || beats n b)) ≡ false).
+    let z : b ≡ none = sym (rw w refl) ∙ e in
+    ⊎-elim
+    (λ (q : k ≡ n). rw q (⊎-elim (λ t. absurd (true≢false (sym (eq-eqb b none z) ∙ lost (test n) (eqb b none) (beats n b) t w .0))) (λ t. t) (true-or (test n))))
+    (λ (q : k ≡ n → ⊥). best-empty test beats none n (omega arith) z k (omega (arith, q)))
+    (eq-or k n))
+    (true-or (test n && (eqb b none || beats n b)))
+
+-- the same, where the outcome of the search is not below n
+pub best-none : (test : ℕ → Bool) (beats : ℕ → ℕ → Bool) (n : ℕ) → n ≤ best test beats n n → (k : ℕ) → k < n → test k ≡ false
+best-none test beats n h = best-empty test beats n n (omega arith) (best-all test beats n h)
+
+pub first-le : (test : ℕ → Bool) (n : ℕ) → first test n ≤ n
+unfolding first
+first-le test zero = omega arith
+first-le test (suc n) = let i = first-le (λ k. test (suc k)) n in ⊎-elim (λ t. rw t (omega arith)) (λ t. rw t (omega arith)) (true-or (test 0))
+
+pub first-before : (test : ℕ → Bool) (n k : ℕ) → k < first test n → test k ≡ false
+unfolding first
+first-before test zero k h = absurd (omega arith)
+first-before test (suc n) zero h =
+    ⊎-elim (λ (t : test 0 ≡ true). absurd (let z : first test (suc n) ≡ 0 = rw t in omega arith)) (λ t. t) (true-or (test 0))
+first-before test (suc n) (suc k) h =
+    ⊎-elim
+    (λ (t : test 0 ≡ true). absurd (let z : first test (suc n) ≡ 0 = rw t in omega arith))
+    (λ (t : test 0 ≡ false). first-before (λ j. test (suc j)) n k (let z : first test (suc n) ≡ suc (first (λ j. test (suc j)) n) = rw t in omega arith))
+    (true-or (test 0))
+
+pub first-here : (test : ℕ → Bool) (n : ℕ) → first test n < n → test (first test n) ≡ true
+unfolding first
+first-here test zero h = absurd (omega arith)
+first-here test (suc n) h =
+    ⊎-elim
+    (λ (t : test 0 ≡ true). rw t t)
+    (λ (t : test 0 ≡ false). rw t (first-here (λ j. test (suc j)) n (let z : first test (suc n) ≡ suc (first (λ j. test (suc j)) n) = rw t in omega arith)))
+    (true-or (test 0))

@@ -1,0 +1,129 @@
+-- Every number of document 01, once and by name. The code has the same numbers as constants of the same names.
+-- Assumes nothing.
+use Prim.Native.Nat.{ℕ, _+_, _*_, _-_, _^_}
+
+-- "Numbers"
+abbrev pub clients : ℕ
+clients = 32
+
+abbrev pub places : ℕ
+places = 64
+
+abbrev pub room : ℕ
+room = 8
+
+abbrev pub partyPlaces : ℕ
+partyPlaces = places * room
+
+abbrev pub mostTags : ℕ
+mostTags = 256
+
+abbrev pub leastTimeout : ℕ
+leastTimeout = 100
+
+abbrev pub mostTimeout : ℕ
+mostTimeout = 60000
+
+abbrev pub usualTimeout : ℕ
+usualTimeout = 3000
+
+abbrev pub latestTime : ℕ
+latestTime = 2 ^ 63 - 1
+
+abbrev pub leastFrame : ℕ
+leastFrame = 8
+
+abbrev pub mostFrame : ℕ
+mostFrame = 260
+
+-- a frame buffer has at least so many bytes, a fan-out list so many numbers: a pair for each party
+abbrev pub frameBuffer : ℕ
+frameBuffer = mostFrame
+
+abbrev pub listBuffer : ℕ
+listBuffer = 2 * room
+
+-- ids of 16 bits, and register addresses
+abbrev pub ids : ℕ
+ids = 65536
+
+abbrev pub addresses : ℕ
+addresses = 65536
+
+-- "A frame": the bytes that the length field does not count, those before the PDU, and what the field may say
+abbrev pub uncounted : ℕ
+uncounted = 6
+
+abbrev pub headerSize : ℕ
+headerSize = 7
+
+abbrev pub leastLength : ℕ
+leastLength = 2
+
+abbrev pub mostLength : ℕ
+mostLength = 254
+
+-- "A request": the functions that are looked into, and how many registers each may ask for
+abbrev pub readHolding : ℕ
+readHolding = 3
+
+abbrev pub readInput : ℕ
+readInput = 4
+
+abbrev pub writeSingle : ℕ
+writeSingle = 6
+
+abbrev pub writeMultiple : ℕ
+writeMultiple = 16
+
+abbrev pub lastFunction : ℕ
+lastFunction = 127
+
+abbrev pub mostRead : ℕ
+mostRead = 125
+
+abbrev pub mostWritten : ℕ
+mostWritten = 123
+
+-- PDU lengths: of 03, 04 and 06, and of 16 before its registers; of an exception
+abbrev pub shortPdu : ℕ
+shortPdu = 5
+
+abbrev pub multiplePdu : ℕ
+multiplePdu = 6
+
+abbrev pub exceptionPdu : ℕ
+exceptionPdu = 2
+
+-- exceptions: added to the function, the codes, the length field and the whole frame's size
+abbrev pub exceptionBit : ℕ
+exceptionBit = 128
+
+abbrev pub illegalAddress : ℕ
+illegalAddress = 2
+
+abbrev pub illegalValue : ℕ
+illegalValue = 3
+
+abbrev pub deviceFailure : ℕ
+deviceFailure = 4
+
+abbrev pub noResponse : ℕ
+noResponse = 11
+
+abbrev pub exceptionLength : ℕ
+exceptionLength = 3
+
+abbrev pub exceptionFrame : ℕ
+exceptionFrame = 9
+
+-- "BCD words": decimal digits to a register
+abbrev pub digitsPerRegister : ℕ
+digitsPerRegister = 4
+
+-- "Settings text": the version that is written, and the most bytes that a right text has
+abbrev pub newestVersion : ℕ
+newestVersion = 1
+
+abbrev pub mostText : ℕ
+mostText = 5160

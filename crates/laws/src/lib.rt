@@ -1,0 +1,87 @@
+// Facts on lists, digits, bits, bytes and searches, each said once, and every number of document 01.
+ghost use mathlib.Core.Path.{_≡_};
+ghost use Prim.Native.Nat.{_<_};
+
+// Document 01's numbers: specs/Numbers.antt has each under the same name.
+pub const CLIENTS: u32 = 32;
+
+pub const PLACES: usize = 64;
+
+pub const ROOM: usize = 8;
+
+pub const PARTY_PLACES: usize = PLACES * ROOM;
+
+pub const MOST_TAGS: usize = 256;
+
+pub const LEAST_TIMEOUT: u32 = 100;
+
+pub const MOST_TIMEOUT: u32 = 60000;
+
+pub const USUAL_TIMEOUT: u32 = 3000;
+
+pub const LATEST_TIME: u64 = 9223372036854775807;
+
+pub const LEAST_FRAME: usize = 8;
+
+pub const MOST_FRAME: usize = 260;
+
+pub const FRAME_BUFFER: usize = MOST_FRAME;
+
+pub const LIST_BUFFER: usize = 2 * ROOM;
+
+pub const LAST_ID: u16 = 65535;
+
+pub const ADDRESSES: u32 = 65536;
+
+pub const UNCOUNTED: usize = 6;
+
+pub const HEADER_SIZE: usize = 7;
+
+pub const LEAST_LENGTH: u16 = 2;
+
+pub const MOST_LENGTH: u16 = 254;
+
+pub const READ_HOLDING: u8 = 3;
+
+pub const READ_INPUT: u8 = 4;
+
+pub const WRITE_SINGLE: u8 = 6;
+
+pub const WRITE_MULTIPLE: u8 = 16;
+
+pub const LAST_FUNCTION: u8 = 127;
+
+pub const MOST_READ: u16 = 125;
+
+pub const MOST_WRITTEN: u16 = 123;
+
+pub const SHORT_PDU: usize = 5;
+
+pub const MULTIPLE_PDU: usize = 6;
+
+pub const EXCEPTION_PDU: usize = 2;
+
+pub const EXCEPTION_BIT: u8 = 128;
+
+pub const ILLEGAL_ADDRESS: u8 = 2;
+
+pub const ILLEGAL_VALUE: u8 = 3;
+
+pub const DEVICE_FAILURE: u8 = 4;
+
+pub const NO_RESPONSE: u8 = 11;
+
+pub const EXCEPTION_LENGTH: u8 = 3;
+
+pub const EXCEPTION_FRAME: usize = 9;
+
+pub const NEWEST_VERSION: u32 = 1;
+
+pub const MOST_TEXT: usize = 5160;
+
+// A byte as an index or a term of a sum: only its place is asked, and the bound comes back.
+pub fn wide(x: u8) -> usize
+    ensures { λ r. ⌜ (r ≡ x) × (r < 256) ⌝ }
+{
+    x as usize
+}
