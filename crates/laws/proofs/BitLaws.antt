@@ -3,16 +3,16 @@
 use Prim.Native.Nat.{ℕ, zero, suc, _+_, _*_, _-_, _/_, _%_, _^_, _≤_, _<_, min, max}
 use mathlib.Core.Path.{_≡_, refl, ap, sym, _∙_}
 use mathlib.Core.Logic.{⊎-elim, _⊎_, inl, inr}
-use mathlib.Core.Bool.{Bool, true, false, not, _&&_, _||_, and-false, and-comm}
-use native.Mathlib.Nat.{pow-zero, pow-succ', div-one, zero-div, div-div-eq-div-mul, one-mul, div-eq-of-lt, mod-eq-of-lt, lt-of-lt-of-le, add-comm}
+use mathlib.Core.Bool.{Bool, true, false, not, _&&_, _||_, and-false, and-comm, or-comm, or-false}
+use native.Mathlib.Nat.{pow-zero, pow-succ', div-one, zero-div, div-div-eq-div-mul, one-mul, div-eq-of-lt, mod-eq-of-lt, lt-of-lt-of-le, lt-of-le-of-lt, zero-mul, add-comm}
 use native.Mathlib.Numerals.{add-one}
 use native.Mathlib.Omega.{arith}
 use lib.Dec.{eqb, ltb, eqb·suc-suc, eqb·zero-suc, eqb·suc-zero}
 use lib.Pow.{pow-pos, pow-lt, pow-mono}
-use lib.Bits.{bitAnd, bitOr, and-step, or-step, and-shr, or-shr, and-high}
+use lib.Bits.{bitAnd, bitOr, and-step, or-step, and-shr, or-shr, and-high, and-le-l, or-lt, or-add-and}
 use borrow.Author.Tests.{eq-eqb, ne-eqb, eqb-true, eqb-false, ltb-true, ltb-false}
-use Rattle.laws.specs.Bits.{has}
-use Rattle.laws.proofs.Choice.{true-or, lt-or}
+use Rattle.laws.specs.Bits.{has, with, without}
+use Rattle.laws.proofs.Choice.{true-or, eq-or, lt-or}
 
 odd-or : (x : ℕ) → (x % 2 ≡ 0) ⊎ (x % 2 ≡ 1)
 odd-or x = ⊎-elim (λ e. inl e) (λ e. inr (omega (arith, e))) (go (eqb (x % 2) 0) refl)
@@ -119,3 +119,68 @@ has-without k s c i hs hc =
     (λ (l : i < k). rw (has-not k (2 ^ c) i (pow-lt hc) l, has-pow c i) (and-comm (has s i) (not (eqb i c))))
     (λ (l : k ≤ i). rw (has-high k s i hs l) (sym (and-false (not (eqb i c)))))
     (lt-or i k)
+
+-- numbers of k bits that have the same bits are equal
+pub bits-ext : (k a b : ℕ) → a < 2 ^ k → b < 2 ^ k → ((i : ℕ) → i < k → has a i ≡ has b i) → a ≡ b
+bits-ext zero a b ha hb h = let p = pow-zero 2 in omega arith
+bits-ext (suc k) a b ha hb h =
+    let p = pow-succ' 2 k in
+    let e : a / 2 ≡ b / 2 = bits-ext k (a / 2) (b / 2) (omega arith) (omega arith) (λ i l. sym (has-suc a i) ∙ h (suc i) (omega arith) ∙ has-suc b i) in
+    let f : eqb (a % 2) 1 ≡ eqb (b % 2) 1 = sym (has-zero a) ∙ h 0 (omega arith) ∙ has-zero b in
+    ⊎-elim
+    (λ (x : a % 2 ≡ 0). let y = eqb-false (b % 2) 1 (sym f ∙ ne-eqb (a % 2) 1 (λ z. omega arith)) in ⊎-elim (λ z. omega (arith, e)) (λ z. absurd (y z)) (odd-or b))
+    (λ (x : a % 2 ≡ 1). let y = eqb-true (b % 2) 1 (sym f ∙ eq-eqb (a % 2) 1 x) in omega (arith, e))
+    (odd-or a)
+
+-- a set with c by or, and a set without c by and, at a width of k bits
+pub or-with : (s c : ℕ) → bitOr s (2 ^ c) ≡ with s c
+unfolding with
+or-with s c =
+    let a = or-add-and s (2 ^ c) in
+    let m = mask-one s c in
+    ⊎-elim
+    (λ (t : has s c ≡ true). let n : bitAnd s (2 ^ c) ≡ 2 ^ c = m ∙ rw (eqb-true (s / 2 ^ c % 2) 1 t) (one-mul (2 ^ c)) in rw t (omega arith))
+    (λ (t : has s c ≡ false).
+    let z : s / 2 ^ c % 2 ≡ 0 = ⊎-elim (λ x. x) (λ x. absurd (eqb-false (s / 2 ^ c % 2) 1 t x)) (odd-or (s / 2 ^ c)) in
+    let n : bitAnd s (2 ^ c) ≡ 0 = m ∙ rw z (zero-mul (2 ^ c)) in
+    rw t (omega arith))
+    (true-or (has s c))
+
+with-new : (s c : ℕ) → has s c ≡ false → with s c ≡ s + 2 ^ c
+unfolding with
+with-new s c h = rw h
+
+pub and-without : (k s c : ℕ) → s < 2 ^ k → c < k → bitAnd s (2 ^ k - 1 - 2 ^ c) ≡ without s c
+unfolding without
+and-without k s c hs hc =
+    let r = bitAnd s (2 ^ k - 1 - 2 ^ c) in
+    let hr : r < 2 ^ k = lt-of-le-of-lt (and-le-l s (2 ^ k - 1 - 2 ^ c)) hs in
+    let here : has r c ≡ false = has-without k s c c hs hc ∙ rw (eq-eqb c c refl) in
+    ⊎-elim
+    (λ (t : has s c ≡ true).
+    let w : bitOr r (2 ^ c) ≡ s =
+    bits-ext k (bitOr r (2 ^ c)) s (or-lt k r (2 ^ c) hr (pow-lt hc)) hs (λ i l.
+    has-or r (2 ^ c) i ∙ rw (has-pow c i, has-without k s c i hs hc)
+    (⊎-elim (λ (q : i ≡ c). rw (eq-eqb i c q) (rw q (sym t))) (λ q. rw (ne-eqb i c q) (or-false (has s i))) (eq-or i c))) in
+    let v : with r c ≡ r + 2 ^ c = with-new r c here in
+    rw t (let e = sym (or-with r c) ∙ w in omega arith))
+    (λ (t : has s c ≡ false).
+    rw t (bits-ext k r s hr hs (λ i l.
+    has-without k s c i hs hc
+    ∙ ⊎-elim (λ (q : i ≡ c). rw (eq-eqb i c q) (rw q (sym t))) (λ q. rw (ne-eqb i c q) refl) (eq-or i c))))
+    (true-or (has s c))
+
+-- what is in them
+pub has-with : (s c i : ℕ) → has (with s c) i ≡ (eqb i c || has s i)
+has-with s c i = rw (← or-with s c) (has-or s (2 ^ c) i ∙ rw (has-pow c i) (or-comm (has s i) (eqb i c)))
+
+pub has-less : (k s c i : ℕ) → s < 2 ^ k → c < k → has (without s c) i ≡ (not (eqb i c) && has s i)
+has-less k s c i hs hc = rw (← and-without k s c hs hc) (has-without k s c i hs hc)
+
+-- and they are sets of k bits
+pub with-low : (k s c : ℕ) → s < 2 ^ k → c < k → with s c < 2 ^ k
+with-low k s c hs hc = rw (← or-with s c) (or-lt k s (2 ^ c) hs (pow-lt hc))
+
+pub without-low : (k s c : ℕ) → s < 2 ^ k → without s c < 2 ^ k
+unfolding without
+without-low k s c hs = ⊎-elim (λ t. rw t (omega arith)) (λ t. rw t hs) (true-or (has s c))

@@ -50,3 +50,12 @@ same-test false false f g = refl
 pub past : (t : Bool) (n r : ℕ) → (n ≡ 0 → ⊥) → cond t n r ≡ 0 → (t ≡ false) × (r ≡ 0)
 past true n r h e = absurd (h e)
 past false n r h e = (refl, e)
+
+-- what is not the second came from the first, and the other way round
+pub cond-first : {A : Type 0} (t : Bool) (x y z : A) → (y ≡ z → ⊥) → cond t x y ≡ z → (t ≡ true) × (x ≡ z)
+cond-first true x y z h e = (refl, e)
+cond-first false x y z h e = absurd (h e)
+
+pub cond-second : {A : Type 0} (t : Bool) (x y z : A) → (x ≡ z → ⊥) → cond t x y ≡ z → (t ≡ false) × (y ≡ z)
+cond-second true x y z h e = absurd (h e)
+cond-second false x y z h e = (refl, e)

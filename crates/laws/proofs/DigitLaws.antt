@@ -2,16 +2,17 @@
 -- Assumes nothing.
 use Prim.Native.Nat.{ℕ, zero, suc, _+_, _*_, _/_, _%_, _^_, _≤_, _<_}
 use mathlib.Core.Path.{_≡_, refl, ap, sym, _∙_}
-use mathlib.Core.Bool.{Bool, true, false, _&&_, false≢true}
+use mathlib.Core.Logic.{⊎-elim}
+use mathlib.Core.Bool.{Bool, true, false, _&&_, and-assoc, and-false, true≢false}
 use mathlib.Core.List.{List, [], _∷_, _++_}
 use native.Mathlib.Nat.{pow-zero, pow-succ', div-add-mod', div-lt-iff-lt-mul, mod-lt, mul-comm, add-comm, add-mul-div-left, add-mul-mod-self-left, mod-eq-of-lt, div-eq-of-lt, zero-add, one-mul, mul-one, mul-assoc, mul-add, add-assoc, mul-le-mul-left, one-le-pow, pow-suc, div-div-eq-div-mul, div-one}
 use native.Mathlib.Omega.{arith}
 use lib.ListN.{length}
 use lib.Dec.{ltb}
 use lib.Arith.{mod-mul, digits-div as split-div, digits-mod as split-mod}
-use borrow.Author.Tests.{lt-ltb, ltb-true}
+use borrow.Author.Tests.{lt-ltb, le-ltb, ltb-true, ltb-false}
 use Rattle.laws.specs.Digits.{digits, value, below}
-use Rattle.laws.proofs.Choice.{and-left, and-right}
+use Rattle.laws.proofs.Choice.{true-or, and-left, and-right}
 
 -- the digits of a number below b ^ k have it as their value
 pub value-digits : (b k n : ℕ) → 0 < b → n < b ^ k → value b (digits b k n) ≡ n
@@ -82,3 +83,37 @@ digits-mod b (suc k) n h =
 -- a number of k digits at a base has its digits at any larger base too, and they are as many
 pub digits-back : (b b′ k n : ℕ) → 0 < b → b ≤ b′ → digits b′ k (value b′ (digits b k n)) ≡ digits b k n
 digits-back b b′ k n h l = rw (length-digits b k n) at (digits-value b′ (digits b k n) (digits-below b b′ k n h l))
+
+-- two groups of digits are below b if each is
+pub below-split : (b : ℕ) (ds es : List ℕ) → below b (ds ++ es) ≡ (below b ds && below b es)
+unfolding below
+below-split b [] es = refl
+below-split b (d ∷ ds) es = rw (below-split b ds es) (sym (and-assoc (ltb d b) (below b ds) (below b es)))
+
+-- digits taken at one base and read at another, in two groups
+pub value-digits-split : (b b′ j k n : ℕ) → value b′ (digits b (j + k) n) ≡ value b′ (digits b j n) + b′ ^ j * value b′ (digits b k (n / b ^ j))
+value-digits-split b b′ j k n = rw (digits-split b j k n, value-split b′ (digits b j n) (digits b k (n / b ^ j)), length-digits b j n)
+
+-- the digit number i + 1 is the digit number i of the quotient
+pub digit-suc : (b n i : ℕ) → n / b ^ suc i % b ≡ n / b / b ^ i % b
+digit-suc b n i = rw (pow-succ' b i, ← div-div-eq-div-mul n b (b ^ i))
+
+-- where not all digits at base b are below b′, some digit is not
+pub above-some : (b b′ k n : ℕ) → below b′ (digits b k n) ≡ false → (i : ℕ) × (i < k) × (b′ ≤ n / b ^ i % b)
+unfolding digits below
+above-some b b′ zero n e = absurd (true≢false e)
+above-some b b′ (suc k) n e =
+    ⊎-elim
+    (λ (t : ltb (n % b) b′ ≡ true).
+    let s = above-some b b′ k (n / b) (rw t at e) in
+    (suc (s .0), omega (arith, s .1), rw (digit-suc b n (s .0)) (s .2)))
+    (λ (t : ltb (n % b) b′ ≡ false). (0, omega arith, rw (pow-zero b, div-one n) (ltb-false (n % b) b′ t)))
+    (true-or (ltb (n % b) b′))
+
+-- and the other way round
+pub some-above : (b b′ k n i : ℕ) → i < k → b′ ≤ n / b ^ i % b → below b′ (digits b k n) ≡ false
+unfolding digits below
+some-above b b′ zero n i l h = absurd (omega arith)
+some-above b b′ (suc k) n zero l h = rw (le-ltb (n % b) b′ (rw (pow-zero b, div-one n) at h))
+some-above b b′ (suc k) n (suc i) l h =
+    rw (some-above b b′ k (n / b) i (omega arith) (rw (digit-suc b n i) at h)) (and-false (ltb (n % b) b′))

@@ -1,0 +1,6 @@
+pub mod PackedLaws
+pub mod OutcomeLaws
+pub mod RegisterLaws
+pub mod RoundTrip
+pub mod Words
+pub mod Examples

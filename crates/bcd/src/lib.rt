@@ -1,0 +1,140 @@
+// One tag's registers between binary and binary coded decimal, by the tag's kind.
+ghost use mathlib.Core.Path.{_≡_};
+ghost use Prim.Native.Nat.{_*_, _<_};
+ghost use Rattle.laws.specs.Numbers.{digitsPerRegister};
+ghost use Rattle.bcd.specs.Bcd.{packed, unpacked, decimal, encodedDigits, decodedDigits, registers, encoded, decoded};
+
+// How many values four digits have, how many eight, and how many words there are.
+const FOUR_DIGITS: u32 = 10000;
+
+const EIGHT_DIGITS: u32 = FOUR_DIGITS * FOUR_DIGITS;
+
+const WORDS: u32 = 65536;
+
+// What a tag holds: four digits in one register, or eight in two.
+pub enum Kind {
+    Width16,
+    Width32,
+}
+
+// A value as BCD, or the notice that the value is outside the range of the kind.
+pub enum Encoded {
+    Bcd(u32),
+    OutOfRange,
+}
+
+// The value of a BCD number, or the notice that it is no number of the kind: a nibble is above 9.
+pub enum Decoded {
+    Binary(u32),
+    NoNumber,
+}
+
+// How many registers a tag of this kind has.
+pub fn registers_of(kind: Kind) -> usize
+    ensures { λ r. ⌜ r ≡ registers kind ⌝ }
+{
+    match kind {
+        Kind::Width16 => 1,
+        Kind::Width32 => 2,
+    }
+}
+
+// Four decimal digits as nibbles.
+fn pack(n: u16) -> u16
+    requires { ⌜ n < 10000 ⌝ }
+    ensures { λ r. ⌜ r ≡ packed 4 n ⌝ }
+{
+    let a = n / 10;
+    let b = a / 10;
+    let c = b / 10;
+    n % 10 + 16 * (a % 10 + 16 * (b % 10 + 16 * (c % 10)))
+}
+
+// Four nibbles as decimal digits.
+fn unpack(w: u16) -> u16
+    ensures { λ r. ⌜ r ≡ unpacked 4 w ⌝ }
+{
+    let a = w / 16;
+    let b = a / 16;
+    let c = b / 16;
+    w % 16 + 10 * (a % 16 + 10 * (b % 16 + 10 * (c % 16)))
+}
+
+// No nibble of the word is above 9.
+fn is_decimal(w: u16) -> bool
+    ensures { λ r. ⌜ r ≡ decimal 4 w ⌝ }
+{
+    let a = w / 16;
+    let b = a / 16;
+    let c = b / 16;
+    (w % 16 < 10) & ((a % 16 < 10) & ((b % 16 < 10) & (c % 16 < 10)))
+}
+
+// The digits of one register.
+fn encode_word(v: u32) -> Encoded
+    ensures { λ r. ⌜ r ≡ encodedDigits digitsPerRegister v ⌝ }
+{
+    if v < FOUR_DIGITS {
+        Encoded::Bcd(pack(v as u16) as u32)
+    } else {
+        Encoded::OutOfRange
+    }
+}
+
+// The digits of two registers: the low four in the low word.
+fn encode_pair(v: u32) -> Encoded
+    ensures { λ r. ⌜ r ≡ encodedDigits (2 * digitsPerRegister) v ⌝ }
+{
+    if v < EIGHT_DIGITS {
+        let low = pack((v % FOUR_DIGITS) as u16);
+        let high = pack((v / FOUR_DIGITS) as u16);
+        Encoded::Bcd(low as u32 + WORDS * (high as u32))
+    } else {
+        Encoded::OutOfRange
+    }
+}
+
+// The value of one register's digits; what lies above the word is not looked at.
+fn decode_word(w: u32) -> Decoded
+    ensures { λ r. ⌜ r ≡ decodedDigits digitsPerRegister w ⌝ }
+{
+    let word = (w % WORDS) as u16;
+    if is_decimal(word) {
+        Decoded::Binary(unpack(word) as u32)
+    } else {
+        Decoded::NoNumber
+    }
+}
+
+// The value of two registers' digits: the low four in the low word.
+fn decode_pair(w: u32) -> Decoded
+    ensures { λ r. ⌜ r ≡ decodedDigits (2 * digitsPerRegister) w ⌝ }
+{
+    let low = (w % WORDS) as u16;
+    let high = (w / WORDS) as u16;
+    if is_decimal(low) & is_decimal(high) {
+        Decoded::Binary(unpack(low) as u32 + FOUR_DIGITS * (unpack(high) as u32))
+    } else {
+        Decoded::NoNumber
+    }
+}
+
+// A value as BCD, by the kind.
+pub fn encode(kind: Kind, v: u32) -> Encoded
+    ensures { λ r. ⌜ r ≡ encoded kind v ⌝ }
+{
+    match kind {
+        Kind::Width16 => encode_word(v),
+        Kind::Width32 => encode_pair(v),
+    }
+}
+
+// The value of a BCD number, by the kind.
+pub fn decode(kind: Kind, w: u32) -> Decoded
+    ensures { λ r. ⌜ r ≡ decoded kind w ⌝ }
+{
+    match kind {
+        Kind::Width16 => decode_word(w),
+        Kind::Width32 => decode_pair(w),
+    }
+}
