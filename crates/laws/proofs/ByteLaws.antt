@@ -6,7 +6,7 @@ use mathlib.Core.List.{List, [], _∷_, _++_}
 use native.Mathlib.Nat.{zero-add}
 use native.Mathlib.Numerals.{add-one}
 use native.Mathlib.Omega.{arith}
-use lib.ListN.{length, getD, set, take, drop, length-set, length-append, length-drop}
+use lib.ListN.{length, getD, set, take, drop, length-set, length-append, length-drop, List·getD-append, List·getD-eq-default}
 use lib.Seq.{paste, paste-zero, paste-suc, take-length, sets, sets-eq, getD-set-same, getD-set-other, set-set, set-comm, set-getD}
 use Rattle.laws.specs.Bytes.{over, pairAt, putAt}
 
@@ -68,3 +68,11 @@ put-same d k b =
     let e : (getD d k 0 * 256 + getD d (k + 1) 0) / 256 ≡ getD d k 0 = omega arith in
     let f : (getD d k 0 * 256 + getD d (k + 1) 0) % 256 ≡ getD d (k + 1) 0 = omega arith in
     rw (e, f, set-getD d k 0, set-getD d (k + 1) 0)
+
+-- a number in a list is still there when more bytes come
+pub pair-append : (s t : List ℕ) (k : ℕ) → k + 1 < length s → pairAt (s ++ t) k ≡ pairAt s k
+pair-append s t k h = rw (List·getD-append s t 0 k (omega arith), List·getD-append s t 0 (k + 1) h)
+
+-- past the end of a list the number is 0
+pub pair-past : (s : List ℕ) (k : ℕ) → length s ≤ k → pairAt s k ≡ 0
+pair-past s k h = rw (List·getD-eq-default s 0 h, List·getD-eq-default s 0 {n = k + 1} (omega arith))

@@ -1,4 +1,4 @@
--- Lists made by a rule.
+-- Lists made by a rule, and the fronts of lists.
 -- Assumes nothing.
 use Prim.Native.Nat.{ℕ, zero, suc, _+_, _≤_, _<_}
 use mathlib.Core.Path.{_≡_, refl, ap, sym, _∙_}
@@ -6,8 +6,8 @@ use mathlib.Core.Logic.{⊎-elim}
 use mathlib.Core.List.{List, [], _∷_, _++_, map, map-append}
 use native.Mathlib.Numerals.{add-one}
 use native.Mathlib.Omega.{arith}
-use lib.ListN.{length, getD, set, length-append, List·getD-append}
-use lib.Seq.{set-at, set-append-left, getD-at}
+use lib.ListN.{length, getD, set, take, drop, length-append, List·getD-append}
+use lib.Seq.{set-at, set-append-left, getD-at, take-append-seam, drop-append-seam}
 use Rattle.laws.specs.Lists.{tab}
 use Rattle.laws.proofs.Choice.{eq-or}
 
@@ -55,3 +55,22 @@ pub map-tab : {A B : Type 0} (h : A → B) (n : ℕ) (f : ℕ → A) → map h (
 unfolding tab
 map-tab h zero f = refl
 map-tab h (suc n) f = map-append h (tab n f) (f n ∷ []) ∙ rw (map-tab h n f)
+
+-- parts of lists
+
+module _ {A : Type 0} where
+  -- the front of a list and what is behind it
+  pub take-part : (n : ℕ) (l : List A) → take n l ++ drop (length (take n l)) l ≡ l
+  take-part zero l = refl
+  take-part (suc n) [] = refl
+  take-part (suc n) (x ∷ xs) = ap (x ∷_) (take-part n xs)
+
+  -- a list that goes on to another is its front, and not longer
+  pub front : (p q l : List A) → p ++ q ≡ l → take (length p) l ≡ p
+  front p q l e = rw e at (take-append-seam p q)
+
+  pub front-rest : (p q l : List A) → p ++ q ≡ l → p ++ drop (length p) l ≡ l
+  front-rest p q l e = ap (p ++_) (rw e at (drop-append-seam p q)) ∙ e
+
+  pub front-length : (p q l : List A) → p ++ q ≡ l → length p ≤ length l
+  front-length p q l e = omega (arith, length-append p q, ap length e)
