@@ -7,6 +7,7 @@ use native.Mathlib.Omega.{arith}
 use borrow.Author.Tests.{lt-ltb, le-ltb, le-leb, lt-leb}
 use Rattle.laws.specs.Circle.{turn, gap}
 use Rattle.laws.proofs.Choice.{lt-or}
+use mathlib.Core.Bool.{not}
 
 pub turn-or : (m k : ℕ) → ((k < m) × (turn m k ≡ k)) ⊎ ((m ≤ k) × (turn m k + m ≡ k))
 turn-or m k = ⊎-elim (λ z. inl (z, rw (lt-ltb k m z))) (λ z. inr (z, rw (le-ltb k m z) (omega arith))) (lt-or k m)
@@ -76,3 +77,6 @@ turn-gap m c x h k =
     (λ t. ⊎-elim (λ a. omega (arith, a, t)) (λ a. omega (arith, a, t)) (gap-or m c x h))
     (λ t. ⊎-elim (λ a. omega (arith, a, t)) (λ a. omega (arith, a, t)) (gap-or m c x h))
     (turn-or m (c + gap m c x))
+
+pub turn-low : (m k : ℕ) → k < m + m → turn m k < m
+turn-low m k h = ⊎-elim (λ z. rw (lt-ltb k m z) z) (λ z. rw (le-ltb k m z) (omega arith)) (lt-or k m)

@@ -2,7 +2,7 @@
 -- Assumes nothing.
 use Prim.Native.Nat.{ℕ, zero, suc, _+_, _≤_, _<_}
 use mathlib.Core.Path.{_≡_, refl, ap, sym, _∙_}
-use mathlib.Core.Logic.{⊎-elim}
+use mathlib.Core.Logic.{⊎-elim, _⊎_}
 use mathlib.Core.Bool.{Bool, true, false, cond, not, _||_}
 use native.Mathlib.Numerals.{add-one}
 use native.Mathlib.Omega.{arith}
@@ -107,3 +107,20 @@ count-some test (suc n) k h t =
     (λ (z : k ≡ n). let e : test n ≡ true = rw z at t in rw e (omega arith))
     (λ (z : k ≡ n → ⊥). let i = count-some test n k (omega (arith, z)) t in omega arith)
     (eq-or k n)
+
+pub at-most-one : (t : Bool) → cond t 1 0 ≤ 1
+at-most-one true = omega arith
+at-most-one false = omega arith
+
+-- no place passes where none is counted
+pub count-zero : (test : ℕ → Bool) (n k : ℕ) → count test n ≡ 0 → k < n → test k ≡ false
+unfolding count
+count-zero test zero k h l = absurd (omega arith)
+count-zero test (suc n) k h l =
+    ⊎-elim
+    (λ (t : test n ≡ true). absurd (let z : count test (suc n) ≡ 1 + count test n = rw t in omega arith))
+    (λ (t : test n ≡ false). ⊎-elim
+    (λ (q : k ≡ n). ap test q ∙ t)
+    (λ (q : k ≡ n → ⊥). count-zero test n k (let z : count test (suc n) ≡ 0 + count test n = rw t in omega arith) (omega (arith, q)))
+    (eq-or k n))
+    (true-or (test n))

@@ -1,14 +1,16 @@
 -- Lists filtered by a test.
 -- Assumes nothing.
-use Prim.Native.Nat.{ℕ, _+_}
+use Prim.Native.Nat.{ℕ, _+_, zero, _≤_}
 use mathlib.Core.Path.{_≡_, refl, ap, sym, _∙_}
-use mathlib.Core.Logic.{⊎-elim}
+use mathlib.Core.Logic.{⊎-elim, _⊎_}
 use mathlib.Core.Bool.{Bool, true, false, cond, not}
-use mathlib.Core.List.{List, [], _∷_, _++_, map, List·Memᴰ, List·Memᴰ·cases-cons, List·Memᴰ·not-nil, List·Memᴰ·head, List·Memᴰ·tail}
+use mathlib.Core.List.{List, [], _∷_, _++_, map, List·Memᴰ, List·Memᴰ·cases-cons, List·Memᴰ·not-nil, List·Memᴰ·head, List·Memᴰ·tail, append-nil}
 use native.Mathlib.Omega.{arith}
-use lib.ListN.{length}
+use lib.ListN.{length, length-append}
 use Rattle.laws.specs.Lists.{filter}
 use Rattle.laws.proofs.Choice.{true-or}
+use Rattle.laws.specs.Search.{count, total}
+use Rattle.laws.proofs.CountLaws.{total-ext, total-zero, total-count}
 
 module _ {A : Type 0} where
   pub filter-yes : (p : A → Bool) (x : A) (xs : List A) → p x ≡ true → filter p (x ∷ xs) ≡ x ∷ filter p xs
@@ -108,3 +110,51 @@ pub filter-all : {A : Type 0} (xs : List A) → filter (λ x. true) xs ≡ xs
 unfolding filter
 filter-all [] = refl
 filter-all (x ∷ xs) = ap (x ∷_) (filter-all xs)
+
+module _ {A : Type 0} where
+  pub member-length : (x : A) (xs : List A) → List·Memᴰ x xs → 1 ≤ length xs
+  member-length x [] m = absurd (List·Memᴰ·not-nil m)
+  member-length x (y ∷ ys) m = omega arith
+
+  pub filter-le : (p : A → Bool) (xs : List A) → length (filter p xs) ≤ length xs
+  filter-le p xs = omega (arith, rw (filter-all (filter p xs), filter-all (filter (λ x. not (p x)) xs), filter-all xs) at (share (λ x. true) p xs))
+
+  pub filter-snoc : (p : A → Bool) (xs : List A) (x : A) → p x ≡ true → filter p (xs ++ (x ∷ [])) ≡ filter p xs ++ (x ∷ [])
+  unfolding filter
+  filter-snoc p xs x t = filter-append p xs (x ∷ []) ∙ ap (filter p xs ++_) (filter-yes p x [] t)
+
+  pub filter-snoc-no : (p : A → Bool) (xs : List A) (x : A) → p x ≡ false → filter p (xs ++ (x ∷ [])) ≡ filter p xs
+  unfolding filter
+  filter-snoc-no p xs x t = filter-append p xs (x ∷ []) ∙ ap (filter p xs ++_) (filter-no p x [] t) ∙ append-nil (filter p xs)
+
+  pub filter-count : (p : A → Bool) (xs ys : List A) → length (filter p (xs ++ ys)) ≡ length (filter p xs) + length (filter p ys)
+  filter-count p xs ys = ap length (filter-append p xs ys) ∙ length-append (filter p xs) (filter p ys)
+
+  pub filter-cons : (p : A → Bool) (x : A) (xs : List A) → length (filter p (x ∷ xs)) ≡ cond (p x) 1 0 + length (filter p xs)
+  filter-cons p x xs = ⊎-elim (λ t. rw (filter-yes p x xs t, t) (omega arith)) (λ t. rw (filter-no p x xs t, t) (omega arith)) (true-or (p x))
+
+  pub filter-ext : (p q : A → Bool) (xs : List A) → ((x : A) → List·Memᴰ x xs → p x ≡ q x) → filter p xs ≡ filter q xs
+  unfolding filter
+  filter-ext p q [] h = refl
+  filter-ext p q (x ∷ xs) h = rw (h x (List·Memᴰ·head refl), filter-ext p q xs (λ y m. h y (List·Memᴰ·tail m)))
+
+  -- what passes is kept
+  pub filter-keep : (p : A → Bool) (x : A) (xs : List A) → List·Memᴰ x xs → p x ≡ true → List·Memᴰ x (filter p xs)
+  filter-keep p x [] m t = absurd (List·Memᴰ·not-nil m)
+  filter-keep p x (y ∷ ys) m t =
+      ⊎-elim
+      (λ (e : x ≡ y). rw (filter-yes p y ys (sym (ap p e) ∙ t)) (List·Memᴰ·head e))
+      (λ (n : List·Memᴰ x ys). ⊎-elim
+      (λ (u : p y ≡ true). rw (filter-yes p y ys u) (List·Memᴰ·tail (filter-keep p x ys n t)))
+      (λ (u : p y ≡ false). rw (filter-no p y ys u) (filter-keep p x ys n t))
+      (true-or (p y)))
+      (List·Memᴰ·cases-cons m)
+
+  -- things, each of which passes the tests of exactly one of n places, share themselves out among the places
+  pub share-out : (test : ℕ → A → Bool) (n : ℕ) (xs : List A) → ((x : A) → List·Memᴰ x xs → count (λ k. test k x) n ≡ 1) → total (λ k. length (filter (test k) xs)) n ≡ length xs
+  unfolding filter
+  share-out test n [] h = total-zero n
+  share-out test n (x ∷ xs) h =
+      total-ext _ _ n (λ k l. filter-cons (test k) x xs)
+      ∙ total-count (λ k. test k x) (λ k. length (filter (test k) xs)) n
+      ∙ (let i = share-out test n xs (λ y m. h y (List·Memᴰ·tail m)) in let o = h x (List·Memᴰ·head refl) in omega arith)

@@ -3,13 +3,13 @@
 use Prim.Native.Nat.{ℕ, zero, suc, _+_, _≤_, _<_}
 use mathlib.Core.Path.{_≡_, refl, ap, sym, _∙_}
 use mathlib.Core.Logic.{⊎-elim, _⊎_, inl, inr}
-use mathlib.Core.Bool.{Bool, true, false, cond, _&&_, _||_, false≢true, true≢false, or-false}
+use mathlib.Core.Bool.{Bool, true, false, cond, _&&_, _||_, false≢true, true≢false, or-false, not}
 use native.Mathlib.Numerals.{add-one}
 use native.Mathlib.Omega.{arith}
 use lib.Dec.{eqb}
-use borrow.Author.Tests.{eq-eqb, ne-eqb, eqb-false}
+use borrow.Author.Tests.{eq-eqb, ne-eqb, eqb-false, eqb-true}
 use Rattle.laws.specs.Search.{best, first}
-use Rattle.laws.proofs.Choice.{true-or, eq-or, and-left, and-right, or-second}
+use Rattle.laws.proofs.Choice.{true-or, eq-or, and-left, and-right, or-second, lt-or, or-either}
 
 module _ (test : ℕ → Bool) (beats : ℕ → ℕ → Bool) (none : ℕ) where
   pub best-wins : (k b : ℕ) → b ≡ best test beats none k → (test k && (eqb b none || beats k b)) ≡ true → k ≡ best test beats none (k + 1)
@@ -153,3 +153,24 @@ first-here test (suc n) h =
     (λ (t : test 0 ≡ true). rw t t)
     (λ (t : test 0 ≡ false). rw t (first-here (λ j. test (suc j)) n (let z : first test (suc n) ≡ suc (first (λ j. test (suc j)) n) = rw t in omega arith)))
     (true-or (test 0))
+
+-- where no place beats another, the first that passes is found
+pub best-first : (test : ℕ → Bool) (none n : ℕ) → n ≤ none → (k : ℕ) → k < n → k < best test (λ i j. false) none n → test k ≡ false
+unfolding best
+best-first test none zero l k h m = absurd (omega arith)
+best-first test none (suc n) l k h m =
+    let b = best test (λ i j. false) none n in
+    ⊎-elim
+    (λ (w : (test n && (eqb b none || false)) ≡ true).
+    let z : b ≡ none = ⊎-elim (λ t. eqb-true b none t) (λ t. absurd (true≢false (sym t))) (or-either (eqb b none) false (and-right (test n) _ w)) in
+    best-empty test (λ i j. false) none n (omega arith) z k (let y : best test (λ i j. false) none (suc n) ≡ n = rw w in omega arith))
+    (λ (w : (test n && (eqb b none || false)) ≡ false).
+    let y : best test (λ i j. false) none (suc n) ≡ b = rw w in
+    ⊎-elim
+    (λ (q : k < n). best-first test none n (omega arith) k q (omega arith))
+    (λ (q : n ≤ k). ⊎-elim
+    (λ (e : b ≡ none). let kn : k ≡ n = omega arith in rw kn (best-empty test (λ i j. false) none (suc n) l (y ∙ e) n (omega arith)))
+    (λ e. absurd (omega (arith, e .0)))
+    (best-in test (λ i j. false) none n))
+    (lt-or k n))
+    (true-or (test n && (eqb b none || false)))

@@ -1,0 +1,10 @@
+pub mod PlaceLaws
+pub mod GoodLaws
+pub mod KeptLaws
+pub mod LedgerLaws
+pub mod SpacedLaws
+pub mod HeldLaws
+pub mod DeskLaws
+pub mod ChooseLaws
+pub mod TickLaws
+pub mod History

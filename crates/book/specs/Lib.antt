@@ -1,0 +1,5 @@
+pub mod Book
+pub mod Ledger
+pub mod Kept
+pub mod Machine
+pub mod Desk
