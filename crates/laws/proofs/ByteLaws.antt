@@ -2,13 +2,13 @@
 -- Assumes nothing.
 use Prim.Native.Nat.{ℕ, zero, suc, _+_, _*_, _/_, _%_, _≤_, _<_}
 use mathlib.Core.Path.{_≡_, refl, ap, sym, _∙_}
-use mathlib.Core.List.{List, [], _∷_, _++_}
-use native.Mathlib.Nat.{zero-add}
+use mathlib.Core.List.{List, [], _∷_, _++_, append-assoc, append-nil}
+use native.Mathlib.Nat.{add-zero, zero-add, add-assoc}
 use native.Mathlib.Numerals.{add-one}
 use native.Mathlib.Omega.{arith}
-use lib.ListN.{length, getD, set, take, drop, length-set, length-append, length-drop, List·getD-append, List·getD-eq-default}
-use lib.Seq.{paste, paste-zero, paste-suc, take-length, sets, sets-eq, getD-set-same, getD-set-other, set-set, set-comm, set-getD}
-use Rattle.laws.specs.Bytes.{over, pairAt, putAt}
+use lib.ListN.{length, getD, set, take, drop, take-append-drop, length-set, length-append, length-drop, List·getD-append, List·getD-eq-default}
+use lib.Seq.{paste, paste-zero, paste-suc, length-paste, take-length, take-suc, take-at, set-at, append-snoc, drop-append-add, drop-drop, length-take-le, sets, sets-eq, getD-set-same, getD-set-other, set-set, set-comm, set-getD}
+use Rattle.laws.specs.Bytes.{over, overAt, pairAt, putAt}
 
 -- a copy from the front: nothing yet, one byte more, all
 pub copied-none : (d s : List ℕ) → d ≡ paste d 0 s 0
@@ -76,3 +76,34 @@ pair-append s t k h = rw (List·getD-append s t 0 k (omega arith), List·getD-ap
 -- past the end of a list the number is 0
 pub pair-past : (s : List ℕ) (k : ℕ) → length s ≤ k → pairAt s k ≡ 0
 pair-past s k h = rw (List·getD-eq-default s 0 h, List·getD-eq-default s 0 {n = k + 1} (omega arith))
+
+-- parts laid over a buffer: nothing, a whole copy, one byte in front, one part behind another, from the front
+pub overAt-none : (at : ℕ) (b : List ℕ) → overAt [] at b ≡ b
+overAt-none at b = rw (add-zero at, append-nil (take at b)) (take-append-drop at b)
+
+pub overAt-paste : (w : List ℕ) (at : ℕ) (b : List ℕ) → paste b at w (length w) ≡ overAt w at b
+overAt-paste w at b = rw (take-length w)
+
+pub length-overAt : (w : List ℕ) (at : ℕ) (b : List ℕ) → at + length w ≤ length b → length (overAt w at b) ≡ length b
+length-overAt w at b h = rw (← overAt-paste w at b) (length-paste b at w (length w) h (omega arith))
+
+pub overAt-front : (w : List ℕ) (at : ℕ) (b : List ℕ) (x : ℕ) → at < length b → set (overAt w (at + 1) b) at x ≡ overAt (x ∷ w) at b
+overAt-front w at b x h =
+    let e : at + 1 + length w ≡ at + suc (length w) = omega arith in
+    rw (e, add-one at, take-suc b at 0 h, append-snoc (take at b) (getD b at 0) w, append-assoc (take at b) (getD b at 0 ∷ w) rest)
+    (set-at (take at b) (getD b at 0) (w ++ rest) x at (length-take-le at b (omega arith)) ∙ sym (append-assoc (take at b) (x ∷ w) rest))
+  where
+    rest : List ℕ
+    rest = drop (at + suc (length w)) b
+
+pub overAt-behind : (w v : List ℕ) (at : ℕ) (b : List ℕ) → at ≤ length b → overAt v (at + length w) (overAt w at b) ≡ overAt (w ++ v) at b
+overAt-behind w v at b h =
+    let l : length (take at b ++ w) ≡ at + length w = omega (arith, length-append (take at b) w, length-take-le at b h) in
+    let t : take (at + length w) (overAt w at b) ≡ take at b ++ w = take-at (take at b ++ w) (drop (at + length w) b) (at + length w) l in
+    let d : drop (at + length w + length v) (overAt w at b) ≡ drop (at + length w + length v) b =
+    rw l at (drop-append-add (take at b ++ w) (drop (at + length w) b) (length v)) ∙ drop-drop (length v) (at + length w) b
+    in
+    rw (t, d, length-append w v, ← add-assoc at (length w) (length v), append-assoc (take at b) w v)
+
+pub overAt-over : (w b : List ℕ) → overAt w 0 b ≡ over w b
+overAt-over w b = rw (zero-add (length w))

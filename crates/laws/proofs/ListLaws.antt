@@ -1,13 +1,13 @@
 -- Lists made by a rule, and the fronts of lists.
 -- Assumes nothing.
-use Prim.Native.Nat.{ℕ, zero, suc, _+_, _≤_, _<_}
+use Prim.Native.Nat.{ℕ, zero, suc, _+_, _-_, _≤_, _<_}
 use mathlib.Core.Path.{_≡_, refl, ap, sym, _∙_}
 use mathlib.Core.Logic.{⊎-elim}
-use mathlib.Core.List.{List, [], _∷_, _++_, map, map-append}
+use mathlib.Core.List.{List, [], _∷_, _++_, map, map-append, flatMap, append-assoc, append-nil}
 use native.Mathlib.Numerals.{add-one}
 use native.Mathlib.Omega.{arith}
-use lib.ListN.{length, getD, set, take, drop, length-append, List·getD-append}
-use lib.Seq.{set-at, set-append-left, getD-at, take-append-seam, drop-append-seam}
+use lib.ListN.{length, getD, set, take, drop, replicate, length-append, List·getD-append}
+use lib.Seq.{set-at, set-append-left, getD-at, take-append-seam, drop-append-seam, set-append-seam, ext-getD}
 use Rattle.laws.specs.Lists.{tab}
 use Rattle.laws.proofs.Choice.{eq-or}
 
@@ -74,3 +74,43 @@ module _ {A : Type 0} where
 
   pub front-length : (p q l : List A) → p ++ q ≡ l → length p ≤ length l
   front-length p q l e = omega (arith, length-append p q, ap length e)
+
+-- a list is made of its elements
+pub tab-getD : {A : Type 0} (d : A) (l : List A) (n : ℕ) → length l ≡ n → tab n (λ k. getD l k d) ≡ l
+tab-getD d l n e = ext-getD d (tab n (λ k. getD l k d)) l (length-tab n _ ∙ sym e) (λ i h. getD-tab n _ i d (rw length-tab at h))
+
+-- a list padded to n elements: the first of the padding is stored over
+pub set-padded : {A : Type 0} (z v : A) (l : List A) (n : ℕ) → length l < n → set (l ++ replicate (n - length l) z) (length l) v ≡ (l ++ (v ∷ [])) ++ replicate (n - length (l ++ (v ∷ []))) z
+set-padded z v l n h =
+    let more : n - length l ≡ suc (n - suc (length l)) = omega arith in
+    let size : length (l ++ (v ∷ [])) ≡ suc (length l) = omega (arith, length-append l (v ∷ [])) in
+    rw (more, size, set-append-seam l z (replicate (n - suc (length l)) z) v, append-assoc l (v ∷ []) (replicate (n - suc (length l)) z))
+
+-- the element of a mapped list
+pub getD-map : {A B : Type 0} (f : A → B) (l : List A) (k : ℕ) (d : A) (e : B) → k < length l → getD (map f l) k e ≡ f (getD l k d)
+getD-map f [] k d e h = absurd (omega arith)
+getD-map f (x ∷ l) zero d e h = refl
+getD-map f (x ∷ l) (suc k) d e h = getD-map f l k d e (omega arith)
+
+-- zeros behind a list change no element
+pub getD-zeros : (m : ℕ) (l : List ℕ) (k : ℕ) → getD (l ++ replicate m 0) k 0 ≡ getD l k 0
+getD-zeros zero [] k = refl
+getD-zeros (suc m) [] zero = refl
+getD-zeros (suc m) [] (suc k) = getD-zeros m [] k
+getD-zeros m (x ∷ l) zero = refl
+getD-zeros m (x ∷ l) (suc k) = getD-zeros m l k
+
+flatMap-append : {A B : Type 0} (f : A → List B) (xs ys : List A) → flatMap f (xs ++ ys) ≡ flatMap f xs ++ flatMap f ys
+unfolding flatMap
+flatMap-append f [] ys = refl
+flatMap-append f (x ∷ xs) ys = rw (flatMap-append f xs ys) (sym (append-assoc (f x) (flatMap f xs) (flatMap f ys)))
+
+-- one element more of a list made by a rule
+pub flatMap-more : {A B : Type 0} (f : A → List B) (n : ℕ) (g : ℕ → A) → flatMap f (tab (n + 1) g) ≡ flatMap f (tab n g) ++ f (g n)
+unfolding flatMap
+flatMap-more f n g = rw (tab-more n g, flatMap-append f (tab n g) (g n ∷ []), append-nil (f (g n)))
+
+-- a list of no elements
+pub nothing : {A : Type 0} (l : List A) → length l ≡ 0 → l ≡ []
+nothing [] e = refl
+nothing (x ∷ l) e = absurd (omega arith)

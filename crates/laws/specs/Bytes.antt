@@ -2,11 +2,15 @@
 -- Assumes nothing.
 use Prim.Native.Nat.{ℕ, _+_, _*_, _/_, _%_}
 use mathlib.Core.List.{List, [], _∷_, _++_}
-use lib.ListN.{length, getD, set, drop}
+use lib.ListN.{length, getD, set, take, drop}
 
 -- w written over the start of what was there
 abbrev pub over : List ℕ → List ℕ → List ℕ
 over w b = w ++ drop (length w) b
+
+-- w written over what was there from byte `at` on
+abbrev pub overAt : List ℕ → ℕ → List ℕ → List ℕ
+overAt w at b = take at b ++ w ++ drop (at + length w) b
 
 -- the number that stands at byte k; and n put there
 abbrev pub pairAt : List ℕ → ℕ → ℕ

@@ -1,0 +1,7 @@
+pub mod Examples
+pub mod LineLaws
+pub mod RowLaws
+pub mod VersionLaws
+pub mod GrammarLaws
+pub mod ValueLaws
+pub mod TagLaws

@@ -1,0 +1,286 @@
+-- Tag words: a word gives its tag back, the tags of a valid value ascend, and what a valid value's numbers are bounded by.
+-- Assumes nothing.
+use Prim.Native.Nat.{ℕ, zero, suc, _+_, _*_, _/_, _%_, _^_, _≤_, _<_}
+use mathlib.Core.Path.{_≡_, refl, ap, sym, _∙_}
+use mathlib.Core.Logic.{⊎-elim, _⊎_, inl, inr}
+use mathlib.Core.Bool.{true, false, _&&_}
+use mathlib.Core.List.{List, [], _∷_, _++_, map, map-append}
+use native.Mathlib.Nat.{mod-eq-of-lt}
+use native.Mathlib.Omega.{arith}
+use lib.ListN.{length, getD, set, take, replicate, length-map}
+use lib.Seq.{take-at, take-suc, length-take-le}
+use lib.Dec.{eqb, ltb, leb}
+use native.Mathlib.Numerals.{add-one}
+use borrow.Author.Tests.{eqb-true, ltb-true, leb-true}
+use Rattle.laws.specs.Numbers.{mostTags, addresses, leastTimeout, mostTimeout}
+use Rattle.laws.specs.Lists.{tab}
+use Rattle.laws.proofs.Choice.{true-or, and-left, and-right, or-second}
+use Rattle.laws.proofs.ListLaws.{tab-more, length-tab, set-padded}
+use Rattle.bcd.specs.declared.Kind.{Kind}
+use Rattle.bcd.specs.declared.Kind.the-variants.{Width16, Width32}
+use Rattle.bcd.specs.Bcd.{registers}
+use Rattle.settings.specs.declared.Settings.{Settings}
+use Rattle.settings.specs.Grammar.{Tag, Value, newest, tagNumbers, lastRegister, ascends, rightTimeout, rightJoin, rightTags, rightWidth, allRight, tagsRight, valid}
+use Rattle.settings.specs.Values.{valueOf, padded, settingsOf}
+use Rattle.settings.specs.TagWords.{kindOf, widthOf, kindNumber, kindFrom, wordOf, tagOf, lastOf, Ascending}
+use Rattle.settings.proofs.ValueLaws.{tagAt, tag-ext, fromOf, tag-right, valid-parts, valid-few}
+
+-- a tag has one of the two widths
+abbrev pub Wide : Tag → Type 0
+Wide t = (t .width ≡ 16) ⊎ (t .width ≡ 32)
+
+-- a kind's number gives the kind back, and a width its own
+kind-back : (kind : Kind) → kindFrom (kindNumber kind) ≡ kind
+unfolding kindFrom kindNumber
+kind-back Width16 = refl
+kind-back Width32 = refl
+
+kind-low : (kind : Kind) → kindNumber kind < 256
+unfolding kindNumber
+kind-low Width16 = omega arith
+kind-low Width32 = omega arith
+
+width-back : (t : Tag) → Wide t → widthOf (kindOf t) ≡ t .width
+unfolding widthOf kindOf
+width-back t w = ⊎-elim (λ (e : t .width ≡ 16). rw e) (λ (e : t .width ≡ 32). rw e) w
+
+-- a tag of a kind's width has that kind
+pub kind-of-width : (kind : Kind) (address : ℕ) → kindOf (record { address = address; width = widthOf kind }) ≡ kind
+unfolding widthOf kindOf
+kind-of-width Width16 address = refl
+kind-of-width Width32 address = refl
+
+-- a tag's word gives the tag back
+pub word-back : (t : Tag) → t .address < addresses → Wide t → tagOf (wordOf t) ≡ t
+unfolding wordOf tagOf
+word-back t l w =
+    let n = kind-low (kindOf t) in
+    let a : (t .address + addresses * kindNumber (kindOf t)) % addresses ≡ t .address = omega arith in
+    let k : (t .address + addresses * kindNumber (kindOf t)) / addresses ≡ kindNumber (kindOf t) = omega arith in
+    tag-ext (tagOf (wordOf t)) t a (rw (k, mod-eq-of-lt n, kind-back (kindOf t)) (width-back t w))
+
+-- words are below 2 ^ 24, so that the upper 40 bits are free
+pub word-low : (t : Tag) → t .address < addresses → wordOf t < 2 ^ 24
+unfolding wordOf
+word-low t l = let n = kind-low (kindOf t) in omega arith
+
+-- the kind of a word's tag is that of the number above the address
+pub kind-of-word : (word : ℕ) → kindOf (tagOf word) ≡ kindFrom (word / addresses % 256)
+unfolding tagOf
+kind-of-word word = kind-of-width (kindFrom (word / addresses % 256)) (word % addresses)
+
+-- the width of a word's tag is its kind's
+pub width-of-word : (word : ℕ) → widthOf (kindOf (tagOf word)) ≡ tagOf word .width
+unfolding tagOf
+width-of-word word = ap widthOf (kind-of-word word)
+
+-- the address of a word's tag is a register's
+pub address-of-word : (word : ℕ) → tagOf word .address < addresses
+unfolding tagOf
+address-of-word word = omega arith
+
+-- a tag's last register is the one that the grammar says
+last-register : (t : Tag) → lastRegister (tagNumbers t) ≡ lastOf t
+unfolding kindOf registers
+last-register t = ⊎-elim (λ e. rw e (omega arith)) (λ e. rw e (omega arith)) (true-or (eqb (t .width) 32))
+
+-- a tag ends at or above its address
+pub address-last : (t : Tag) → t .address ≤ lastOf t
+unfolding kindOf registers
+address-last t = ⊎-elim (λ e. rw e (omega arith)) (λ e. rw e (omega arith)) (true-or (eqb (t .width) 32))
+
+-- what the rules of a tag's lines say of it
+pub record Right (prior : List ℕ) (t : Tag) : Type 0 where
+  pub low : t .address < addresses
+  pub follows : fromOf prior ≤ t .address
+  pub wide : Wide t
+  pub ends : lastOf t < addresses
+
+wide-ends : (t : Tag) → t .address < addresses → rightWidth (t .address ∷ []) (t .width) ≡ true → Wide t × (lastOf t < addresses)
+unfolding kindOf registers
+wide-ends t l r =
+    ⊎-elim
+    (λ (e : eqb (t .width) 16 ≡ true). let q = eqb-true (t .width) 16 e in (inl q, rw q (omega arith)))
+    (λ (e : eqb (t .width) 16 ≡ false).
+    let f = or-second (eqb (t .width) 16) _ e r in
+    let q = eqb-true (t .width) 32 (and-left (eqb (t .width) 32) _ f) in
+    let h = ltb-true (t .address + 1) addresses (and-right (eqb (t .width) 32) _ f) in
+    (inr q, rw q (omega arith)))
+    (true-or (eqb (t .width) 16))
+
+right-low : (prior : List ℕ) (t : Tag) → allRight (newest .tag) prior [] (tagNumbers t) ≡ true → t .address < addresses
+unfolding allRight
+right-low prior t r = ltb-true (t .address) addresses (and-left (ltb (t .address) addresses) _ (and-left (ltb (t .address) addresses && ascends prior (t .address)) _ r))
+
+right-tag : (prior : List ℕ) (t : Tag) → allRight (newest .tag) prior [] (tagNumbers t) ≡ true → Right prior t
+right-tag prior t r =
+    let l = right-low prior t r in
+    let q = sym (tag-right prior t l) ∙ r in
+    let w = wide-ends t l (and-right (leb (fromOf prior) (t .address)) _ q) in
+    record { low = l; follows = leb-true (fromOf prior) (t .address) (and-left (leb (fromOf prior) (t .address)) _ q); wide = w .0; ends = w .1 }
+
+-- the first of right tags, and the others behind it
+right-first : (prior : List ℕ) (t : Tag) (ts : List Tag) → tagsRight (newest .tag) prior (t ∷ ts) ≡ true → Right prior t × (tagsRight (newest .tag) (tagNumbers t) ts ≡ true)
+unfolding tagsRight
+right-first prior t ts r =
+    (right-tag prior t (and-left (allRight (newest .tag) prior [] (tagNumbers t)) _ r), and-right (allRight (newest .tag) prior [] (tagNumbers t)) _ r)
+
+right-tags : (v : Value) → valid v ≡ true → tagsRight (newest .tag) [] (v .tags) ≡ true
+right-tags v h = and-right (rightTimeout (v .timeout) && (rightJoin (v .join) && rightTags (length (v .tags)))) _ (sym (valid-parts v) ∙ h)
+
+-- right tags ascend
+ascending : (prior : List ℕ) (ts : List Tag) → tagsRight (newest .tag) prior ts ≡ true → Ascending (fromOf prior) ts
+unfolding Ascending fromOf
+ascending prior [] r = tt
+ascending prior (t ∷ ts) r =
+    let f = right-first prior t ts r in
+    (f .0 .follows, f .0 .ends, rw (last-register t) at (ascending (tagNumbers t) ts (f .1)))
+
+-- the tags of a valid value ascend
+pub valid-ascends : (v : Value) → valid v ≡ true → Ascending 0 (v .tags)
+unfolding fromOf
+valid-ascends v h = ascending [] (v .tags) (right-tags v h)
+
+-- of ascending tags each lies at or above the first address allowed and ends within the addresses
+pub ascending-at : (from : ℕ) (ts : List Tag) (i : ℕ) (d : Tag) → Ascending from ts → i < length ts → (from ≤ getD ts i d .address) × (lastOf (getD ts i d) < addresses)
+unfolding Ascending
+ascending-at from [] i d a h = absurd (omega arith)
+ascending-at from (t ∷ ts) zero d a h = (a .0, a .1)
+ascending-at from (t ∷ ts) (suc i) d a h =
+    let r = ascending-at (lastOf t + 1) ts i d (a .2) (omega arith) in
+    let l = address-last t in
+    (omega (arith, a .0, r .0), r .1)
+
+-- of two ascending tags the first ends below the address of the second
+pub ascending-apart : (from : ℕ) (ts : List Tag) (i j : ℕ) (d : Tag) → Ascending from ts → i < j → j < length ts → lastOf (getD ts i d) < getD ts j d .address
+unfolding Ascending
+ascending-apart from [] i j d a h l = absurd (omega arith)
+ascending-apart from (t ∷ ts) i zero d a h l = absurd (omega arith)
+ascending-apart from (t ∷ ts) zero (suc j) d a h l = let r = ascending-at (lastOf t + 1) ts j d (a .2) (omega arith) in omega (arith, r .0)
+ascending-apart from (t ∷ ts) (suc i) (suc j) d a h l = ascending-apart (lastOf t + 1) ts i j d (a .2) (omega arith) (omega arith)
+
+right-back : (prior : List ℕ) (ts : List Tag) → tagsRight (newest .tag) prior ts ≡ true → map tagOf (map wordOf ts) ≡ ts
+right-back prior [] r = refl
+right-back prior (t ∷ ts) r =
+    let f = right-first prior t ts r in
+    cc (word-back t (f .0 .low) (f .0 .wide), right-back (tagNumbers t) ts (f .1))
+
+-- the words of a valid value's tags give the tags back
+pub words-back : (v : Value) → valid v ≡ true → map tagOf (map wordOf (v .tags)) ≡ v .tags
+words-back v h = right-back [] (v .tags) (right-tags v h)
+
+-- the words that the state keeps, padded, give the tags of a valid value back
+pub words-kept : (v : Value) → valid v ≡ true → map tagOf (take (length (v .tags)) (padded (map wordOf (v .tags)))) ≡ v .tags
+words-kept v h = rw (take-at (map wordOf (v .tags)) _ (length (v .tags)) (length-map (v .tags) wordOf)) (words-back v h)
+
+right-words : (prior : List ℕ) (ts : List Tag) (k : ℕ) → tagsRight (newest .tag) prior ts ≡ true → getD (map wordOf ts) k 0 < 2 ^ 24
+right-words prior [] k r = omega arith
+right-words prior (t ∷ ts) zero r = word-low t (right-first prior t ts r .0 .low)
+right-words prior (t ∷ ts) (suc k) r = right-words (tagNumbers t) ts k (right-first prior t ts r .1)
+
+-- the words of a valid value's tags are below 2 ^ 24
+pub words-low : (v : Value) (k : ℕ) → valid v ≡ true → getD (map wordOf (v .tags)) k 0 < 2 ^ 24
+words-low v k h = right-words [] (v .tags) k (right-tags v h)
+
+right-wide : (prior : List ℕ) (ts : List Tag) (i : ℕ) (d : Tag) → tagsRight (newest .tag) prior ts ≡ true → i < length ts → Wide (getD ts i d)
+right-wide prior [] i d r h = absurd (omega arith)
+right-wide prior (t ∷ ts) zero d r h = right-first prior t ts r .0 .wide
+right-wide prior (t ∷ ts) (suc i) d r h = right-wide (tagNumbers t) ts i d (right-first prior t ts r .1) (omega arith)
+
+-- document 01's bounds on a value's numbers
+pub record Bounds (v : Value) : Type 0 where
+  pub least : leastTimeout ≤ v .timeout
+  pub most : v .timeout ≤ mostTimeout
+  pub joins : v .join ≤ 1
+  pub few : length (v .tags) ≤ mostTags
+  pub wide : (i : ℕ) (d : Tag) → i < length (v .tags) → Wide (getD (v .tags) i d)
+
+-- a valid value is within the bounds
+pub valid-bounds : (v : Value) → valid v ≡ true → Bounds v
+valid-bounds v h =
+    let r = sym (valid-parts v) ∙ h in
+    let head = and-left (rightTimeout (v .timeout) && (rightJoin (v .join) && rightTags (length (v .tags)))) _ r in
+    let timeout = and-left (rightTimeout (v .timeout)) _ head in
+    let rest = and-right (rightTimeout (v .timeout)) _ head in
+    record {
+      least = leb-true leastTimeout (v .timeout) (and-left (leb leastTimeout (v .timeout)) _ timeout);
+      most = leb-true (v .timeout) mostTimeout (and-right (leb leastTimeout (v .timeout)) _ timeout);
+      joins = leb-true (v .join) 1 (and-left (rightJoin (v .join)) _ rest);
+      few = leb-true (length (v .tags)) mostTags (and-right (rightJoin (v .join)) _ rest);
+      wide = λ i d. right-wide [] (v .tags) i d (right-tags v h);
+    }
+
+-- places filled one after the other, and 0 beyond
+filled-more : {A : Type 0} (f : A → ℕ) (xs : List A) (x : A) (k v : ℕ) → length xs ≡ k → k < mostTags → v ≡ f x → set (padded (map f xs)) k v ≡ padded (map f (xs ++ (x ∷ [])))
+filled-more f xs x k v e h q =
+    let n : length (map f xs) ≡ k = length-map xs f ∙ e in
+    rw (q, map-append f xs (x ∷ []), ← n) (set-padded 0 (f x) (map f xs) mostTags (omega arith))
+
+-- the words of the first k places
+pub record Worded (s : Settings) (words : List ℕ) (k : ℕ) : Type 0 where
+  pub within : k ≤ s .tags
+  pub few : s .tags ≤ mostTags
+  pub filled : words ≡ padded (map wordOf (tab k (tagAt s)))
+
+pub worded-none : (s : Settings) → valid (valueOf s) ≡ true → Worded s (replicate mostTags 0) 0
+unfolding tab
+worded-none s h = record { within = omega arith; few = valid-few s h; filled = refl }
+
+pub worded-more : {s : Settings} {words : List ℕ} {k v : ℕ} → k < s .tags → Worded s words k → v ≡ wordOf (tagAt s k) → Worded s (set words k v) (k + 1)
+worded-more {s} {k = k} {v = v} h w e =
+    record {
+      within = omega arith;
+      few = w .few;
+      filled = rw (w .filled, tab-more k (tagAt s)) (filled-more wordOf (tab k (tagAt s)) (tagAt s k) k v (length-tab k (tagAt s)) (omega (arith, w .few)) e);
+    }
+
+pub worded-all : {s : Settings} {words : List ℕ} {k : ℕ} → s .tags ≤ k → Worded s words k → words ≡ padded (map wordOf (valueOf s .tags))
+unfolding valueOf
+worded-all {s} {k = k} h w = let e : k ≡ s .tags = omega (arith, w .within) in w .filled ∙ rw e
+
+-- the tags of the first k words
+abbrev pub tagsOf : List ℕ → ℕ → List Tag
+tagsOf words k = map tagOf (take k words)
+
+pub record Taken (words : List ℕ) (tagged : ℕ) (addr width : List ℕ) (k : ℕ) : Type 0 where
+  pub within : k ≤ tagged
+  pub few : tagged ≤ mostTags
+  pub long : length words ≡ mostTags
+  pub addrs : addr ≡ padded (map (λ (t : Tag). t .address) (tagsOf words k))
+  pub widths : width ≡ padded (map (λ (t : Tag). t .width) (tagsOf words k))
+
+pub taken-none : (words : List ℕ) (tagged : ℕ) → tagged ≤ mostTags → length words ≡ mostTags → Taken words tagged (replicate mostTags 0) (replicate mostTags 0) 0
+taken-none words tagged h l = record { within = omega arith; few = h; long = l; addrs = refl; widths = refl }
+
+pub taken-more : {words : List ℕ} {tagged : ℕ} {addr width : List ℕ} {k a w : ℕ} → k < tagged → Taken words tagged addr width k → a ≡ tagOf (getD words k 0) .address → w ≡ tagOf (getD words k 0) .width
+    → Taken words tagged (set addr k a) (set width k w) (k + 1)
+taken-more {words} {k = k} {a = a} {w = w} h t p q =
+    record {
+      within = omega arith;
+      few = t .few;
+      long = t .long;
+      addrs = rw (t .addrs, more) (filled-more (λ (t : Tag). t .address) (tagsOf words k) (tagOf (getD words k 0)) k a sized low p);
+      widths = rw (t .widths, more) (filled-more (λ (t : Tag). t .width) (tagsOf words k) (tagOf (getD words k 0)) k w sized low q);
+    }
+  where
+    low : k < mostTags
+    low = omega (arith, t .few)
+
+    sized : length (tagsOf words k) ≡ k
+    sized = length-map (take k words) tagOf ∙ length-take-le k words (omega (arith, t .few, t .long))
+
+    more : tagsOf words (k + 1) ≡ tagsOf words k ++ (tagOf (getD words k 0) ∷ [])
+    more = rw (add-one k, take-suc words k 0 (omega (arith, t .few, t .long))) (map-append tagOf (take k words) (getD words k 0 ∷ []))
+
+abbrev pub settings : ℕ → ℕ → ℕ → List ℕ → List ℕ → Settings
+settings timeout join tags addr width = record { timeout = timeout; join = join; tags = tags; addr = addr; width = width }
+
+pub taken-all : (timeout join : ℕ) {words : List ℕ} {tagged : ℕ} {addr width : List ℕ} {k : ℕ} → tagged ≤ k → Taken words tagged addr width k
+    → settings timeout join tagged addr width ≡ settingsOf (record { timeout = timeout; join = join; tags = tagsOf words tagged })
+unfolding settingsOf
+taken-all timeout join {words} {tagged} {k = k} h t =
+    let e : k ≡ tagged = omega (arith, t .within) in
+    let a = rw e at (t .addrs) in
+    let w = rw e at (t .widths) in
+    let n : length (tagsOf words tagged) ≡ tagged = length-map (take tagged words) tagOf ∙ length-take-le tagged words (omega (arith, t .few, t .long)) in
+    rw (a, w, n)

@@ -1,0 +1,225 @@
+-- Settings values tag by tag: what makes one valid, when two are equal, and the value of the boundary's struct and back.
+-- Assumes nothing.
+use Prim.Native.Nat.{ℕ, zero, suc, _+_, _-_, _≤_, _<_, min}
+use mathlib.Core.Path.{_≡_, refl, ap, sym, _∙_}
+use mathlib.Core.Logic.{⊎-elim}
+use mathlib.Core.Bool.{Bool, true, false, _&&_, and-true, and-false, and-assoc, false≢true}
+use mathlib.Core.List.{List, [], _∷_, _++_, map}
+use native.Mathlib.Nat.{add-zero}
+use native.Mathlib.Numerals.{add-one}
+use native.Mathlib.Omega.{arith}
+use lib.ListN.{length, getD, List·getD-eq-default}
+use lib.Dec.{eqb, leb, leb·zero}
+use borrow.Author.Tests.{leb-true, eqb-true, eq-eqb, ne-eqb, lt-ltb}
+use Rattle.laws.specs.Numbers.{mostTags, addresses}
+use Rattle.laws.specs.Lists.{tab}
+use Rattle.laws.proofs.Choice.{eq-or, and-left, and-right}
+use Rattle.laws.proofs.ListLaws.{tab-ext, tab-more, length-tab, tab-getD, getD-map, getD-zeros}
+use Rattle.settings.specs.declared.Settings.{Settings}
+use Rattle.settings.specs.Grammar.{Tag, Value, Line, newest, tagNumbers, lastRegister, ascends, rightTimeout, rightJoin, rightTags, rightWidth, allRight, tagsRight, validIn, valid}
+use Rattle.settings.specs.Values.{valueOf, settingsOf, padded, sameTags, same}
+
+-- tags and values are equal where their fields are
+pub tag-ext : (t u : Tag) → t .address ≡ u .address → t .width ≡ u .width → t ≡ u
+tag-ext t u a w = ap (λ (x : ℕ). record { address = x; width = t .width }) a ∙ ap (λ (x : ℕ). record { address = u .address; width = x }) w
+
+pub value-ext : (v w : Value) → v .timeout ≡ w .timeout → v .join ≡ w .join → v .tags ≡ w .tags → v ≡ w
+value-ext v w t j s =
+    ap (λ (x : ℕ). record { timeout = x; join = v .join; tags = v .tags }) t
+    ∙ ap (λ (x : ℕ). record { timeout = w .timeout; join = x; tags = v .tags }) j
+    ∙ ap (λ (x : List Tag). record { timeout = w .timeout; join = w .join; tags = x }) s
+
+abbrev blank : Tag
+blank = record { address = 0; width = 0 }
+
+-- the tag at a place of the boundary's struct
+abbrev pub tagAt : Settings → ℕ → Tag
+tagAt s k = record { address = getD (s .addr) k 0; width = getD (s .width) k 0 }
+
+-- the numbers of the last tag, and those of the tag before where there is none
+unfoldable pub lastOr : List ℕ → List Tag → List ℕ
+lastOr prior [] = prior
+lastOr prior (t ∷ ts) = lastOr (tagNumbers t) ts
+
+-- the first address that may follow
+unfoldable pub fromOf : List ℕ → ℕ
+fromOf [] = 0
+fromOf (a ∷ ns) = lastRegister (a ∷ ns) + 1
+
+pub ascends-from : (prior : List ℕ) (n : ℕ) → ascends prior n ≡ leb (fromOf prior) n
+unfolding ascends fromOf
+ascends-from [] n = sym (leb·zero n)
+ascends-from (a ∷ ns) n = rw (add-one (lastRegister (a ∷ ns)))
+
+last-snoc : (prior : List ℕ) (ts : List Tag) (t : Tag) → lastOr prior (ts ++ (t ∷ [])) ≡ tagNumbers t
+unfolding lastOr
+last-snoc prior [] t = refl
+last-snoc prior (u ∷ ts) t = last-snoc (tagNumbers u) ts t
+
+right-snoc : (ls : List Line) (prior : List ℕ) (ts : List Tag) (t : Tag) → tagsRight ls prior (ts ++ (t ∷ [])) ≡ (tagsRight ls prior ts && allRight ls (lastOr prior ts) [] (tagNumbers t))
+unfolding lastOr tagsRight
+right-snoc ls prior [] t = and-true (allRight ls prior [] (tagNumbers t))
+right-snoc ls prior (u ∷ ts) t =
+    rw (right-snoc ls (tagNumbers u) ts t)
+    (sym (and-assoc (allRight ls prior [] (tagNumbers u)) (tagsRight ls (tagNumbers u) ts) (allRight ls (lastOr (tagNumbers u) ts) [] (tagNumbers t))))
+
+-- the rules of a tag's lines, given the tag before
+pub tag-right : (prior : List ℕ) (t : Tag) → t .address < addresses
+    → allRight (newest .tag) prior [] (tagNumbers t) ≡ (leb (fromOf prior) (t .address) && rightWidth (t .address ∷ []) (t .width))
+unfolding allRight
+tag-right prior t low = rw (lt-ltb (t .address) addresses low, ascends-from prior (t .address), and-true)
+
+-- a turn of the check: whether the tags so far are right, and the first address that may follow
+pub record Checked (f : ℕ → Tag) (right : Bool) (from k : ℕ) : Type 0 where
+  pub so-far : right ≡ tagsRight (newest .tag) [] (tab k f)
+  pub next : from ≡ fromOf (lastOr [] (tab k f))
+
+module _ (f : ℕ → Tag) where
+  pub checked-none : Checked f true 0 0
+  unfolding tab tagsRight lastOr fromOf
+  checked-none = record { so-far = refl; next = refl }
+
+  pub checked-more : {right this : Bool} {from from′ k : ℕ} → f k .address < addresses → Checked f right from k
+      → this ≡ (leb from (f k .address) && rightWidth (f k .address ∷ []) (f k .width))
+      → from′ ≡ lastRegister (tagNumbers (f k)) + 1
+      → Checked f (right && this) from′ (k + 1)
+  unfolding fromOf
+  checked-more {k = k} low w e n =
+      let m = tab-more k f in
+      let r = rw (tag-right (lastOr [] (tab k f)) (f k) low, ← w .so-far, ← w .next, ← e) at (right-snoc (newest .tag) [] (tab k f) (f k)) in
+      let l : lastOr [] (tab (k + 1) f) ≡ tagNumbers (f k) = rw m (last-snoc [] (tab k f) (f k)) in
+      record { so-far = rw m (sym r); next = rw l n }
+
+-- valid: the rules of the lines behind the version line, and of the tags' lines
+pub valid-parts : (v : Value) → valid v ≡ ((rightTimeout (v .timeout) && (rightJoin (v .join) && rightTags (length (v .tags)))) && tagsRight (newest .tag) [] (v .tags))
+unfolding validIn allRight
+valid-parts v = rw and-true
+
+abbrev pub headRight : Settings → Bool
+headRight s = rightTimeout (s .timeout) && (rightJoin (s .join) && rightTags (s .tags))
+
+pub valid-struct : (s : Settings) → valid (valueOf s) ≡ (headRight s && tagsRight (newest .tag) [] (tab (s .tags) (tagAt s)))
+unfolding valueOf
+valid-struct s = valid-parts (valueOf s) ∙ rw length-tab
+
+pub refused : (s : Settings) {head : Bool} → head ≡ headRight s → head ≡ false → false ≡ valid (valueOf s)
+refused s e f = sym (valid-struct s ∙ rw (← e) (rw f))
+
+pub few : (s : Settings) {head : Bool} → head ≡ headRight s → head ≡ true → s .tags ≤ mostTags
+few s e t = leb-true (s .tags) mostTags (and-right (rightJoin (s .join)) _ (and-right (rightTimeout (s .timeout)) _ (sym e ∙ t)))
+
+pub valid-few : (s : Settings) → valid (valueOf s) ≡ true → s .tags ≤ mostTags
+valid-few s t = few s refl (and-left (headRight s) _ (sym (valid-struct s) ∙ t))
+
+pub checked-all : (s : Settings) {head right : Bool} {from k : ℕ} → head ≡ headRight s → head ≡ true → k ≡ s .tags → Checked (tagAt s) right from k → right ≡ valid (valueOf s)
+checked-all s e t q w = w .so-far ∙ rw q (sym (valid-struct s ∙ rw (← e) (rw t)))
+
+-- two lists of tags, tag by tag
+abbrev pub sameTag : Tag → Tag → Bool
+sameTag t u = eqb (t .address) (u .address) && eqb (t .width) (u .width)
+
+same-snoc : (ts us : List Tag) (t u : Tag) → length ts ≡ length us → sameTags (ts ++ (t ∷ [])) (us ++ (u ∷ [])) ≡ (sameTags ts us && sameTag t u)
+unfolding sameTags
+same-snoc [] [] t u e = rw and-true
+same-snoc [] (y ∷ us) t u e = absurd (omega arith)
+same-snoc (x ∷ ts) [] t u e = absurd (omega arith)
+same-snoc (x ∷ ts) (y ∷ us) t u e = rw (same-snoc ts us t u (omega arith)) (simp and-assoc)
+
+same-length : (ts us : List Tag) → (length ts ≡ length us → ⊥) → sameTags ts us ≡ false
+unfolding sameTags
+same-length [] [] e = absurd (e refl)
+same-length [] (y ∷ us) e = refl
+same-length (x ∷ ts) [] e = refl
+same-length (x ∷ ts) (y ∷ us) e = rw (same-length ts us (λ z. e (ap suc z))) (simp and-false)
+
+same-tag : (t : Tag) → sameTag t t ≡ true
+same-tag t = rw (eq-eqb (t .address) (t .address) refl, eq-eqb (t .width) (t .width) refl)
+
+module _ (f g : ℕ → Tag) where
+  pub same-more : (k : ℕ) → sameTags (tab (k + 1) f) (tab (k + 1) g) ≡ (sameTags (tab k f) (tab k g) && sameTag (f k) (g k))
+  same-more k = rw (tab-more k f, tab-more k g) (same-snoc (tab k f) (tab k g) (f k) (g k) (length-tab k f ∙ sym (length-tab k g)))
+
+  -- places where both have the same tag do not tell them apart
+  same-beyond : (m d : ℕ) → ((k : ℕ) → m ≤ k → k < m + d → f k ≡ g k) → sameTags (tab (m + d) f) (tab (m + d) g) ≡ sameTags (tab m f) (tab m g)
+  same-beyond m zero h = rw (add-zero m)
+  same-beyond m (suc d) h =
+      let e : m + suc d ≡ m + d + 1 = omega arith in
+      rw (e, same-more (m + d), h (m + d) (omega arith) (omega arith), same-tag (g (m + d)), and-true) (same-beyond m d (λ k l u. h k l (omega arith)))
+
+-- equality of the boundary's structs: timeout, join, the number of tags, and the places that there are of the listed tags
+abbrev pub sameHead : Settings → Settings → Bool
+sameHead a b = eqb (a .timeout) (b .timeout) && (eqb (a .join) (b .join) && eqb (a .tags) (b .tags))
+
+abbrev pub sameTo : Settings → Settings → ℕ → Bool
+sameTo a b k = sameHead a b && sameTags (tab k (tagAt a)) (tab k (tagAt b))
+
+pub record Sized (s : Settings) : Type 0 where
+  pub addresses : length (s .addr) ≡ mostTags
+  pub widths : length (s .width) ≡ mostTags
+
+blank-beyond : (s : Settings) (k : ℕ) → Sized s → mostTags ≤ k → tagAt s k ≡ blank
+blank-beyond s k z h = tag-ext (tagAt s k) blank (List·getD-eq-default (s .addr) 0 (omega (arith, z .addresses))) (List·getD-eq-default (s .width) 0 (omega (arith, z .widths)))
+
+pub same-none : (a b : Settings) → sameTo a b 0 ≡ sameHead a b
+unfolding tab sameTags
+same-none a b = and-true (sameHead a b)
+
+pub same-turn : (a b : Settings) (k : ℕ) {equal : Bool} → equal ≡ sameTo a b k → (equal && sameTag (tagAt a k) (tagAt b k)) ≡ sameTo a b (k + 1)
+same-turn a b k e = rw (e, same-more (tagAt a) (tagAt b) k) (and-assoc (sameHead a b) (sameTags (tab k (tagAt a)) (tab k (tagAt b))) (sameTag (tagAt a k) (tagAt b k)))
+
+pub same-struct : (a b : Settings) → Sized a → Sized b → same (valueOf a) (valueOf b) ≡ sameTo a b (min (a .tags) mostTags)
+unfolding same valueOf
+same-struct a b y z =
+    ⊎-elim
+    (λ (e : a .tags ≡ b .tags).
+    let q : sameTags (tab (a .tags) (tagAt a)) (tab (b .tags) (tagAt b)) ≡ sameTags (tab (min (a .tags) mostTags) (tagAt a)) (tab (min (a .tags) mostTags) (tagAt b)) =
+    rw (← e) (rw p at (same-beyond (tagAt a) (tagAt b) (min (a .tags) mostTags) (a .tags - mostTags) (λ k l u. blank-beyond a k y (omega arith) ∙ sym (blank-beyond b k z (omega arith)))))
+    in
+    rw (q, eq-eqb (a .tags) (b .tags) e) (simp (and-true, and-assoc)))
+    (λ (e : a .tags ≡ b .tags → ⊥). rw (same-length (tab (a .tags) (tagAt a)) (tab (b .tags) (tagAt b)) (λ q. e (sym (length-tab (a .tags) (tagAt a)) ∙ q ∙ length-tab (b .tags) (tagAt b))), ne-eqb (a .tags) (b .tags) e) (simp and-false))
+    (eq-or (a .tags) (b .tags))
+  where
+    p : min (a .tags) mostTags + (a .tags - mostTags) ≡ a .tags
+    p = omega arith
+
+tags-equal : (ts us : List Tag) → sameTags ts us ≡ true → ts ≡ us
+unfolding sameTags
+tags-equal [] [] e = refl
+tags-equal [] (u ∷ us) e = absurd (false≢true e)
+tags-equal (t ∷ ts) [] e = absurd (false≢true e)
+tags-equal (t ∷ ts) (u ∷ us) e =
+    let a = eqb-true (t .address) (u .address) (and-left (eqb (t .address) (u .address)) _ e) in
+    let r = and-right (eqb (t .address) (u .address)) _ e in
+    let w = eqb-true (t .width) (u .width) (and-left (eqb (t .width) (u .width)) _ r) in
+    let s = tags-equal ts us (and-right (eqb (t .width) (u .width)) _ r) in
+    cc (tag-ext t u a w)
+
+tags-same : (ts : List Tag) → sameTags ts ts ≡ true
+unfolding sameTags
+tags-same [] = refl
+tags-same (t ∷ ts) = rw (eq-eqb (t .address) (t .address) refl, eq-eqb (t .width) (t .width) refl) (tags-same ts)
+
+-- two values are the same exactly if they are equal
+pub same-is-equal : (v w : Value) → (same v w ≡ true → v ≡ w) × (v ≡ w → same v w ≡ true)
+unfolding same
+same-is-equal v w = (equal, λ e. rw e (rw (eq-eqb (w .timeout) (w .timeout) refl, eq-eqb (w .join) (w .join) refl) (tags-same (w .tags))))
+  where
+    equal : same v w ≡ true → v ≡ w
+    equal e =
+        let t = eqb-true (v .timeout) (w .timeout) (and-left (eqb (v .timeout) (w .timeout)) _ e) in
+        let r = and-right (eqb (v .timeout) (w .timeout)) _ e in
+        let j = eqb-true (v .join) (w .join) (and-left (eqb (v .join) (w .join)) _ r) in
+        let s = tags-equal (v .tags) (w .tags) (and-right (eqb (v .join) (w .join)) _ r) in
+        value-ext v w t j s
+
+-- the boundary's struct of a value has that value
+pub value-back : (v : Value) → valueOf (settingsOf v) ≡ v
+unfolding valueOf settingsOf
+value-back v =
+    value-ext (valueOf (settingsOf v)) v refl refl
+    (tab-ext (length (v .tags)) (tagAt (settingsOf v)) (λ k. getD (v .tags) k blank)
+    (λ k h. tag-ext (tagAt (settingsOf v) k) (getD (v .tags) k blank) (of (λ t. t .address) k h) (of (λ t. t .width) k h))
+    ∙ tab-getD blank (v .tags) (length (v .tags)) refl)
+  where
+    of : (field : Tag → ℕ) (k : ℕ) → k < length (v .tags) → getD (padded (map field (v .tags))) k 0 ≡ field (getD (v .tags) k blank)
+    of field k h = getD-zeros (mostTags - length (map field (v .tags))) (map field (v .tags)) k ∙ getD-map field (v .tags) k blank 0 h

@@ -1,0 +1,162 @@
+-- What the theorems ask of a version, how reading a text goes, and how long its lines are.
+-- Assumes nothing.
+use Prim.Native.Nat.{suc, ℕ, _+_, _*_, _≤_, _<_}
+use mathlib.Core.Path.{_≡_, refl, ap, sym, _∙_}
+use mathlib.Core.Logic.{⊎-elim, _⊎_, inl, inr}
+use mathlib.Core.Bool.{Bool, true, false, _&&_, false≢true}
+use mathlib.Core.Option.{Option, some, none, Option·some-injective, Option·none-ne-some}
+use mathlib.Core.List.{List, [], _∷_, _++_, flatMap, append-nil, List·Memᴰ, List·Memᴰ·head, List·Memᴰ·tail, List·Memᴰ·cases-cons, List·Memᴰ·not-nil}
+use native.Mathlib.Omega.{arith}
+use lib.ListN.{length, getD, length-append}
+use lib.Dec.{eqb, ltb, leb}
+use borrow.Author.Tests.{leb-true, ltb-true, eqb-true, ne-eqb}
+use Rattle.laws.specs.Numbers.{mostTags, addresses}
+use Rattle.laws.proofs.Choice.{true-or, and-left, and-right, or-second}
+use Rattle.settings.specs.Lines.{Numbered, lineIn}
+use Rattle.settings.specs.Grammar.{Tag, Value, Version, Read, headNumbers, tagNumbers, valueFrom, addrKey, widthKey, rightAddr, rightWidth, version1, versions, versionKey, versionIn, textOfLines, textIn, allRight, tagsRight, validIn, readLines, readTags, readIn, readText, readBehind}
+use Rattle.settings.specs.Grammar.Read.{got, wrong}
+use Rattle.settings.proofs.LineLaws.{numbered, line-length, line-back}
+use Rattle.settings.proofs.RowLaws.{Bounded, lines-back, tagsText, tags-back}
+
+-- what is asked of a version: a line for each number of a value and of a tag, and rules that bound the numbers
+pub record Fit (x : Version) : Type 0 where
+  pub small : x .number < addresses
+  pub heads : length (x .head) ≡ 3
+  pub tags : length (x .tag) ≡ 2
+  pub headBounded : Bounded (x .head)
+  pub tagBounded : Bounded (x .tag)
+  pub few : (ns : List ℕ) → allRight (x .head) [] [] ns ≡ true → getD ns 2 0 ≤ mostTags
+
+pub widths : (own : List ℕ) (n : ℕ) → rightWidth own n ≡ true → (n ≡ 16) ⊎ (n ≡ 32)
+widths own n t =
+    ⊎-elim
+    (λ (e : eqb n 16 ≡ true). inl (eqb-true n 16 e))
+    (λ (e : eqb n 16 ≡ false). inr (eqb-true n 32 (and-left (eqb n 32) _ (or-second (eqb n 16) _ e t))))
+    (true-or (eqb n 16))
+
+pub width-most : (own : List ℕ) (n : ℕ) → rightWidth own n ≡ true → n ≤ 32
+width-most own n t = ⊎-elim (λ (e : n ≡ 16). omega arith) (λ (e : n ≡ 32). omega arith) (widths own n t)
+
+pub few-tags : (ns : List ℕ) → allRight (version1 .head) [] [] ns ≡ true → getD ns 2 0 ≤ mostTags
+unfolding allRight
+few-tags [] t = absurd (false≢true t)
+few-tags (a ∷ []) t = omega arith
+few-tags (a ∷ b ∷ []) t = omega arith
+few-tags (a ∷ b ∷ c ∷ ns) t = leb-true c mostTags (and-left (leb c mostTags) _ (and-right (leb b 1) _ (and-right (leb 100 a && leb a 60000) _ t)))
+
+pub fit1 : Fit version1
+fit1 =
+    record {
+      small = omega arith;
+      heads = refl;
+      tags = refl;
+      headBounded = (
+        λ prior own n t. omega (arith, leb-true n 60000 (and-right (leb 100 n) (leb n 60000) t)),
+        (λ prior own n t. omega (arith, leb-true n 1 t), (λ prior own n t. omega (arith, leb-true n 256 t), tt)),
+      );
+      tagBounded = (λ prior own n t. ltb-true n addresses (and-left (ltb n addresses) _ t), (λ prior own n t. omega (arith, width-most own n t), tt));
+      few = few-tags;
+    }
+
+pub fits : (x : Version) → List·Memᴰ x versions → Fit x
+fits x m = ⊎-elim (λ (e : x ≡ version1). rw e fit1) (λ n. absurd (List·Memᴰ·not-nil n)) (List·Memᴰ·cases-cons m)
+
+pub found : (x : Version) → List·Memᴰ x versions → versionIn versions (x .number) ≡ some x
+unfolding versionIn
+found x m = ⊎-elim (λ (e : x ≡ version1). rw e refl) (λ n. absurd (List·Memᴰ·not-nil n)) (List·Memᴰ·cases-cons m)
+
+pub listed : (xs : List Version) (n : ℕ) (x : Version) → versionIn xs n ≡ some x → List·Memᴰ x xs × (x .number ≡ n)
+unfolding versionIn
+listed [] n x e = absurd (Option·none-ne-some x e)
+listed (y ∷ ys) n x e =
+    ⊎-elim
+    (λ (t : eqb (y .number) n ≡ true).
+    let q : y ≡ x = Option·some-injective y x (rw t at e) in
+    (List·Memᴰ·head (sym q), ap (λ (z : Version). z .number) (sym q) ∙ eqb-true (y .number) n t))
+    (λ (t : eqb (y .number) n ≡ false). let i = listed ys n x (rw t at e) in (List·Memᴰ·tail (i .0), i .1))
+    (true-or (eqb (y .number) n))
+
+-- the steps of reading a text: the version line, the lines before the tags, the tags
+pub text-version : (t : List ℕ) (y : Numbered) (x : Version) → lineIn versionKey t ≡ some y → versionIn versions (y .number) ≡ some x → readText t ≡ readIn x (y .rest)
+unfolding readText
+text-version t y x e f = rw (e, readText) (rw f)
+
+pub text-head : (x : Version) (t ns r : List ℕ) → readLines 2 (x .head) [] [] t ≡ got ns r → readIn x t ≡ readBehind x ns r
+unfolding readIn readBehind
+text-head x t ns r e = rw (e, readIn)
+
+-- the tags behind the lines before them
+abbrev pub tagsIn : Version → List ℕ → List ℕ → Read (List Tag)
+tagsIn x ns t = readTags (getD ns 2 0) (2 + length (x .head)) (x .tag) [] t
+
+pub text-tags : (x : Version) (ns t : List ℕ) (ts : List Tag) → tagsIn x ns t ≡ got ts [] → readBehind x ns t ≡ got (valueFrom ns ts) []
+unfolding readBehind
+text-tags x ns t ts e = rw (e, readBehind)
+
+-- the version line of a text, and the version
+pub record Versioned (t : List ℕ) (y : Numbered) (x : Version) : Type 0 where
+  pub line : lineIn versionKey t ≡ some y
+  pub listed : List·Memᴰ x versions
+  pub number : x .number ≡ y .number
+
+-- how reading a text goes: no listed version, a wrong line before the tags, a wrong line of a tag, an extra byte, or all of it
+pub data Went (t : List ℕ) : Read Value → Type 0 where
+  unversioned : Went t (wrong 1)
+  inHead : (y : Numbered) (x : Version) (k : ℕ) → Versioned t y x → readLines 2 (x .head) [] [] (y .rest) ≡ wrong k → Went t (wrong k)
+  inTags : (y : Numbered) (x : Version) (ns q : List ℕ) (k : ℕ) → Versioned t y x → readLines 2 (x .head) [] [] (y .rest) ≡ got ns q → tagsIn x ns q ≡ wrong k → Went t (wrong k)
+  extra : (y : Numbered) (x : Version) (ns q : List ℕ) (ts : List Tag) (p : List ℕ) → Versioned t y x → readLines 2 (x .head) [] [] (y .rest) ≡ got ns q → tagsIn x ns q ≡ got ts p
+      → Went t (wrong (2 + length (x .head) + length (x .tag) * length ts))
+  whole : (y : Numbered) (x : Version) (ns q : List ℕ) (ts : List Tag) → Versioned t y x → readLines 2 (x .head) [] [] (y .rest) ≡ got ns q → tagsIn x ns q ≡ got ts []
+      → Went t (got (valueFrom ns ts) [])
+
+pub went : (t : List ℕ) → Went t (readText t)
+unfolding readText readIn readBehind
+went t = version (lineIn versionKey t) refl
+  where
+    tags : (y : Numbered) (x : Version) (ns q : List ℕ) → Versioned t y x → readLines 2 (x .head) [] [] (y .rest) ≡ got ns q → (o : Read (List Tag)) → tagsIn x ns q ≡ o → Went t (readBehind x ns q)
+    tags y x ns q v e (wrong k) g = rw (g, readBehind) (inTags y x ns q k v e g)
+    tags y x ns q v e (got ts []) g = rw (g, readBehind) (whole y x ns q ts v e g)
+    tags y x ns q v e (got ts (c ∷ p)) g = rw (g, readBehind) (rw (ne-eqb (suc (length p)) 0 (λ z. omega arith)) (extra y x ns q ts (c ∷ p) v e g))
+
+    head : (y : Numbered) (x : Version) → Versioned t y x → (o : Read (List ℕ)) → readLines 2 (x .head) [] [] (y .rest) ≡ o → Went t (readIn x (y .rest))
+    head y x v (wrong k) e = rw (e, readIn) (inHead y x k v e)
+    head y x v (got ns q) e = rw (text-head x (y .rest) ns q e) (tags y x ns q v e (tagsIn x ns q) refl)
+
+    number : (y : Numbered) → lineIn versionKey t ≡ some y → (o : Option Version) → versionIn versions (y .number) ≡ o → Went t (readText t)
+    number y e none g = rw (e, readText) (rw g unversioned)
+    number y e (some x) g =
+        let m = listed versions (y .number) x g in
+        rw (text-version t y x e g) (head y x (record { line = e; listed = m .0; number = m .1 }) (readLines 2 (x .head) [] [] (y .rest)) refl)
+
+    version : (o : Option Numbered) → lineIn versionKey t ≡ o → Went t (readText t)
+    version none e = rw (e, readText) unversioned
+    version (some y) e = number y e (versionIn versions (y .number)) refl
+
+-- a valid value's text is read
+pub back : (x : Version) (v : Value) → Fit x → versionIn versions (x .number) ≡ some x → validIn x v ≡ true → readText (textIn x v) ≡ got v []
+unfolding textIn validIn
+back x v f l r =
+    let first : Bool = allRight (x .head) [] [] (headNumbers v) in
+    let head : List ℕ = textOfLines (x .head) (headNumbers v) in
+    let tags : List ℕ = tagsText (x .tag) (v .tags) in
+    text-version (textIn x v) (numbered (x .number) (head ++ tags)) x (line-back versionKey (x .number) (head ++ tags) (omega (arith, f .small))) l
+    ∙ text-head x (head ++ tags) (headNumbers v) tags (lines-back 2 (x .head) [] [] (headNumbers v) tags (f .headBounded) (sym (f .heads)) (and-left first _ r))
+    ∙ text-tags x (headNumbers v) tags (v .tags) (rw (append-nil tags) at (tags-back (2 + length (x .head)) (x .tag) [] (v .tags) [] (f .tagBounded) (f .tags) (and-right first _ r)))
+
+-- how long the tags' lines are
+tag-length : (t : Tag) (prior : List ℕ) → allRight (version1 .tag) prior [] (tagNumbers t) ≡ true → length (textOfLines (version1 .tag) (tagNumbers t)) ≤ 20
+unfolding allRight textOfLines
+tag-length t prior r =
+    let first = and-left (rightAddr prior (t .address)) _ r in
+    let second = and-left (rightWidth (t .address ∷ []) (t .width)) true (and-right (rightAddr prior (t .address)) _ r) in
+    let address = line-length addrKey 4 (t .address) (omega (arith, fit1 .tagBounded .0 prior [] (t .address) first)) in
+    let width = line-length widthKey 1 (t .width) (omega (arith, width-most (t .address ∷ []) (t .width) second)) in
+    simp length-append (omega arith)
+
+pub tags-length : (ts : List Tag) (prior : List ℕ) → tagsRight (version1 .tag) prior ts ≡ true → length (tagsText (version1 .tag) ts) ≤ 20 * length ts
+unfolding tagsRight flatMap
+tags-length [] prior r = omega arith
+tags-length (t ∷ ts) prior r =
+    let here = tag-length t prior (and-left _ (tagsRight (version1 .tag) (tagNumbers t) ts) r) in
+    let rest = tags-length ts (tagNumbers t) (and-right (allRight (version1 .tag) prior [] (tagNumbers t)) _ r) in
+    simp length-append (omega arith)

@@ -1,0 +1,15 @@
+use borrow.Author.Tests.{eq-eqb, ne-eqb}
+use Rattle.settings.specs.TagWords.{kindFrom}
+use Rattle.settings.proofs.tagwords.kind_from.Statement.{statement}
+use Rattle.settings.proofs.tagwords.kind_from.Tie as tie
+
+returns : tie.Need-returns
+unfolding kindFrom
+returns c = rw (eq-eqb _ 1 (c .if1 .taken))
+
+returns-2 : tie.Need-returns-2
+unfolding kindFrom
+returns-2 c = rw (ne-eqb _ 1 (c .if1 .left))
+
+pub kind-from-spec : {M : Type 1} → statement M
+kind-from-spec = tie.close (tie.spec returns returns-2)

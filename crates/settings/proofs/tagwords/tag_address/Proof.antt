@@ -1,0 +1,11 @@
+use Rattle.settings.specs.TagWords.{tagOf}
+use borrow.Author.Needs.{needs}
+use Rattle.settings.proofs.tagwords.tag_address.Statement.{statement}
+use Rattle.settings.proofs.tagwords.tag_address.Tie as tie
+
+returns : tie.Need-returns
+unfolding tagOf
+returns c = search needs
+
+pub tag-address-spec : {M : Type 1} → statement M
+tag-address-spec = tie.close (tie.spec (λ c. search needs) (λ c. search needs) (λ c. search needs) returns)

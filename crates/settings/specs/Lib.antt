@@ -1,0 +1,4 @@
+pub mod Lines
+pub mod Grammar
+pub mod Values
+pub mod TagWords

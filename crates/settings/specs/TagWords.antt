@@ -1,0 +1,43 @@
+-- The word that the state keeps of a tag: its address in the lowest 16 bits, its kind's number in the 8 above them; the rest is free.
+-- Assumes nothing.
+use Prim.Native.Nat.{ℕ, _+_, _*_, _-_, _/_, _%_, _<_, _≤_}
+use mathlib.Core.Bool.{Bool, cond}
+use mathlib.Core.List.{List, [], _∷_}
+use lib.Dec.{eqb}
+use Rattle.laws.specs.Numbers.{addresses}
+use Rattle.bcd.specs.declared.Kind.{Kind}
+use Rattle.bcd.specs.declared.Kind.the-variants.{Width16, Width32}
+use Rattle.bcd.specs.Bcd.{registers}
+use Rattle.settings.specs.Grammar.{Tag}
+
+-- a tag's kind, and a kind's width
+unfoldable pub kindOf : Tag → Kind
+kindOf t = cond (eqb (t .width) 32) Width32 Width16
+
+unfoldable pub widthOf : Kind → ℕ
+widthOf Width16 = 16
+widthOf Width32 = 32
+
+-- the kinds' numbers in a word
+unfoldable pub kindNumber : Kind → ℕ
+kindNumber Width16 = 0
+kindNumber Width32 = 1
+
+unfoldable pub kindFrom : ℕ → Kind
+kindFrom n = cond (eqb n 1) Width32 Width16
+
+-- a tag's word; and the tag of any word
+unfoldable pub wordOf : Tag → ℕ
+wordOf t = t .address + addresses * kindNumber (kindOf t)
+
+unfoldable pub tagOf : ℕ → Tag
+tagOf word = record { address = word % addresses; width = widthOf (kindFrom (word / addresses % 256)) }
+
+-- the last register of a tag
+abbrev pub lastOf : Tag → ℕ
+lastOf t = t .address + registers (kindOf t) - 1
+
+-- every tag lies within the addresses, and above the last register of the tag before it, which may be any below `from`
+unfoldable pub Ascending : ℕ → List Tag → Type 0
+Ascending from [] = Unit {0}
+Ascending from (t ∷ ts) = (from ≤ t .address) × (lastOf t < addresses) × Ascending (lastOf t + 1) ts

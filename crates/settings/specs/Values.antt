@@ -1,0 +1,68 @@
+-- The settings value of the boundary's struct; what reading and writing a text report.
+-- Assumes nothing.
+use Prim.Native.Nat.{ℕ, _+_, _-_}
+use mathlib.Core.Bool.{Bool, true, false, cond, not, _&&_}
+use mathlib.Core.List.{List, [], _∷_, _++_, map}
+use lib.ListN.{length, getD, replicate}
+use lib.Dec.{eqb, ltb}
+use Rattle.laws.specs.Numbers.{mostTags, usualTimeout}
+use Rattle.laws.specs.Lists.{tab}
+use Rattle.laws.specs.Bytes.{over}
+use Rattle.settings.specs.Grammar.Read.{got, wrong}
+use Rattle.settings.specs.Grammar.{Tag, Value, Read, newest, textIn, valid, readText}
+use Rattle.settings.specs.declared.Settings.{Settings}
+use Rattle.settings.specs.declared.ReadText.{ReadText}
+use Rattle.settings.specs.declared.Wrote.{Wrote}
+use Rattle.settings.specs.declared.Wrote.the-variants.{Text, TooShort, Invalid}
+
+-- the listed tags count, and nothing beyond them
+unfoldable pub valueOf : Settings → Value
+valueOf s =
+    record { timeout = s .timeout; join = s .join; tags = tab (s .tags) (λ k. record { address = getD (s .addr) k 0; width = getD (s .width) k 0 }) }
+
+-- places beyond the tags are 0
+abbrev pub padded : List ℕ → List ℕ
+padded ns = ns ++ replicate (mostTags - length ns) 0
+
+unfoldable pub settingsOf : Value → Settings
+settingsOf v =
+    record {
+      timeout = v .timeout;
+      join = v .join;
+      tags = length (v .tags);
+      addr = padded (map (λ (t : Tag). t .address) (v .tags));
+      width = padded (map (λ (t : Tag). t .width) (v .tags));
+    }
+
+-- timeout 3000, join 1, no tags
+abbrev pub usual : Value
+usual = record { timeout = usualTimeout; join = 1; tags = [] }
+
+-- the value with line 0, or the first wrong line with the usual value
+unfoldable pub reported : Read Value → ReadText
+reported (got v r) = record { line = 0; settings = settingsOf v }
+reported (wrong k) = record { line = k; settings = settingsOf usual }
+
+-- two settings values are equal when timeout, join and the listed tags are
+unfoldable pub sameTags : List Tag → List Tag → Bool
+sameTags [] [] = true
+sameTags [] (u ∷ us) = false
+sameTags (t ∷ ts) [] = false
+sameTags (t ∷ ts) (u ∷ us) = eqb (t .address) (u .address) && (eqb (t .width) (u .width) && sameTags ts us)
+
+unfoldable pub same : Value → Value → Bool
+same v w = eqb (v .timeout) (w .timeout) && (eqb (v .join) (w .join) && sameTags (v .tags) (w .tags))
+
+-- writing: refusal 10 for an invalid value whatever the buffer's length, refusal 1 if the text does not fit; the buffer afterwards
+pub record Writing : Type 0 where
+  pub says : Wrote
+  pub buffer : List ℕ
+
+abbrev pub writing : Wrote → List ℕ → Writing
+writing w b = record { says = w; buffer = b }
+
+unfoldable pub writtenTo : Value → List ℕ → Writing
+writtenTo v b =
+    cond (not (valid v)) (writing Invalid b)
+    (cond (ltb (length b) (length (textIn newest v))) (writing TooShort b)
+    (writing (Text (length (textIn newest v))) (over (textIn newest v) b)))
