@@ -1,4 +1,5 @@
 pub mod Choice
+pub mod TestLaws
 pub mod ListLaws
 pub mod FilterLaws
 pub mod SearchLaws
@@ -8,3 +9,5 @@ pub mod CircleLaws
 pub mod BitLaws
 pub mod DigitLaws
 pub mod ByteLaws
+pub mod StoreLaws
+pub mod MemberLaws

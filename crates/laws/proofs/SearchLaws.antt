@@ -9,7 +9,7 @@ use native.Mathlib.Omega.{arith}
 use lib.Dec.{eqb}
 use borrow.Author.Tests.{eq-eqb, ne-eqb, eqb-false, eqb-true}
 use Rattle.laws.specs.Search.{best, first}
-use Rattle.laws.proofs.Choice.{true-or, eq-or, and-left, and-right, or-second, lt-or, or-either}
+use Rattle.laws.proofs.Choice.{true-or, eq-or, and-left, and-right, or-second, lt-or, or-either, lt-or}
 
 module _ (test : ℕ → Bool) (beats : ℕ → ℕ → Bool) (none : ℕ) where
   pub best-wins : (k b : ℕ) → b ≡ best test beats none k → (test k && (eqb b none || beats k b)) ≡ true → k ≡ best test beats none (k + 1)
@@ -174,3 +174,15 @@ best-first test none (suc n) l k h m =
     (best-in test (λ i j. false) none n))
     (lt-or k n))
     (true-or (test n && (eqb b none || false)))
+
+-- and only one number is the first that passes
+pub first-is : (test : ℕ → Bool) (n r : ℕ) → r ≤ n → ((k : ℕ) → k < r → test k ≡ false) → (r < n → test r ≡ true) → r ≡ first test n
+first-is test n r h before here =
+    let l = first-le test n in
+    ⊎-elim
+    (λ (a : r < first test n). absurd (true≢false (sym (here (omega arith)) ∙ first-before test n r a)))
+    (λ (a : first test n ≤ r). ⊎-elim
+    (λ (b : first test n < r). absurd (true≢false (sym (first-here test n (omega arith)) ∙ before (first test n) b)))
+    (λ (b : r ≤ first test n). omega arith)
+    (lt-or (first test n) r))
+    (lt-or r (first test n))

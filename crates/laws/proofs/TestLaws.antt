@@ -1,0 +1,56 @@
+-- Tests that hold, or fail, exactly where a fact does.
+-- Assumes nothing.
+use Prim.Native.Nat.{ℕ, _≤_}
+use mathlib.Core.Path.{_≡_, refl}
+use mathlib.Core.Logic.{_↔_, ⊎-elim, _⊎_, inl, inr}
+use mathlib.Core.Bool.{Bool, true, false, not, _&&_, _||_, false≢true, true≢false}
+use native.Mathlib.Omega.{arith}
+use lib.Dec.{eqb, ltb}
+use borrow.Author.Tests.{ltb-false, le-ltb, eqb-true, eqb-false, eq-eqb, ne-eqb, not-false, not-true}
+use Rattle.laws.proofs.Choice.{and-left, and-right, or-left, or-right}
+
+-- a test holds exactly where two numbers are equal
+pub holds-eq : (a b : ℕ) → (eqb a b ≡ true) ↔ (a ≡ b)
+holds-eq a b = (eqb-true a b, eq-eqb a b)
+
+-- where another test fails, where both of two hold, where one does
+pub holds-not : (t : Bool) → (not t ≡ true) ↔ (t ≡ false)
+holds-not t = (not-true t, λ e. rw e)
+
+pub holds-and : {P Q : Type 0} (s t : Bool) → (s ≡ true) ↔ P → (t ≡ true) ↔ Q → ((s && t) ≡ true) ↔ (P × Q)
+holds-and s t p q = (λ e. (p .0 (and-left s t e), q .0 (and-right s t e)), λ w. rw (p .1 (w .0)) (q .1 (w .1)))
+
+pub holds-or : {P Q : Type 0} (s t : Bool) → (s ≡ true) ↔ P → (t ≡ true) ↔ Q → ((s || t) ≡ true) ↔ (P ⊎ Q)
+holds-or true t p q = (λ e. inl (p .0 refl), λ w. refl)
+holds-or false t p q = (λ e. inr (q .0 e), λ w. ⊎-elim (λ x. absurd (false≢true (p .1 x))) (λ y. q .1 y) w)
+
+-- a test that always holds
+pub holds-always : (true ≡ true) ↔ Unit {0}
+holds-always = (λ e. tt, λ u. refl)
+
+-- a test fails exactly where two numbers are equal, where one is not below the other, where a number is not 0
+pub fails-ne : (a b : ℕ) → (not (eqb a b) ≡ false) ↔ (a ≡ b)
+fails-ne a b = (λ e. eqb-true a b (not-false (eqb a b) e), λ e. rw (eq-eqb a b e))
+
+pub fails-lt : (a b : ℕ) → (ltb a b ≡ false) ↔ (b ≤ a)
+fails-lt a b = (ltb-false a b, le-ltb a b)
+
+pub fails-zero : (n : ℕ) → (eqb n 0 ≡ false) ↔ (1 ≤ n)
+fails-zero n = (λ e. let z = eqb-false n 0 e in omega (arith, z), λ h. ne-eqb n 0 (λ z. omega arith))
+
+-- of both
+pub fails-or : {P Q : Type 0} (s t : Bool) → (s ≡ false) ↔ P → (t ≡ false) ↔ Q → ((s || t) ≡ false) ↔ (P × Q)
+fails-or s t p q = (λ e. (p .0 (or-left s t e), q .0 (or-right s t e)), λ w. rw (p .1 (w .0)) (q .1 (w .1)))
+
+-- a test that never holds
+pub fails-never : (false ≡ false) ↔ Unit {0}
+fails-never = (λ e. tt, λ u. refl)
+
+-- where a test fails exactly where a fact does, the fact holds or not, and where it does not the test holds
+pub either : {P : Type 0} {t : Bool} → (t ≡ false) ↔ P → P ⊎ (P → ⊥)
+either {t = true} w = inr (λ x. true≢false (w .1 x))
+either {t = false} w = inl (w .0 refl)
+
+pub fails-holds : {P : Type 0} {t : Bool} → (t ≡ false) ↔ P → (P → ⊥) → t ≡ true
+fails-holds {t = true} w n = refl
+fails-holds {t = false} w n = absurd (n (w .0 refl))

@@ -1,0 +1,309 @@
+-- What the check of a request comes to, exactly when, by the class of its function; and what is known of a legal request.
+-- Assumes nothing.
+use Prim.Native.Nat.{ℕ, _+_, _*_, _/_, _%_, _≤_, _<_}
+use mathlib.Core.Path.{_≡_, refl, ap, sym, _∙_}
+use mathlib.Core.Logic.{_↔_, Iff·trans, Iff·and, ⊎-elim, _⊎_, inl, inr}
+use mathlib.Core.Bool.{Bool, true, false, cond, not, _||_, false≢true, true≢false}
+use mathlib.Core.List.{List}
+use native.Mathlib.Nat.{mod-eq-of-lt}
+use native.Mathlib.Omega.{arith}
+use lib.Arith.{digits-div, digits-mod}
+use lib.ListN.{length, getD}
+use lib.Dec.{eqb, ltb}
+use borrow.Author.Tests.{ne-eqb}
+use Rattle.laws.specs.Numbers.{readHolding, readInput, writeSingle, writeMultiple, lastFunction, mostRead, mostWritten, shortPdu, multiplePdu, addresses, illegalAddress, illegalValue}
+use Rattle.laws.specs.Bytes.{pairAt}
+use Rattle.laws.proofs.Choice.{eq-or, lt-or}
+use Rattle.wire.specs.Frame.{unitOf, functionOf, pduSize, misframed}
+use Rattle.settings.specs.Grammar.{Value}
+use Rattle.pdu.specs.Requests.{classOf, startOf, quantityOf, byteCountOf, badFunction, badLength, badValue, badAddress, askedBy, askedOf, faultBy, faultOf, checkedBy, checkedOf, legal}
+use Rattle.pdu.specs.Replies.{what}
+use Rattle.pdu.specs.Words.{kept, keptIn, Lawful, Proper}
+use Rattle.pdu.specs.declared.Class.{Class}
+use Rattle.pdu.specs.declared.Class.the-variants.{Reads, WritesOne, WritesMany, Others}
+use Rattle.pdu.specs.declared.Asked.{Asked}
+use Rattle.pdu.specs.declared.Asked.the-variants.{Read, SingleWrite, MultipleWrite, Other}
+use Rattle.pdu.specs.declared.Checked.{Checked}
+use Rattle.pdu.specs.declared.Checked.the-variants.{BadFunction, BadLength, Excepted, Legal}
+use Rattle.laws.proofs.TestLaws.{holds-eq, holds-not, holds-and, holds-or, fails-ne, fails-lt, fails-zero, fails-or, fails-never, fails-holds, either}
+
+-- a function that is not refused is 1 to 127
+abbrev pub Known : ℕ → Type 0
+Known n = (1 ≤ n) × (n ≤ lastFunction)
+
+-- the PDU's size is right
+abbrev pub Sized : Class → List ℕ → Type 0
+Sized Reads f = pduSize f ≡ shortPdu
+Sized WritesOne f = pduSize f ≡ shortPdu
+Sized WritesMany f = (multiplePdu ≤ pduSize f) × (pduSize f ≡ multiplePdu + byteCountOf f)
+Sized Others f = Unit {0}
+
+-- the quantity is right, and 16's byte count is twice the quantity
+abbrev pub Valued : Class → List ℕ → Type 0
+Valued Reads f = (1 ≤ quantityOf f) × (quantityOf f ≤ mostRead)
+Valued WritesOne f = Unit {0}
+Valued WritesMany f = (1 ≤ quantityOf f) × ((quantityOf f ≤ mostWritten) × (byteCountOf f ≡ 2 * quantityOf f))
+Valued Others f = Unit {0}
+
+-- the range ends within the addresses
+abbrev pub Ranged : Class → List ℕ → Type 0
+Ranged Reads f = startOf f + quantityOf f ≤ addresses
+Ranged WritesOne f = Unit {0}
+Ranged WritesMany f = startOf f + quantityOf f ≤ addresses
+Ranged Others f = Unit {0}
+
+-- what the check of a request comes to, and when
+abbrev pub classIn : List ℕ → Class
+classIn f = classOf (functionOf f)
+
+pub data Outcome (f : List ℕ) : Checked → Type 0 where
+  unknown : (Known (functionOf f) → ⊥) → Outcome f BadFunction
+  missized : Known (functionOf f) → (Sized (classIn f) f → ⊥) → Outcome f BadLength
+  misvalued : Known (functionOf f) → Sized (classIn f) f → (Valued (classIn f) f → ⊥) → Outcome f (Excepted 3)
+  misranged : Known (functionOf f) → Sized (classIn f) f → Valued (classIn f) f → (Ranged (classIn f) f → ⊥) → Outcome f (Excepted 2)
+  fine : Known (functionOf f) → Sized (classIn f) f → Valued (classIn f) f → Ranged (classIn f) f → Outcome f (Legal (askedOf f))
+
+-- Refusal 5 fails exactly for 1 to 127.
+pub known : (n : ℕ) → (badFunction n ≡ false) ↔ Known n
+unfolding badFunction
+known n = fails-or (eqb n 0) (ltb lastFunction n) (fails-zero n) (fails-lt lastFunction n)
+
+-- Refusal 6 fails exactly where the size is right.
+pub sized : (c : Class) (f : List ℕ) → (badLength c f ≡ false) ↔ Sized c f
+unfolding badLength
+sized Reads f = fails-ne (pduSize f) shortPdu
+sized WritesOne f = fails-ne (pduSize f) shortPdu
+sized WritesMany f =
+    fails-or (ltb (pduSize f) multiplePdu) (not (eqb (pduSize f) (multiplePdu + byteCountOf f)))
+    (fails-lt (pduSize f) multiplePdu)
+    (fails-ne (pduSize f) (multiplePdu + byteCountOf f))
+sized Others f = fails-never
+
+-- Exception 03 fails exactly where the numbers are right.
+pub valued : (c : Class) (f : List ℕ) → (badValue c f ≡ false) ↔ Valued c f
+unfolding badValue
+valued Reads f = fails-or (eqb (quantityOf f) 0) (ltb mostRead (quantityOf f)) (fails-zero (quantityOf f)) (fails-lt mostRead (quantityOf f))
+valued WritesOne f = fails-never
+valued WritesMany f =
+    fails-or (eqb (quantityOf f) 0) (ltb mostWritten (quantityOf f) || not (eqb (byteCountOf f) (2 * quantityOf f)))
+    (fails-zero (quantityOf f))
+    (fails-or (ltb mostWritten (quantityOf f)) (not (eqb (byteCountOf f) (2 * quantityOf f))) (fails-lt mostWritten (quantityOf f)) (fails-ne (byteCountOf f) (2 * quantityOf f)))
+valued Others f = fails-never
+
+-- Exception 02 fails exactly where the range ends within the addresses.
+pub ranged : (c : Class) (f : List ℕ) → (badAddress c f ≡ false) ↔ Ranged c f
+unfolding badAddress
+ranged Reads f = fails-lt addresses (startOf f + quantityOf f)
+ranged WritesOne f = fails-never
+ranged WritesMany f = fails-lt addresses (startOf f + quantityOf f)
+ranged Others f = fails-never
+
+-- Refusal 6 comes before the exceptions.
+pub checked-missized : (c : Class) (f : List ℕ) → badLength c f ≡ true → checkedBy c f ≡ BadLength
+unfolding checkedBy
+checked-missized c f e = rw e
+
+-- the code of a fault as an outcome
+flat : (v a : Bool) (x : Asked) → cond (eqb (cond v illegalValue (cond a illegalAddress 0)) 0) (Legal x) (Excepted (cond v illegalValue (cond a illegalAddress 0))) ≡ cond v (Excepted illegalValue) (cond a (Excepted illegalAddress) (Legal x))
+flat true a x = refl
+flat false true x = refl
+flat false false x = refl
+
+-- Behind refusal 6 exception 03 comes before exception 02, and a request that has neither is legal.
+pub checked-sized : (c : Class) (f : List ℕ) → badLength c f ≡ false → checkedBy c f ≡ cond (badValue c f) (Excepted illegalValue) (cond (badAddress c f) (Excepted illegalAddress) (Legal (askedBy c f)))
+unfolding checkedBy
+checked-sized c f e = rw e (flat (badValue c f) (badAddress c f) (askedBy c f))
+
+-- A request of any other function is legal, whatever it holds.
+pub checked-other : (f : List ℕ) → checkedBy Others f ≡ Legal Other
+unfolding checkedBy badLength badValue badAddress askedBy
+checked-other f = refl
+
+-- Refusal 5 comes before all else.
+pub checked-unknown : {n : ℕ} (f : List ℕ) → n ≡ functionOf f → (eqb n 0 || ltb lastFunction n) ≡ true → checkedOf f ≡ BadFunction
+unfolding checkedOf badFunction
+checked-unknown f e t = rw (rw e at t)
+
+-- Behind refusal 5 the class of the function decides.
+pub checked-class : (c : Class) {n : ℕ} {k : Class} (f : List ℕ) → n ≡ functionOf f → (eqb n 0 || ltb lastFunction n) ≡ false → k ≡ classOf n → k ≡ c → checkedOf f ≡ checkedBy c f
+unfolding checkedOf badFunction
+checked-class c f e t g h = rw (rw e at t) (rw (sym (rw e at g) ∙ h) refl)
+
+-- 03 and 04 are reads.
+pub class-read : (n : ℕ) → (n ≡ 3) ⊎ (n ≡ 4) → classOf n ≡ Reads
+unfolding classOf
+class-read n w = rw (holds-or (eqb n readHolding) (eqb n readInput) (holds-eq n readHolding) (holds-eq n readInput) .1 w)
+
+-- 06 is the single write.
+pub class-single : classOf 6 ≡ WritesOne
+unfolding classOf
+class-single = refl
+
+-- 16 is the multiple write.
+pub class-multiple : classOf 16 ≡ WritesMany
+unfolding classOf
+class-multiple = refl
+
+-- Every other function is looked into no further.
+pub class-other : (n : ℕ) → (n ≡ 3 → ⊥) → (n ≡ 4 → ⊥) → (n ≡ 6 → ⊥) → (n ≡ 16 → ⊥) → classOf n ≡ Others
+unfolding classOf
+class-other n a b c d = simp (ne-eqb n readHolding a, ne-eqb n readInput b, ne-eqb n writeSingle c, ne-eqb n writeMultiple d)
+
+-- every request has an outcome
+some-outcome : (f : List ℕ) → (x : Checked) × Outcome f x
+some-outcome f =
+    ⊎-elim
+    (λ k. ⊎-elim
+    (λ s. ⊎-elim
+    (λ v. ⊎-elim (λ r. (Legal (askedOf f), fine k s v r)) (λ r. (Excepted 2, misranged k s v r)) (either (ranged (classIn f) f)))
+    (λ v. (Excepted 3, misvalued k s v))
+    (either (valued (classIn f) f)))
+    (λ s. (BadLength, missized k s))
+    (either (sized (classIn f) f)))
+    (λ k. (BadFunction, unknown k))
+    (either (known (functionOf f)))
+
+-- and it is the one that the check comes to
+the-outcome : (f : List ℕ) (x : Checked) → Outcome f x → checkedOf f ≡ x
+unfolding checkedOf
+the-outcome f x (unknown k) = rw (fails-holds (known (functionOf f)) k)
+the-outcome f x (missized k s) = rw (known (functionOf f) .1 k) (checked-missized (classIn f) f (fails-holds (sized (classIn f) f) s))
+the-outcome f x (misvalued k s v) =
+    rw (known (functionOf f) .1 k) (checked-sized (classIn f) f (sized (classIn f) f .1 s) ∙ rw (fails-holds (valued (classIn f) f) v) refl)
+the-outcome f x (misranged k s v r) =
+    rw (known (functionOf f) .1 k)
+    (checked-sized (classIn f) f (sized (classIn f) f .1 s) ∙ rw (valued (classIn f) f .1 v) (rw (fails-holds (ranged (classIn f) f) r) refl))
+the-outcome f x (fine k s v r) =
+    rw (known (functionOf f) .1 k)
+    (checked-sized (classIn f) f (sized (classIn f) f .1 s) ∙ rw (valued (classIn f) f .1 v) (rw (ranged (classIn f) f .1 r) refl))
+
+-- The check of a request comes to an outcome exactly when that is the request's.
+pub check-exact : (f : List ℕ) (x : Checked) → (checkedOf f ≡ x) ↔ Outcome f x
+check-exact f x = (λ e. rw (sym e ∙ the-outcome f (some-outcome f .0) (some-outcome f .1)) (some-outcome f .1), the-outcome f x)
+
+-- Refusal 5 is given for function 0 and for 128 to 255, and for no other.
+pub bad-function-exact : (f : List ℕ) → functionOf f < 256 → (checkedOf f ≡ BadFunction) ↔ ((functionOf f ≡ 0) ⊎ ((128 ≤ functionOf f) × (functionOf f ≤ 255)))
+bad-function-exact f b = (λ e. out (check-exact f BadFunction .0 e), λ w. check-exact f BadFunction .1 (unknown (λ k. ⊎-elim (λ z. omega arith) (λ z. omega (arith, z)) w)))
+  where
+    out : Outcome f BadFunction → (functionOf f ≡ 0) ⊎ ((128 ≤ functionOf f) × (functionOf f ≤ 255))
+    out (unknown k) = ⊎-elim (λ z. inl z) (λ z. inr (⊎-elim (λ l. absurd (k (omega (arith, z), omega arith))) (λ l. (l, omega arith)) (lt-or (functionOf f) 128))) (eq-or (functionOf f) 0)
+
+-- The exceptions are 03 and 02, and no other.
+pub excepted-codes : (f : List ℕ) (code : ℕ) → checkedOf f ≡ Excepted code → (code ≡ 3) ⊎ (code ≡ 2)
+excepted-codes f code e = codes (check-exact f (Excepted code) .0 e)
+  where
+    codes : {n : ℕ} → Outcome f (Excepted n) → (n ≡ 3) ⊎ (n ≡ 2)
+    codes (misvalued k s v) = inl refl
+    codes (misranged k s v r) = inr refl
+
+-- what each outcome tells of the definition's tests
+abbrev pub Tested : List ℕ → Checked → Type 0
+Tested f BadFunction = badFunction (functionOf f) ≡ true
+Tested f BadLength = (badFunction (functionOf f) ≡ false) × (badLength (classIn f) f ≡ true)
+Tested f (Excepted code) = (badFunction (functionOf f) ≡ false) × (badLength (classIn f) f ≡ false) × (faultOf f ≡ code) × (eqb (faultOf f) 0 ≡ false)
+Tested f (Legal a) = (badFunction (functionOf f) ≡ false) × (badLength (classIn f) f ≡ false) × (faultOf f ≡ 0) × (a ≡ askedOf f)
+
+tests-of : (f : List ℕ) {x : Checked} → Outcome f x → Tested f x
+unfolding faultOf
+tests-of f (unknown k) = fails-holds (known (functionOf f)) k
+tests-of f (missized k s) = (known (functionOf f) .1 k, fails-holds (sized (classIn f) f) s)
+tests-of f (misvalued k s v) =
+    let e : faultOf f ≡ 3 = rw (fails-holds (valued (classIn f) f) v) in
+    (known (functionOf f) .1 k, sized (classIn f) f .1 s, e, rw e)
+tests-of f (misranged k s v r) =
+    let e : faultOf f ≡ 2 = rw (valued (classIn f) f .1 v) (rw (fails-holds (ranged (classIn f) f) r) refl) in
+    (known (functionOf f) .1 k, sized (classIn f) f .1 s, e, rw e)
+tests-of f (fine k s v r) =
+    let e : faultOf f ≡ 0 = rw (valued (classIn f) f .1 v) (rw (ranged (classIn f) f .1 r) refl) in
+    (known (functionOf f) .1 k, sized (classIn f) f .1 s, e, refl)
+
+-- The outcome of the check tells the value of each test of the definition.
+pub check-tests : (f : List ℕ) → Tested f (checkedOf f)
+check-tests f = tests-of f (check-exact f (checkedOf f) .0 refl)
+
+-- what is known of a legal request
+pub record Passed (f : List ℕ) (a : Asked) : Type 0 where
+  pub function : Known (functionOf f)
+  pub size : Sized (classIn f) f
+  pub value : Valued (classIn f) f
+  pub range : Ranged (classIn f) f
+  pub asks : a ≡ askedOf f
+
+-- A legal request passed every check, and asks what its frame says.
+pub legal-passed : (f : List ℕ) (a : Asked) → checkedOf f ≡ Legal a → Passed f a
+legal-passed f a e = facts (check-exact f (Legal a) .0 e)
+  where
+    facts : {x : Asked} → Outcome f (Legal x) → Passed f x
+    facts (fine k s v r) = record { function = k; size = s; value = v; range = r; asks = refl }
+
+no-fault : (v a : Bool) → (eqb (cond v illegalValue (cond a illegalAddress 0)) 0 ≡ true) ↔ ((v ≡ false) × (a ≡ false))
+no-fault true a = (λ e. absurd (false≢true e), λ w. absurd (true≢false (w .0)))
+no-fault false true = (λ e. absurd (false≢true e), λ w. absurd (true≢false (w .1)))
+no-fault false false = (λ e. (refl, refl), λ w. refl)
+
+-- A frame is legal exactly where it is not refused as a frame and every check of its class passes.
+pub legal-exact : (s : Value) (f : List ℕ) → (legal s f ≡ true) ↔ ((misframed f ≡ false) × (Known (functionOf f) × (Sized (classIn f) f × (Valued (classIn f) f × Ranged (classIn f) f))))
+unfolding legal faultOf
+legal-exact s f =
+    let c = classIn f in
+    holds-and (not (misframed f)) _ (holds-not (misframed f))
+    (holds-and (not (badFunction (functionOf f))) _ (Iff·trans (holds-not (badFunction (functionOf f))) (known (functionOf f)))
+    (holds-and (not (badLength c f)) (eqb (faultBy c f) 0) (Iff·trans (holds-not (badLength c f)) (sized c f))
+    (Iff·trans (no-fault (badValue c f) (badAddress c f)) (Iff·and (valued c f) (ranged c f)))))
+
+-- A frame is legal exactly where it is not refused as a frame and its check comes to what it asks.
+pub legal-checked : (s : Value) (f : List ℕ) → (legal s f ≡ true) ↔ ((misframed f ≡ false) × (checkedOf f ≡ Legal (askedOf f)))
+legal-checked s f = (
+  λ e. let w = legal-exact s f .0 e in (w .0, the-outcome f (Legal (askedOf f)) (fine (w .1 .0) (w .1 .1 .0) (w .1 .1 .1 .0) (w .1 .1 .1 .1))),
+  λ w. let p = legal-passed f (askedOf f) (w .1) in legal-exact s f .1 (w .0, (p .function, (p .size, (p .value, p .range)))),
+)
+
+-- the bytes that a legal request has
+abbrev pub RequestRoom : Asked → List ℕ → Type 0
+RequestRoom (Read s q) f = 12 ≡ length f
+RequestRoom (SingleWrite a) f = 12 ≡ length f
+RequestRoom (MultipleWrite s q) f = 13 + 2 * q ≡ length f
+RequestRoom Other f = Unit {0}
+
+room-by : (c : Class) (f : List ℕ) → Sized c f → Valued c f → RequestRoom (askedBy c f) f
+unfolding askedBy
+room-by Reads f h v = omega arith
+room-by WritesOne f h v = omega arith
+room-by WritesMany f h v = omega (arith, h, v)
+room-by Others f h v = tt
+
+-- A legal request has exactly the bytes that what it asks calls for.
+pub legal-room : (f : List ℕ) (a : Asked) → checkedOf f ≡ Legal a → RequestRoom a f
+legal-room f a e = let p = legal-passed f a e in rw (p .asks) (room-by (classIn f) f (p .size) (p .value))
+
+-- numbers of 16 bits, of bytes
+pair-low : (f : List ℕ) (k : ℕ) → ((j : ℕ) → getD f j 0 < 256) → pairAt f k < 65536
+pair-low f k b = omega (arith, b k, b (k + 1))
+
+first-field : {s q : ℕ} → s < 65536 → q < 65536 → (s * 65536 + q) / 65536 % 65536 ≡ s
+first-field {s} h l = rw (digits-div s l) (mod-eq-of-lt h)
+
+kept-back : (c : Class) (f : List ℕ) → ((k : ℕ) → getD f k 0 < 256) → keptIn c (kept (askedBy c f)) ≡ askedBy c f
+unfolding keptIn kept askedBy
+kept-back Reads f b = rw (first-field (pair-low f 8 b) (pair-low f 10 b), digits-mod (startOf f) (pair-low f 10 b))
+kept-back WritesOne f b = ap SingleWrite (omega (arith, pair-low f 8 b))
+kept-back WritesMany f b = rw (first-field (pair-low f 8 b) (pair-low f 10 b), digits-mod (startOf f) (pair-low f 10 b))
+kept-back Others f b = refl
+
+lawful-by : (c : Class) (f : List ℕ) → ((k : ℕ) → getD f k 0 < 256) → Valued c f → Ranged c f → Lawful (askedBy c f)
+unfolding Lawful askedBy
+lawful-by Reads f b v r = (v .0, v .1, r)
+lawful-by WritesOne f b v r = pair-low f 8 b
+lawful-by WritesMany f b v r = (v .0, v .1 .0, r)
+lawful-by Others f b v r = tt
+
+-- What a legal request of bytes asks may stand in a live entry.
+pub legal-proper : (f : List ℕ) (a : Asked) → ((k : ℕ) → getD f k 0 < 256) → checkedOf f ≡ Legal a → Proper (what (unitOf f) (functionOf f) a)
+legal-proper f a b e =
+    let p = legal-passed f a e in
+    rw (p .asks) (record {
+      unit = b 6;
+      function = known (functionOf f) .1 (p .function);
+      class = kept-back (classIn f) f b;
+      lawful = lawful-by (classIn f) f b (p .value) (p .range);
+    })

@@ -1,0 +1,16 @@
+-- `pdu::answers` meets its contract: the definition's tests on what was read and on what the two checks say.
+-- Assumes nothing.
+use Rattle.pdu.specs.Replies.{answering}
+use borrow.Author.Needs.{needs}
+use Rattle.pdu.proofs.answers.Statement.{statement}
+use Rattle.pdu.proofs.answers.Tie as tie
+
+returns : tie.Need-returns
+unfolding answering
+returns c =
+    let unit = c .before in
+    let shaped = unit .before in
+    rw (c .byte-at2 .ensures, unit .byte-at .ensures, shaped .is-shaped .ensures, shaped .before .is-exception .ensures)
+
+pub answers-spec : {M : Type 1} → statement M
+answers-spec = tie.close (tie.spec (λ c κs. search needs) (λ c κs. search needs) (λ c κs. search needs) (λ c κs. search needs) returns)

@@ -1,0 +1,43 @@
+-- What answers a request: a reply frame held against what was asked.
+-- Assumes nothing.
+use Prim.Native.Nat.{ℕ, _+_, _*_}
+use mathlib.Core.Bool.{Bool, true, _&&_, _||_}
+use mathlib.Core.List.{List}
+use lib.ListN.{getD}
+use lib.Dec.{eqb}
+use Rattle.laws.specs.Numbers.{shortPdu, exceptionPdu, exceptionBit}
+use Rattle.wire.specs.Frame.{unitOf, functionOf, pduSize}
+use Rattle.pdu.specs.Requests.{startOf, quantityOf}
+use Rattle.pdu.specs.declared.Asked.{Asked}
+use Rattle.pdu.specs.declared.Asked.the-variants.{Read, SingleWrite, MultipleWrite, Other}
+
+-- what a live entry keeps of its request
+pub record What : Type 0 where
+  pub unit : ℕ
+  pub function : ℕ
+  pub asked : Asked
+
+abbrev pub what : ℕ → ℕ → Asked → What
+what u f a = record { unit = u; function = f; asked = a }
+
+-- a reply's byte count to 03 and 04
+abbrev pub replyCountOf : List ℕ → ℕ
+replyCountOf f = getD f 8 0
+
+-- the shape of a reply of the same function. 03, 04: byte count 2 × quantity, PDU 2 + 2 × quantity; 06: 5 bytes, same address; 16: 5 bytes, same start and
+-- quantity; other: anything
+unfoldable pub shaped : Asked → List ℕ → Bool
+shaped (Read s q) f = eqb (replyCountOf f) (2 * q) && eqb (pduSize f) (2 + 2 * q)
+shaped (SingleWrite a) f = eqb (pduSize f) shortPdu && eqb (startOf f) a
+shaped (MultipleWrite s q) f = eqb (pduSize f) shortPdu && (eqb (startOf f) s && eqb (quantityOf f) q)
+shaped Other f = true
+
+-- an exception reply: function + 128 with a PDU of 2 bytes
+abbrev pub excepts : ℕ → List ℕ → Bool
+excepts function f = eqb (functionOf f) (function + exceptionBit) && eqb (pduSize f) exceptionPdu
+
+-- the unit is equal, and the frame is an exception reply, or the function is equal and the shape is right
+unfoldable pub answering : What → List ℕ → Bool
+answering w f =
+    eqb (unitOf f) (w .unit)
+    && (excepts (w .function) f || (eqb (functionOf f) (w .function) && shaped (w .asked) f))

@@ -1,0 +1,55 @@
+-- What was asked as one word: unit and function in the highest 16 bits, and 48 bits for what the function's class keeps.
+-- Assumes nothing.
+use Prim.Native.Nat.{ℕ, _+_, _*_, _/_, _%_, _≤_, _<_}
+use mathlib.Core.Path.{_≡_}
+use mathlib.Core.Bool.{false}
+use Rattle.laws.specs.Numbers.{mostRead, mostWritten, addresses}
+use Rattle.pdu.specs.Requests.{classOf, badFunction}
+use Rattle.pdu.specs.declared.Class.{Class}
+use Rattle.pdu.specs.declared.Class.the-variants.{Reads, WritesOne, WritesMany, Others}
+use Rattle.pdu.specs.Replies.{What, what}
+use Rattle.pdu.specs.declared.Asked.{Asked}
+use Rattle.pdu.specs.declared.Asked.the-variants.{Read, SingleWrite, MultipleWrite, Other}
+use Rattle.pdu.specs.declared.ProxyId.{ProxyId}
+use Rattle.pdu.specs.declared.Entry.{Entry}
+
+-- what a class keeps, in 48 bits; and back
+unfoldable pub kept : Asked → ℕ
+kept (Read s q) = s * 65536 + q
+kept (SingleWrite a) = a * 65536
+kept (MultipleWrite s q) = s * 65536 + q
+kept Other = 0
+
+unfoldable pub keptIn : Class → ℕ → Asked
+keptIn Reads n = Read (n / 65536 % 65536) (n % 65536)
+keptIn WritesOne n = SingleWrite (n / 65536 % 65536)
+keptIn WritesMany n = MultipleWrite (n / 65536 % 65536) (n % 65536)
+keptIn Others n = Other
+
+unfoldable pub wordOf : What → ℕ
+wordOf w = (w .unit * 256 + w .function) * 281474976710656 + kept (w .asked)
+
+unfoldable pub whatOf : ℕ → What
+whatOf n =
+    what (n / 281474976710656 / 256 % 256) (n / 281474976710656 % 256) (keptIn (classOf (n / 281474976710656 % 256)) (n % 281474976710656))
+
+-- what an entry keeps of its request, and the entry that a word makes with an id and a deadline
+abbrev pub whatIn : Entry → What
+whatIn e = what (e .unit) (e .function) (e .asked)
+
+unfoldable pub entryOf : ProxyId → ℕ → ℕ → Entry
+entryOf id n d = record { id = id; unit = whatOf n .unit; function = whatOf n .function; asked = whatOf n .asked; deadline = d }
+
+-- what a legal request asks: quantities and ranges within the bounds
+unfoldable pub Lawful : Asked → Type 0
+Lawful (Read s q) = (1 ≤ q) × (q ≤ mostRead) × (s + q ≤ addresses)
+Lawful (SingleWrite a) = a < addresses
+Lawful (MultipleWrite s q) = (1 ≤ q) × (q ≤ mostWritten) × (s + q ≤ addresses)
+Lawful Other = Unit {0}
+
+-- what a live entry may hold: a unit, a function that is not refused, and what that function's class keeps, within the bounds
+pub record Proper (w : What) : Type 0 where
+  pub unit : w .unit < 256
+  pub function : badFunction (w .function) ≡ false
+  pub class : keptIn (classOf (w .function)) (kept (w .asked)) ≡ w .asked
+  pub lawful : Lawful (w .asked)

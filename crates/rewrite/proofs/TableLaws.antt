@@ -1,0 +1,232 @@
+-- Every tag over a run of registers in a buffer, one after the other; tags outside the run may be left out.
+-- Assumes nothing.
+use Prim.Native.Nat.{ℕ, _+_, _*_, _-_, _≤_, _<_}
+use mathlib.Core.Path.{_≡_, refl, ap, sym, _∙_}
+use mathlib.Core.Logic.{⊎-elim}
+use mathlib.Core.Bool.{Bool, true, false, or-true}
+use mathlib.Core.List.{List, [], _∷_, _++_, map, map-append, List·Memᴰ, List·Memᴰ·head, List·Memᴰ·tail}
+use native.Mathlib.Nat.{add-zero, zero-add}
+use native.Mathlib.Numerals.{add-one}
+use native.Mathlib.Omega.{arith}
+use lib.ListN.{length, getD, take, drop, length-append, length-map, length-take, List·getD-map}
+use lib.Seq.{take-suc, take-add, getD-take, getD-drop, length-take-le}
+use lib.Dec.{ltb}
+use borrow.Author.Tests.{lt-ltb, le-leb, lt-leb, leb-false}
+use Rattle.laws.specs.Lists.{filter}
+use Rattle.laws.specs.Search.{first}
+use Rattle.laws.proofs.Choice.{lt-or}
+use Rattle.laws.proofs.FilterLaws.{filter-append, filter-none}
+use Rattle.laws.proofs.SearchLaws.{first-before}
+use Rattle.settings.specs.Grammar.{Tag}
+use Rattle.settings.specs.TagWords.{tagOf, lastOf, Ascending}
+use Rattle.rewrite.specs.declared.Way.{Way}
+use Rattle.rewrite.specs.Registers.{registersAt, laidAt}
+use Rattle.rewrite.specs.Rewriting.{Verdict, isRawPartial, isRawValue, verdict, laidBy, rewrittenFrom, rewritten, partials, values, Rewritten, outcome, rewriting}
+use Rattle.rewrite.specs.Rewriting.Verdict.{outside}
+use Rattle.rewrite.specs.Lent.{tagsOf, TagWords, reaches}
+use Rattle.laws.proofs.MemberLaws.{mem-place}
+use Rattle.rewrite.proofs.RegisterLaws.{length-registers, registers-below, registers-laid, laid-registers, laid-laid}
+use Rattle.rewrite.proofs.OrderLaws.{first-last, ascending-front, ascending-across, ascending-at}
+use Rattle.rewrite.proofs.VerdictLaws.{verdict-outside, verdict-own}
+use Rattle.rewrite.proofs.RunLaws.{length-rewritten, below-rewritten, own-same, counts-most}
+
+-- one list of tags after another
+module _ (way : Way) (start : ℕ) (came : List ℕ) where
+  from-append : (ts us : List Tag) (rs : List ℕ) → rewrittenFrom way start came (ts ++ us) rs ≡ rewrittenFrom way start came us (rewrittenFrom way start came ts rs)
+  unfolding rewrittenFrom
+  from-append [] us rs = refl
+  from-append (t ∷ ts) us rs = from-append ts us (laidBy (verdict way start came t) (t .address - start) rs)
+
+  partials-append : (ts us : List Tag) → partials way start (ts ++ us) came ≡ partials way start ts came + partials way start us came
+  unfolding partials
+  partials-append ts us = let p : Tag → Bool = λ t. isRawPartial (verdict way start came t) in rw (filter-append p ts us) (length-append (filter p ts) (filter p us))
+
+  values-append : (ts us : List Tag) → values way start (ts ++ us) came ≡ values way start ts came + values way start us came
+  unfolding values
+  values-append ts us = let p : Tag → Bool = λ t. isRawValue (verdict way start came t) in rw (filter-append p ts us) (length-append (filter p ts) (filter p us))
+
+  -- tags outside do nothing and count nowhere
+  module _ (us : List Tag) (out : (u : Tag) → List·Memᴰ u us → verdict way start came u ≡ outside) where
+    partials-idle : partials way start us came ≡ 0
+    unfolding partials
+    partials-idle = ap length (filter-none (λ t. isRawPartial (verdict way start came t)) us (λ u m. ap isRawPartial (out u m)))
+
+    values-idle : values way start us came ≡ 0
+    unfolding values
+    values-idle = ap length (filter-none (λ t. isRawValue (verdict way start came t)) us (λ u m. ap isRawValue (out u m)))
+
+  from-idle : (us : List Tag) (rs : List ℕ) → ((u : Tag) → List·Memᴰ u us → verdict way start came u ≡ outside) → rewrittenFrom way start came us rs ≡ rs
+  unfolding rewrittenFrom laidBy
+  from-idle [] rs out = refl
+  from-idle (u ∷ us) rs out = rw (out u (List·Memᴰ·head refl)) (from-idle us rs (λ v m. out v (List·Memᴰ·tail m)))
+
+  -- one tag alone, over other registers that give it the same verdict
+  alone : (rs : List ℕ) (t : Tag) → verdict way start rs t ≡ verdict way start came t
+      → (partials way start (t ∷ []) rs ≡ partials way start (t ∷ []) came) × (values way start (t ∷ []) rs ≡ values way start (t ∷ []) came) × (rewritten way start (t ∷ []) rs ≡ rewrittenFrom way start came (t ∷ []) rs)
+  unfolding partials values filter rewrittenFrom
+  alone rs t e = (rw e, rw e, rw e)
+
+-- what two rewritings, the second over what the first left, come to
+abbrev pub andThen : Rewritten → Rewritten → Rewritten
+andThen x y = outcome (x .partial + y .partial) (x .value + y .value) (y .bytes)
+
+module _ (way : Way) (base start q : ℕ) (d : List ℕ) where
+  abbrev run : List ℕ
+  run = registersAt base q d
+
+  -- Tags behind that lie outside the run change nothing.
+  pub idle-behind : (ts us : List Tag) → ((u : Tag) → List·Memᴰ u us → verdict way start run u ≡ outside)
+      → rewriting way base start q (ts ++ us) d ≡ rewriting way base start q ts d
+  unfolding rewriting
+  idle-behind ts us out =
+      rw (
+        partials-append way start run ts us,
+        values-append way start run ts us,
+        from-append way start run ts us run,
+        partials-idle way start run us out,
+        values-idle way start run us out,
+        from-idle way start run us (rewritten way start ts run) out,
+        add-zero (partials way start ts run),
+        add-zero (values way start ts run),
+      )
+
+  module _ (bytes : (i : ℕ) → getD d i 0 < 256) where
+    -- Without tags nothing changes.
+    pub idle-none : rewriting way base start q [] d ≡ outcome 0 0 d
+    unfolding rewriting partials values filter rewrittenFrom
+    idle-none = ap (outcome 0 0) (laid-registers base q d bytes)
+
+    module _ (room : base + 2 * q ≤ length d) (ts : List Tag) where
+      -- The registers of a buffer that was rewritten are the registers rewritten.
+      pub registers-after : registersAt base q (rewriting way base start q ts d .bytes) ≡ rewritten way start ts run
+      unfolding rewriting
+      registers-after =
+          let l : length (rewritten way start ts run) ≡ q = length-rewritten way start ts run ∙ length-registers base q d in
+          rw l at (registers-laid base (rewritten way start ts run) d (omega arith) (below-rewritten way start ts run (registers-below base q d bytes)))
+
+      -- One more tag is that tag alone over the buffer as it is by then, with both counts added.
+      pub one-more : (t : Tag) (from : ℕ) → Ascending from (ts ++ (t ∷ []))
+          → rewriting way base start q (ts ++ (t ∷ [])) d ≡ andThen (rewriting way base start q ts d) (rewriting way base start q (t ∷ []) (rewriting way base start q ts d .bytes))
+      unfolding rewriting
+      one-more t from asc =
+          let rs = rewritten way start ts run in
+          let v : verdict way start rs t ≡ verdict way start run t =
+          verdict-own way start rs run t (length-rewritten way start ts run) (λ w.
+          own-same way start ts run t (rw (length-rewritten way start ts run) at w) (λ u ws x m e h g.
+          omega (arith, ascending-across from ts (t ∷ []) u t asc m (List·Memᴰ·head refl), h .0, g .1))) in
+          let a = alone way start run rs t v in
+          rw (
+            registers-after,
+            laid-laid base rs (rewritten way start (t ∷ []) rs) d (sym (length-rewritten way start (t ∷ []) rs)),
+            partials-append way start run ts (t ∷ []),
+            values-append way start run ts (t ∷ []),
+            from-append way start run ts (t ∷ []) run,
+            a .0,
+            a .1,
+            a .2,
+          )
+
+-- TAG WORDS, AND THE LOOPS OVER THEM
+
+-- one word more, and the words from a place on
+tags-more : (words : List ℕ) (i : ℕ) → i < length words → tagsOf (i + 1) words ≡ tagsOf i words ++ (tagOf (getD words i 0) ∷ [])
+tags-more words i h = rw (add-one i, take-suc words i 0 h) (map-append tagOf (take i words) (getD words i 0 ∷ []))
+
+tags-split : (words : List ℕ) (i m : ℕ) → tagsOf (i + m) words ≡ tagsOf i words ++ map tagOf (take m (drop i words))
+tags-split words i m = rw (take-add i m words) (map-append tagOf (take i words) (take m (drop i words)))
+
+-- the tag at a place, and the place of a tag
+tag-at : (words : List ℕ) (n i : ℕ) → i < n → getD (tagsOf n words) i (tagOf 0) ≡ tagOf (getD words i 0)
+tag-at words n i h = List·getD-map tagOf (take n words) i 0 ∙ ap tagOf (getD-take n words i 0 h)
+
+tag-place : (words : List ℕ) (i m : ℕ) (t : Tag) → List·Memᴰ t (map tagOf (take m (drop i words))) → (k : ℕ) × (k < m) × (t ≡ tagOf (getD words (i + k) 0))
+tag-place words i m t e =
+    let s = mem-place t (tagOf 0) (map tagOf (take m (drop i words))) e in
+    let k = s .0 in
+    let l : k < m = omega (arith, s .1, length-map (take m (drop i words)) tagOf, length-take m (drop i words)) in
+    (k, l, s .2 ∙ List·getD-map tagOf (take m (drop i words)) k 0 ∙ ap tagOf (getD-take m (drop i words) k 0 l ∙ getD-drop i words k 0))
+
+module _ (n : ℕ) (words : List ℕ) (w : TagWords n words) where
+  length-tags : (i : ℕ) → i ≤ n → length (tagsOf i words) ≡ i
+  length-tags i h = length-map (take i words) tagOf ∙ length-take-le i words (omega (arith, w .places, w .few))
+
+  -- a tag ends before every tag at a later place
+  tag-order : (i j : ℕ) → i < j → j < n → lastOf (tagOf (getD words i 0)) < tagOf (getD words j 0) .address
+  tag-order i j h l =
+      let o = ascending-at 0 (tagsOf n words) (tagOf 0) i j (w .ascending) h (omega (arith, length-tags n (omega arith))) in
+      rw (tag-at words n i (omega arith), tag-at words n j l) at o
+
+  -- a search for the first tag that reaches start: what lies below a tag that does not reach it, does not
+  pub search-low : (start m : ℕ) → m < n → lastOf (tagOf (getD words m 0)) < start → (k : ℕ) → k < m + 1 → reaches words start k ≡ false
+  search-low start m h e k l =
+      lt-leb start (lastOf (tagOf (getD words k 0)))
+      (⊎-elim
+      (λ (z : k < m). let o = tag-order k m z h in let f = first-last (tagOf (getD words m 0)) in omega arith)
+      (λ (z : m ≤ k). let q : k ≡ m = omega arith in rw q e)
+      (lt-or k m))
+
+-- what the code knows of the tag words and of the buffer
+pub record Known (base q n : ℕ) (words d : List ℕ) : Type 0 where
+  pub tags : TagWords n words
+  pub room : base + 2 * q ≤ length d
+  pub bytes : (i : ℕ) → getD d i 0 < 256
+
+module _ (way : Way) (start : ℕ) {base q n : ℕ} {words d : List ℕ} (known : Known base q n words d) where
+  abbrev pub upTo : ℕ → Rewritten
+  upTo i = rewriting way base start q (tagsOf i words) d
+
+  -- the verdict of a tag before the run, and of one behind it
+  before-run : (t : Tag) → lastOf t < start → verdict way start (registersAt base q d) t ≡ outside
+  before-run t h = verdict-outside way start (registersAt base q d) t (rw (lt-ltb (lastOf t) start h) refl)
+
+  behind-run : (t : Tag) → start + q ≤ t .address → verdict way start (registersAt base q d) t ≡ outside
+  behind-run t h =
+      verdict-outside way start (registersAt base q d) t (rw (length-registers base q d, le-leb (start + q) (t .address) h) (or-true (ltb (lastOf t) start)))
+
+  -- Before the first tag that reaches the run nothing is to be done.
+  pub table-start : (i : ℕ) → i ≡ first (reaches words start) n → outcome 0 0 d ≡ upTo i
+  table-start i e =
+      sym (idle-behind way base start q d [] (tagsOf i words) (λ u m.
+      let s = tag-place words 0 i u m in
+      let z : 0 + s .0 ≡ s .0 = zero-add (s .0) in
+      let f = leb-false start (lastOf (tagOf (getD words (s .0) 0))) (first-before (reaches words start) n (s .0) (omega (arith, s .1))) in
+      rw (s .2, z) (before-run (tagOf (getD words (s .0) 0)) f))
+      ∙ idle-none way base start q d (known .bytes))
+
+  module _ (i p v : ℕ) (b : List ℕ) (e : outcome p v b ≡ upTo i) where
+    -- One tag more.
+    pub table-more : (p′ v′ : ℕ) (b′ : List ℕ) → i < n → outcome p′ v′ b′ ≡ rewriting way base start q (tagOf (getD words i 0) ∷ []) b
+        → outcome (p + p′) (v + v′) b′ ≡ upTo (i + 1)
+    table-more p′ v′ b′ h f =
+        let l : i < length words = omega (arith, known .tags .places, known .tags .few) in
+        let t = tagOf (getD words i 0) in
+        let m : i + 1 + (n - (i + 1)) ≡ n = omega arith in
+        let a : Ascending 0 (tagsOf i words ++ (t ∷ [])) =
+        rw (← tags-more words i l) (ascending-front 0 (tagsOf (i + 1) words) (map tagOf (take (n - (i + 1)) (drop (i + 1) words))) (rw (← tags-split words (i + 1) (n - (i + 1)), m) (known .tags .ascending))) in
+        rw (tags-more words i l)
+        (ap (λ (x : Rewritten). andThen x (outcome p′ v′ b′)) e
+        ∙ ap (andThen (upTo i)) (f ∙ ap (λ (x : Rewritten). rewriting way base start q (t ∷ []) (x .bytes)) e)
+        ∙ sym (one-more way base start q d (known .bytes) (known .room) (tagsOf i words) t 0 a))
+
+    -- Behind a tag that lies behind the run nothing is to be done.
+    pub table-done : i ≤ n → (i < n → start + q ≤ tagOf (getD words i 0) .address) → outcome p v b ≡ upTo n
+    table-done h g =
+        let m : i + (n - i) ≡ n = omega arith in
+        let s : upTo n ≡ upTo i =
+        rw (← m, tags-split words i (n - i))
+        (idle-behind way base start q d (tagsOf i words) (map tagOf (take (n - i) (drop i words))) (λ u k.
+        let r = tag-place words i (n - i) u k in
+        let z = g (omega (arith, r .1)) in
+        rw (r .2) (behind-run (tagOf (getD words (i + r .0) 0))
+        (⊎-elim
+        (λ (y : i < i + r .0). let o = tag-order n words (known .tags) i (i + r .0) y (omega (arith, r .1)) in let f = first-last (tagOf (getD words i 0)) in omega arith)
+        (λ (y : i + r .0 ≤ i). let j : i + r .0 ≡ i = omega arith in rw j z)
+        (lt-or i (i + r .0)))))) in
+        e ∙ sym s
+
+    -- The counts are at most the tags so far.
+    pub table-few : i ≤ n → p + v ≤ i
+    unfolding rewriting
+    table-few h =
+        let c = counts-most way start (tagsOf i words) (registersAt base q d) in
+        omega (arith, ap (λ (x : Rewritten). x .partial) e, ap (λ (x : Rewritten). x .value) e, length-tags n words (known .tags) i h)

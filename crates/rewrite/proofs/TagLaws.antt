@@ -1,0 +1,123 @@
+-- One tag over a run of registers in a buffer: what its verdict makes of the buffer and the counts, and its number in one register or two.
+-- Assumes nothing.
+use Prim.Native.Nat.{ℕ, _+_, _*_, _-_, _/_, _%_, _≤_, _<_}
+use mathlib.Core.Path.{_≡_, refl, ap, sym, _∙_}
+use mathlib.Core.Bool.{Bool, true, false, cond, _||_}
+use mathlib.Core.Option.{Option, some, none}
+use mathlib.Core.List.{List, [], _∷_}
+use native.Mathlib.Omega.{arith}
+use lib.ListN.{length, getD}
+use lib.Seq.{sets}
+use lib.Dec.{ltb, leb}
+use Rattle.laws.specs.Lists.{filter}
+use Rattle.laws.specs.Bytes.{pairAt, putAt}
+use Rattle.laws.specs.Digits.{digits, value as valueOf}
+use Rattle.bcd.specs.declared.Kind.{Kind}
+use Rattle.bcd.specs.Bcd.{registers}
+use Rattle.bcd.specs.Words.{wordsOf, numberOf}
+use Rattle.bcd.proofs.Words.{words-count}
+use Rattle.settings.specs.Grammar.{Tag}
+use Rattle.settings.specs.TagWords.{kindOf, lastOf}
+use Rattle.rewrite.specs.declared.Way.{Way}
+use Rattle.rewrite.specs.Registers.{registersAt, laidAt}
+use Rattle.rewrite.specs.Rewriting.{turned, Verdict, ownIn, verdict, laidBy, rewrittenFrom, isRawPartial, isRawValue, partials, values, Rewritten, outcome, rewriting}
+use Rattle.rewrite.specs.Rewriting.Verdict.{outside, partial, value, done}
+use Rattle.rewrite.specs.Plain.{Whole}
+use Rattle.rewrite.proofs.RegisterLaws.{length-registers, registers-part, laid-registers, laid-part}
+use Rattle.rewrite.proofs.OrderLaws.{behind-last}
+use Rattle.rewrite.proofs.VerdictLaws.{not-partial, verdict-outside, verdict-partial, value-exactly, done-exactly}
+
+-- A NUMBER IN ONE REGISTER OR TWO
+
+module _ (kind : Kind) (k : ℕ) (d : List ℕ) where
+  pub number-one : registers kind ≡ 1 → pairAt d k ≡ numberOf (registersAt k (registers kind) d)
+  unfolding numberOf valueOf registersAt
+  number-one e = rw e (omega arith)
+
+  pub number-two : registers kind ≡ 2 → pairAt d k + 65536 * pairAt d (k + 2) ≡ numberOf (registersAt k (registers kind) d)
+  unfolding numberOf valueOf registersAt
+  number-two e = rw e (omega arith)
+
+  pub lay-one : (n : ℕ) → registers kind ≡ 1 → putAt d k (n % 65536) ≡ laidAt k (wordsOf kind n) d
+  unfolding wordsOf digits laidAt
+  lay-one n e = rw e refl
+
+  pub lay-two : (n : ℕ) → registers kind ≡ 2 → n < 4294967296 → putAt (putAt d (k + 2) (n / 65536)) k (n % 65536) ≡ laidAt k (wordsOf kind n) d
+  unfolding wordsOf digits laidAt
+  lay-two n e l = let m : n / 65536 % 65536 ≡ n / 65536 = omega arith in rw (e, m) refl
+
+-- ONE TAG, by its verdict
+
+module _ (way : Way) (base start q : ℕ) (t : Tag) (d : List ℕ) where
+  abbrev run : List ℕ
+  run = registersAt base q d
+
+  -- what a verdict makes of the buffer, and what it adds to the counts
+  abbrev byVerdict : Verdict → Rewritten
+  byVerdict v = outcome (length (cond (isRawPartial v) (t ∷ []) [])) (length (cond (isRawValue v) (t ∷ []) [])) (laidAt base (laidBy v (t .address - start) run) d)
+
+  by-verdict : (v : Verdict) → verdict way start run t ≡ v → rewriting way base start q (t ∷ []) d ≡ byVerdict v
+  unfolding rewriting partials values filter rewrittenFrom
+  by-verdict v e = ap byVerdict e
+
+-- what the code knows of a tag and of the buffer: the tag's first register and its last, and that the buffer holds bytes
+pub record Known (t : Tag) (d : List ℕ) (first final : ℕ) : Type 0 where
+  pub first-is : first ≡ t .address
+  pub final-is : final ≡ lastOf t
+  pub bytes : (i : ℕ) → getD d i 0 < 256
+
+module _ (way : Way) (base start q : ℕ) {t : Tag} {d : List ℕ} {a z : ℕ} (n : Known t d a z) where
+  same : d ≡ laidAt base (registersAt base q d) d
+  same = sym (laid-registers base q d (n .bytes))
+
+  pub one-outside : (ltb z start || leb (start + q) a) ≡ true → outcome 0 0 d ≡ rewriting way base start q (t ∷ []) d
+  unfolding laidBy
+  one-outside o =
+      ap (outcome 0 0) same
+      ∙ sym (by-verdict way base start q t d outside (verdict-outside way start (registersAt base q d) t (rw (length-registers base q d, ← n .final-is, ← n .first-is) o)))
+
+  pub one-partial : (ltb z start || leb (start + q) a) ≡ false → (ltb a start || leb (start + q) z) ≡ true → outcome 1 0 d ≡ rewriting way base start q (t ∷ []) d
+  unfolding laidBy
+  one-partial o p =
+      ap (outcome 1 0) same
+      ∙ sym (by-verdict way base start q t d partial
+      (verdict-partial way start (registersAt base q d) t (rw (length-registers base q d, ← n .final-is, ← n .first-is) o) (rw (length-registers base q d, ← n .final-is, ← n .first-is) p)))
+
+  module _ (p : (ltb a start || leb (start + q) z) ≡ false) where
+    whole : Whole start q t
+    whole = not-partial start q t (rw (← n .final-is, ← n .first-is) p)
+
+    -- the tag's registers are in the run
+    pub one-room : (start ≤ a) × (a - start + registers (kindOf t) ≤ q)
+    one-room = let b = behind-last t in let f = n .first-is in (omega (arith, whole .0), omega (arith, whole .0, whole .1))
+
+    -- the tag's number, at its registers in the buffer
+    module _ (k m : ℕ) (hk : k ≡ base + 2 * (a - start)) (hm : m ≡ numberOf (registersAt k (registers (kindOf t)) d)) where
+      whole-run : Whole start (length (registersAt base q d)) t
+      whole-run = rw (length-registers base q d) whole
+
+      number : numberOf (ownIn start (registersAt base q d) t) ≡ m
+      number =
+          ap numberOf (registers-part base q d (t .address - start) (registers (kindOf t)) (rw (n .first-is) at (one-room .1)))
+          ∙ rw (hm, hk, n .first-is) refl
+
+      pub one-value : none ≡ turned way (kindOf t) m → outcome 0 1 d ≡ rewriting way base start q (t ∷ []) d
+      unfolding laidBy
+      one-value e =
+          ap (outcome 0 1) same
+          ∙ sym (by-verdict way base start q t d value (value-exactly way start (registersAt base q d) t .1 (whole-run, rw number (sym e))))
+
+      pub one-done : (r : ℕ) (d′ : List ℕ) → some r ≡ turned way (kindOf t) m → d′ ≡ laidAt k (wordsOf (kindOf t) r) d
+          → outcome 0 0 d′ ≡ rewriting way base start q (t ∷ []) d
+      unfolding laidBy
+      one-done r d′ e h =
+          let ws = wordsOf (kindOf t) r in
+          let rs = registersAt base q d in
+          let c = words-count (kindOf t) r in
+          let l = length-registers base q d in
+          let j = rw (n .first-is) at (one-room .1) in
+          let i = t .address - start in
+          let p : laidAt k ws d ≡ laidAt base (sets rs i ws) d =
+          ap (λ (x : List ℕ). laidAt k ws x) same ∙ rw (hk, n .first-is) (laid-part base ws rs d i (omega arith)) in
+          ap (outcome 0 0) (h ∙ p)
+          ∙ sym (by-verdict way base start q t d (done ws) (done-exactly way start rs t ws .1 (whole-run, (r, rw number (sym e), refl))))

@@ -1,0 +1,43 @@
+-- Which registers of a frame are rewritten: those of requests 06 and 16 to BCD, those of replies 03, 04 and 06 to binary; all else passes unchanged.
+-- Assumes nothing.
+use Prim.Native.Nat.{ℕ}
+use mathlib.Core.Bool.{Bool, cond}
+use mathlib.Core.List.{List}
+use Rattle.laws.specs.Bytes.{over}
+use Rattle.wire.specs.Frame.{laid}
+use Rattle.settings.specs.Grammar.{Tag}
+use Rattle.pdu.specs.Replies.{What, excepts}
+use Rattle.pdu.specs.declared.Asked.{Asked}
+use Rattle.pdu.specs.declared.Asked.the-variants.{Read, SingleWrite, MultipleWrite, Other}
+use Rattle.rewrite.specs.declared.Way.the-variants.{ToBcd, ToBinary}
+use Rattle.rewrite.specs.Rewriting.{Rewritten, outcome, rewriting}
+
+-- the bytes at which registers begin: behind the byte count of reply 03 and 04, behind the address of 06, behind the byte count of request 16
+abbrev pub readBase : ℕ
+readBase = 9
+
+abbrev pub singleBase : ℕ
+singleBase = 10
+
+abbrev pub multipleBase : ℕ
+multipleBase = 13
+
+unfoldable pub forwarded : List Tag → Asked → List ℕ → Rewritten
+forwarded tags (Read s q) f = outcome 0 0 f
+forwarded tags (SingleWrite a) f = rewriting ToBcd singleBase a 1 tags f
+forwarded tags (MultipleWrite s q) f = rewriting ToBcd multipleBase s q tags f
+forwarded tags Other f = outcome 0 0 f
+
+unfoldable pub returnedBy : List Tag → Asked → List ℕ → Rewritten
+returnedBy tags (Read s q) f = rewriting ToBinary readBase s q tags f
+returnedBy tags (SingleWrite a) f = rewriting ToBinary singleBase a 1 tags f
+returnedBy tags (MultipleWrite s q) f = outcome 0 0 f
+returnedBy tags Other f = outcome 0 0 f
+
+-- an exception reply passes unchanged
+unfoldable pub returned : List Tag → What → List ℕ → Rewritten
+returned tags w f = cond (excepts (w .function) f) (outcome 0 0 f) (returnedBy tags (w .asked) f)
+
+-- a rewritten frame under an id, written over the start of a buffer
+abbrev pub under : ℕ → List ℕ → Rewritten → Rewritten
+under id out w = outcome (w .partial) (w .value) (over (laid id (w .bytes)) out)

@@ -1,0 +1,59 @@
+-- What the callers of the rewriter vouch for: the tag words, a run of registers in a buffer, and a frame that carries what was asked.
+-- Assumes nothing.
+use Prim.Native.Nat.{ℕ, _+_, _*_, _≤_, _<_}
+use mathlib.Core.Path.{_≡_}
+use mathlib.Core.Bool.{Bool}
+use mathlib.Core.List.{List, map}
+use mathlib.Core.Option.{Option, some, none}
+use lib.ListN.{length, getD, take}
+use lib.Dec.{leb}
+use Rattle.laws.specs.Numbers.{mostTags, addresses, leastFrame}
+use Rattle.settings.specs.Grammar.{Tag}
+use Rattle.settings.specs.TagWords.{tagOf, lastOf, Ascending}
+use Rattle.pdu.specs.declared.Asked.{Asked}
+use Rattle.pdu.specs.declared.Asked.the-variants.{Read, SingleWrite, MultipleWrite, Other}
+use Rattle.rewrite.specs.Frames.{readBase, singleBase, multipleBase}
+use Rattle.rewrite.specs.declared.Turned.{Turned}
+use Rattle.rewrite.specs.declared.Turned.the-variants.{Number, Refused}
+
+-- the tags that the first words are
+abbrev pub tagsOf : ℕ → List ℕ → List Tag
+tagsOf tagged words = map tagOf (take tagged words)
+
+-- tag words as a state keeps them
+pub record TagWords (tagged : ℕ) (words : List ℕ) : Type 0 where
+  pub places : length words ≡ mostTags
+  pub few : tagged ≤ mostTags
+  pub ascending : Ascending 0 (tagsOf tagged words)
+
+-- the registers from byte base on are in the buffer, their addresses are addresses
+pub record Run (base start quantity : ℕ) (d : List ℕ) : Type 0 where
+  pub room : base + 2 * quantity ≤ length d
+  pub low : start + quantity ≤ addresses
+
+-- the registers that a request carries, and those that a reply carries, are in the frame
+abbrev pub Sent : Asked → List ℕ → Type 0
+Sent (Read s q) f = Unit {0}
+Sent (SingleWrite a) f = Run singleBase a 1 f
+Sent (MultipleWrite s q) f = Run multipleBase s q f
+Sent Other f = Unit {0}
+
+abbrev pub Brought : Asked → List ℕ → Type 0
+Brought (Read s q) f = Run readBase s q f
+Brought (SingleWrite a) f = Run singleBase a 1 f
+Brought (MultipleWrite s q) f = Unit {0}
+Brought Other f = Unit {0}
+
+-- a frame, and a buffer that takes it
+pub record Framed (f out : List ℕ) : Type 0 where
+  pub least : leastFrame ≤ length f
+  pub fits : length f ≤ length out
+
+-- a tag does not end before start
+abbrev pub reaches : List ℕ → ℕ → ℕ → Bool
+reaches words start k = leb start (lastOf (tagOf (getD words k 0)))
+
+-- what the code makes of a tag's number, as the definition has it
+abbrev pub numberIn : Turned → Option ℕ
+numberIn (Number n) = some n
+numberIn Refused = none

@@ -1,0 +1,5 @@
+pub mod Registers
+pub mod Rewriting
+pub mod Plain
+pub mod Frames
+pub mod Lent
