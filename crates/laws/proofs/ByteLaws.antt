@@ -7,7 +7,7 @@ use native.Mathlib.Nat.{add-zero, zero-add, add-assoc}
 use native.Mathlib.Numerals.{add-one}
 use native.Mathlib.Omega.{arith}
 use lib.ListN.{length, getD, set, take, drop, take-append-drop, length-set, length-append, length-drop, List·getD-append, List·getD-eq-default}
-use lib.Seq.{paste, paste-zero, paste-suc, length-paste, take-length, take-suc, take-at, set-at, append-snoc, drop-append-add, drop-drop, length-take-le, sets, sets-eq, getD-set-same, getD-set-other, set-set, set-comm, set-getD}
+use lib.Seq.{drop-cons, paste, paste-zero, paste-suc, length-paste, take-length, take-suc, take-at, set-at, append-snoc, drop-append-add, drop-drop, length-take-le, sets, sets-eq, getD-set-same, getD-set-other, set-set, set-comm, set-getD}
 use Rattle.laws.specs.Bytes.{over, overAt, pairAt, putAt}
 
 -- a copy from the front: nothing yet, one byte more, all
@@ -107,3 +107,8 @@ overAt-behind w v at b h =
 
 pub overAt-over : (w b : List ℕ) → overAt w 0 b ≡ over w b
 overAt-over w b = rw (zero-add (length w))
+
+-- one number more written over the start of a buffer
+pub over-more : (w d : List ℕ) (n x : ℕ) → length w ≡ n → n < length d → set (over w d) n x ≡ over (w ++ (x ∷ [])) d
+over-more w d n x e h =
+    rw (e, drop-cons d n 0 h, set-at w (getD d n 0) (drop (suc n) d) x n e, length-append w (x ∷ []), e, add-one n) (sym (append-snoc w x (drop (suc n) d)))

@@ -80,3 +80,15 @@ turn-gap m c x h k =
 
 pub turn-low : (m k : ℕ) → k < m + m → turn m k < m
 turn-low m k h = ⊎-elim (λ z. rw (lt-ltb k m z) z) (λ z. rw (le-ltb k m z) (omega arith)) (lt-or k m)
+
+-- it is no way from c to c
+pub gap-none : (m c : ℕ) → c < m → gap m c c ≡ 0
+gap-none m c h = ⊎-elim (λ y. omega (arith, y)) (λ y. omega (arith, y)) (gap-or m c c h)
+
+-- one on from x it is one further, as long as c is not met again
+pub gap-next : (m c x : ℕ) → c < m → x < m → gap m c x + 1 < m → gap m c (turn m (x + 1)) ≡ gap m c x + 1
+gap-next m c x h k l =
+    let g = gap m c x in
+    let e : turn m (x + 1) ≡ turn m (c + (g + 1)) =
+    ap (λ (y : ℕ). turn m (y + 1)) (sym (turn-gap m c x h k)) ∙ turn-add m (c + g) 1 (omega arith) ∙ ap (turn m) (omega arith) in
+    ap (gap m c) e ∙ gap-here m c (g + 1) h l

@@ -6,10 +6,10 @@ use mathlib.Core.Logic.{⊎-elim}
 use mathlib.Core.List.{List, [], _∷_, _++_, map, map-append, flatMap, append-assoc, append-nil}
 use native.Mathlib.Numerals.{add-one}
 use native.Mathlib.Omega.{arith}
-use lib.ListN.{length, getD, set, take, drop, replicate, length-append, List·getD-append}
+use lib.ListN.{length, getD, set, take, drop, replicate, length-append, length-replicate, getD-replicate, replicate-append-replicate, List·getD-append, List·getD-eq-default}
 use lib.Seq.{set-at, set-append-left, getD-at, take-append-seam, drop-append-seam, set-append-seam, ext-getD}
 use Rattle.laws.specs.Lists.{tab}
-use Rattle.laws.proofs.Choice.{eq-or}
+use Rattle.laws.proofs.Choice.{eq-or, lt-or}
 
 module _ {A : Type 0} where
   pub tab-ext : (n : ℕ) (f g : ℕ → A) → ((j : ℕ) → j < n → f j ≡ g j) → tab n f ≡ tab n g
@@ -100,7 +100,7 @@ getD-zeros (suc m) [] (suc k) = getD-zeros m [] k
 getD-zeros m (x ∷ l) zero = refl
 getD-zeros m (x ∷ l) (suc k) = getD-zeros m l k
 
-flatMap-append : {A B : Type 0} (f : A → List B) (xs ys : List A) → flatMap f (xs ++ ys) ≡ flatMap f xs ++ flatMap f ys
+pub flatMap-append : {A B : Type 0} (f : A → List B) (xs ys : List A) → flatMap f (xs ++ ys) ≡ flatMap f xs ++ flatMap f ys
 unfolding flatMap
 flatMap-append f [] ys = refl
 flatMap-append f (x ∷ xs) ys = rw (flatMap-append f xs ys) (sym (append-assoc (f x) (flatMap f xs) (flatMap f ys)))
@@ -114,3 +114,16 @@ flatMap-more f n g = rw (tab-more n g, flatMap-append f (tab n g) (g n ∷ []), 
 pub nothing : {A : Type 0} (l : List A) → length l ≡ 0 → l ≡ []
 nothing [] e = refl
 nothing (x ∷ l) e = absurd (omega arith)
+
+-- repeats
+
+module _ {A : Type 0} where
+  -- a repeat has the same at every place
+  pub getD-repeat : (n k : ℕ) (a : A) → getD (replicate n a) k a ≡ a
+  getD-repeat n k a = ⊎-elim (λ l. getD-replicate n k a a l) (λ l. List·getD-eq-default (replicate n a) a (rw (length-replicate n a) l)) (lt-or k n)
+
+  -- a rule that gives the same everywhere makes a repeat
+  pub tab-repeat : (n : ℕ) (a : A) → tab n (λ k. a) ≡ replicate n a
+  unfolding tab
+  tab-repeat zero a = refl
+  tab-repeat (suc n) a = rw (tab-repeat n a) (replicate-append-replicate n 1 a ∙ rw (add-one n))

@@ -186,3 +186,57 @@ first-is test n r h before here =
     (λ (b : r ≤ first test n). omega arith)
     (lt-or (first test n) r))
     (lt-or r (first test n))
+
+module _ (test : ℕ → Bool) (beats : ℕ → ℕ → Bool) (none : ℕ) where
+  -- where no place passes, nothing is found
+  pub best-nothing : (n : ℕ) → ((k : ℕ) → k < n → test k ≡ false) → best test beats none n ≡ none
+  best-nothing n h = ⊎-elim (λ e. e) (λ w. absurd (true≢false (sym (w .1) ∙ h _ (w .0)))) (best-in test beats none n)
+
+  -- places that do not pass may be left out at the end of a search
+  pub best-cut : (m n : ℕ) → m ≤ n → ((k : ℕ) → m ≤ k → k < n → test k ≡ false) → best test beats none n ≡ best test beats none m
+  unfolding best
+  best-cut m zero l h = let e : m ≡ zero = omega arith in rw e
+  best-cut m (suc n) l h =
+      ⊎-elim
+      (λ (q : m ≡ suc n). rw q)
+      (λ (q : m ≡ suc n → ⊥). rw (h n (omega (arith, q)) (omega arith)) (best-cut m n (omega (arith, q)) (λ k a b. h k a (omega arith))))
+      (eq-or m (suc n))
+
+module _ (test : ℕ → Bool) where
+  -- a place that passes, where none before it does, is the first
+  pub first-found : (none n k : ℕ) → n ≤ none → k < n → ((j : ℕ) → j < k → test j ≡ false) → test k ≡ true → best test (λ i j. false) none n ≡ k
+  unfolding best
+  first-found none zero k l h b t = absurd (omega arith)
+  first-found none (suc n) k l h b t =
+      ⊎-elim
+      (λ (q : k ≡ n).
+      let e = best-nothing test (λ i j. false) none n (λ j z. b j (omega arith)) in
+      let s : test n ≡ true = rw q at t in
+      rw (e, s, eq-eqb none none refl) (sym q))
+      (λ (q : k ≡ n → ⊥).
+      let e = first-found none n k (omega arith) (omega (arith, q)) b t in
+      rw (e, ne-eqb k none (λ z. omega arith)) (⊎-elim (λ s. rw s) (λ s. rw s) (true-or (test n))))
+      (eq-or k n)
+
+  -- a search in which no place beats another finds the first that passes
+  pub best-is-first : (n : ℕ) → best test (λ i j. false) n n ≡ first test n
+  best-is-first n =
+      let le = first-le test n in
+      ⊎-elim
+      (λ z. first-found n n (first test n) (omega arith) z (first-before test n) (first-here test n z))
+      (λ z. best-nothing test (λ i j. false) n n (λ k h. first-before test n k (omega arith)) ∙ omega arith)
+      (lt-or (first test n) n)
+
+  -- where every place from m on passes, that search may stop there and take m
+  pub first-cut : (m n : ℕ) → m ≤ n → ((k : ℕ) → m ≤ k → k < n → test k ≡ true) → best test (λ i j. false) n n ≡ best test (λ i j. false) m m
+  first-cut m n l h =
+      let le = first-le test m in
+      best-is-first n
+      ∙ sym (first-is test n (first test m) (omega arith) (first-before test m) (λ z. ⊎-elim (first-here test m) (λ w. h (first test m) w z) (lt-or (first test m) m)))
+      ∙ sym (best-is-first m)
+
+-- two searches whose tests agree find the same
+pub first-ext : (test test′ : ℕ → Bool) (n : ℕ) → ((k : ℕ) → test k ≡ test′ k) → first test n ≡ first test′ n
+unfolding first
+first-ext test test′ zero h = refl
+first-ext test test′ (suc n) h = rw (h 0, first-ext (λ k. test (suc k)) (λ k. test′ (suc k)) n (λ k. h (suc k)))

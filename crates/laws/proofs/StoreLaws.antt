@@ -11,7 +11,7 @@ use lib.Seq.{sets, getD-set-same, getD-set-other, set-comm}
 use lib.Dec.{ltb}
 use borrow.Author.Tests.{lt-ltb, ltb-true}
 use Rattle.laws.specs.Digits.{below}
-use Rattle.laws.proofs.Choice.{and-left, and-right}
+use Rattle.laws.proofs.Choice.{eq-or, and-left, and-right}
 use Rattle.laws.proofs.DigitLaws.{below-split}
 
 module _ {A : Type 0} where
@@ -63,3 +63,11 @@ module _ (b : ℕ) where
   below-sets [] ds k t s = t
   below-sets (w ∷ ws) ds k t s =
       below-sets ws (set ds k w) (suc k) (below-set ds k w t (ltb-true w b (and-left (ltb w b) (below b ws) s))) (and-right (ltb w b) (below b ws) s)
+
+-- what holds of the new element and of every other one holds of every element after a store
+pub set-each : (P : ℕ → ℕ → Type 0) (l : List ℕ) (i v : ℕ) → i < length l → P i v → ((k : ℕ) → (k ≡ i → ⊥) → P k (getD l k 0)) → (k : ℕ) → P k (getD (set l i v) k 0)
+set-each P l i v h here other k =
+    ⊎-elim
+    (λ (q : k ≡ i). rw (q, getD-set-same l i v 0 h) here)
+    (λ (q : k ≡ i → ⊥). rw (getD-set-other l i k v 0 q) (other k q))
+    (eq-or k i)

@@ -1,13 +1,13 @@
 -- Tests that hold, or fail, exactly where a fact does.
 -- Assumes nothing.
-use Prim.Native.Nat.{ℕ, _≤_}
+use Prim.Native.Nat.{ℕ, _+_, _-_, _≤_, _<_}
 use mathlib.Core.Path.{_≡_, refl}
 use mathlib.Core.Logic.{_↔_, ⊎-elim, _⊎_, inl, inr}
 use mathlib.Core.Bool.{Bool, true, false, not, _&&_, _||_, false≢true, true≢false}
 use native.Mathlib.Omega.{arith}
 use lib.Dec.{eqb, ltb}
-use borrow.Author.Tests.{ltb-false, le-ltb, eqb-true, eqb-false, eq-eqb, ne-eqb, not-false, not-true}
-use Rattle.laws.proofs.Choice.{and-left, and-right, or-left, or-right}
+use borrow.Author.Tests.{lt-ltb, ltb-true, ltb-false, le-ltb, eqb-true, eqb-false, eq-eqb, ne-eqb, not-false, not-true}
+use Rattle.laws.proofs.Choice.{same-test, and-left, and-right, or-left, or-right}
 
 -- a test holds exactly where two numbers are equal
 pub holds-eq : (a b : ℕ) → (eqb a b ≡ true) ↔ (a ≡ b)
@@ -54,3 +54,11 @@ either {t = false} w = inl (w .0 refl)
 pub fails-holds : {P : Type 0} {t : Bool} → (t ≡ false) ↔ P → (P → ⊥) → t ≡ true
 fails-holds {t = true} w n = refl
 fails-holds {t = false} w n = absurd (n (w .0 refl))
+
+-- one less on both sides leaves two numbers equal or unequal
+pub eqb-less : (n m : ℕ) → (n ≡ 0 → ⊥) → eqb n (m + 1) ≡ eqb (n - 1) m
+eqb-less n m h = same-test _ _ (λ t. let e = eqb-true n (m + 1) t in eq-eqb (n - 1) m (omega arith)) (λ t. let e = eqb-true (n - 1) m t in eq-eqb n (m + 1) (omega (arith, h)))
+
+-- and in their order
+pub ltb-less : (n m : ℕ) → (n ≡ 0 → ⊥) → (m ≡ 0 → ⊥) → ltb n m ≡ ltb (n - 1) (m - 1)
+ltb-less n m h k = same-test _ _ (λ t. let e = ltb-true n m t in lt-ltb (n - 1) (m - 1) (omega (arith, h))) (λ t. let e = ltb-true (n - 1) (m - 1) t in lt-ltb n m (omega (arith, h, k)))

@@ -1,0 +1,186 @@
+-- Where requests stand: an accepted one stands in the party places afterwards, a mismatched reply leaves its entry, a tick ends at most one, a client that left is nowhere.
+-- Assumes nothing.
+use Prim.Native.Nat.{ℕ, _+_, _≤_, _<_}
+use mathlib.Core.Path.{_≡_, refl, ap, sym, _∙_}
+use mathlib.Core.Logic.{⊎-elim, _⊎_, inl, inr, _↔_}
+use mathlib.Core.Bool.{Bool, true, false, cond, not, true≢false, false≢true}
+use mathlib.Core.Option.{Option, some, none, Option·map}
+use mathlib.Core.List.{List, [], _∷_, _++_, map, List·Memᴰ}
+use native.Mathlib.Omega.{arith}
+use lib.ListN.{length, getD, set, length-set}
+use lib.Seq.{getD-set-same, getD-set-other}
+use lib.Dec.{eqb, ltb}
+use borrow.Author.Tests.{ltb-true, ltb-false, not-true, eq-eqb}
+use Rattle.laws.specs.Numbers.{places, deviceFailure}
+use Rattle.laws.proofs.Choice.{true-or, eq-or}
+use Rattle.laws.proofs.FilterLaws.{filter-in}
+use Rattle.pdu.specs.Requests.{faultOf}
+use Rattle.pdu.specs.Replies.{What}
+use Rattle.book.specs.Book.{Party, Live, Good, at, added, struck, isOf, without, apply}
+use Rattle.book.specs.Book.Move.{pass, expire, strike}
+use Rattle.book.specs.Desk.{freePlace, freeId, duePlace}
+use Rattle.book.proofs.GoodLaws.{good-move}
+use Rattle.book.proofs.PlaceLaws.{at-low, map-cases}
+use Rattle.book.proofs.DeskLaws.{join-found, due-found}
+use Rattle.machine.specs.Machine.{Machine, Note, Live-book, rules, settings, clocked, moved}
+use Rattle.machine.specs.Calls.{Call, Done, done, outOf, listOf}
+use Rattle.machine.specs.Calls.Call.{attach, detach, request, reply, tick, linkLost}
+use Rattle.machine.specs.Refusals.{refusal}
+use Rattle.machine.specs.Requests.{wanted, partyOf, joins, joiningPlace, canJoin, exhausted, excepted, joinedTo, issuedTo, served, accepted}
+use Rattle.machine.specs.Replies.{expiredTo, ticked}
+use Rattle.machine.specs.Outcomes.{granted, outcome}
+use Rattle.machine.specs.declared.Answer.{Answer}
+use Rattle.machine.specs.declared.Answer.the-variants as answer
+use Rattle.machine.proofs.RefusalLaws.{refusal-changes-nothing}
+use Rattle.machine.proofs.OutcomeLaws.{granted-is, clocked-at}
+use Rattle.machine.proofs.Follows.{same-entry}
+use Rattle.machine.proofs.JoinLaws.{joins-exact}
+
+-- a live entry under that id asks w and has the party as its latest
+pub record Stands (b : Live-book) (id : ℕ) (w : What) (p : Party) : Type 0 where
+  pub place : ℕ
+  pub entry : Live What Note
+  pub before : List Party
+  pub there : at b place ≡ some entry
+  pub same : entry .id ≡ id
+  pub asks : entry .what ≡ w
+  pub latest : entry .parties ≡ before ++ (p ∷ [])
+
+-- the id under which an answer says that a request was accepted
+unfoldable pub Accepts : Answer → ℕ → Type 0
+Accepts (answer.Refused n) id = ⊥
+Accepts answer.Done id = ⊥
+Accepts (answer.Issued i n p v) id = i .0 ≡ id
+Accepts (answer.Joined i) id = i .0 ≡ id
+Accepts (answer.Excepted c) id = ⊥
+Accepts (answer.Answered i n k p v) id = ⊥
+Accepts (answer.TimedOut i k) id = ⊥
+Accepts answer.NothingDue id = ⊥
+Accepts (answer.Lost s) id = ⊥
+
+joined-stands : (m : Machine) (k c : ℕ) (f o : List ℕ) (e : Live What Note) → at (m .book) k ≡ some e → wanted f ≡ e .what → (id : ℕ)
+    → Accepts (joinedTo m k c f o (some e) .says) id → Stands (joinedTo m k c f o (some e) .after .book) id (wanted f) (partyOf c f)
+unfolding joinedTo Accepts
+joined-stands m k c f o e h w id a =
+    record {
+      place = k;
+      entry = added (partyOf c f) e;
+      before = e .parties;
+      there = getD-set-same (m .book .places) k (some (added (partyOf c f) e)) none (at-low (m .book .places) k e h);
+      same = a;
+      asks = sym w;
+      latest = refl;
+    }
+
+issued-stands : (m : Machine) (c : ℕ) (f o : List ℕ) → Good rules (m .book) → freePlace rules (m .book) < places → (id : ℕ)
+    → Accepts (issuedTo m c f o .says) id → Stands (issuedTo m c f o .after .book) id (wanted f) (partyOf c f)
+unfolding issuedTo Accepts
+issued-stands m c f o g l id a =
+    record {
+      place = freePlace rules (m .book);
+      entry = record { id = freeId rules (m .book); what = wanted f; by = c; note = tt; deadline = m .book .clock + settings m .timeout; parties = partyOf c f ∷ [] };
+      before = [];
+      there = getD-set-same (m .book .places) (freePlace rules (m .book)) _ none (rw (g .long) l);
+      same = a;
+      asks = refl;
+      latest = refl;
+    }
+
+excepted-no : (m : Machine) (n : ℕ) (f o : List ℕ) (id : ℕ) → Accepts (excepted m n f o .says) id → ⊥
+unfolding excepted Accepts
+excepted-no m n f o id a = a
+
+refused-no : (m : Machine) (x : Call) (id : ℕ) → Accepts (done (answer.Refused (refusal m x)) m (outOf x) (listOf x) .says) id → ⊥
+unfolding Accepts
+refused-no m x id a = a
+
+served-stands : (m : Machine) (c : ℕ) (f o : List ℕ) → Good rules (m .book) → (id : ℕ) → Accepts (served m c f o .says) id → Stands (served m c f o .after .book) id (wanted f) (partyOf c f)
+unfolding served exhausted
+served-stands m c f o g id =
+    ⊎-elim
+    (λ (t : canJoin m f ≡ true).
+    let w = join-found rules (m .book) g (joins (settings m) (wanted f)) (ltb-true (joiningPlace m f) places t) in
+    rw t (rw (w .1) (joined-stands m (joiningPlace m f) c f o (w .0) (w .1) (joins-exact (settings m) (wanted f) (w .0 .what) (w .2 .0)) id)))
+    (λ (t : canJoin m f ≡ false). rw t
+    (⊎-elim
+    (λ (u : ltb (freePlace rules (m .book)) places ≡ true). rw u (issued-stands m c f o g (ltb-true (freePlace rules (m .book)) places u) id))
+    (λ (u : ltb (freePlace rules (m .book)) places ≡ false). rw u (λ a. absurd (excepted-no m deviceFailure f o id a)))
+    (true-or (ltb (freePlace rules (m .book)) places))))
+    (true-or (canJoin m f))
+
+-- A request that is joined or issued stands in the party places afterwards, as the latest party of a live entry that asks what it asks.
+pub accepted-stands : (m : Machine) (c t : ℕ) (f o : List ℕ) → Good rules (m .book) → (id : ℕ)
+    → Accepts (outcome m (request c t f o) .says) id → Stands (outcome m (request c t f o) .after .book) id (wanted f) (partyOf c f)
+unfolding granted accepted
+accepted-stands m c t f o g id a =
+    ⊎-elim
+    (λ (h : refusal m (request c t f o) ≡ 0).
+    let e = granted-is m (request c t f o) h in
+    ⊎-elim
+    (λ (z : eqb (faultOf f) 0 ≡ true).
+    let q : outcome m (request c t f o) ≡ served (clocked m t) c f o = e ∙ rw z refl in
+    rw q (served-stands (clocked m t) c f o (good-move rules (m .book) (pass t) g tt) id (rw q at a)))
+    (λ (z : eqb (faultOf f) 0 ≡ false).
+    let q : outcome m (request c t f o) ≡ excepted (clocked m t) (faultOf f) f o = e ∙ rw z refl in
+    absurd (excepted-no (clocked m t) (faultOf f) f o id (rw q at a)))
+    (true-or (eqb (faultOf f) 0)))
+    (λ (h : refusal m (request c t f o) ≡ 0 → ⊥).
+    absurd (refused-no m (request c t f o) id (rw (refusal-changes-nothing m (request c t f o) h) at a)))
+    (eq-or (refusal m (request c t f o)) 0)
+
+-- A reply that does not answer its entry's request leaves the machine as it was, with that entry live.
+pub mismatch-leaves : (m : Machine) (t : ℕ) (f o l : List ℕ) → refusal m (reply t f o l) ≡ 8 → outcome m (reply t f o l) ≡ done (answer.Refused 8) m o l
+unfolding outOf listOf
+mismatch-leaves m t f o l e = refusal-changes-nothing m (reply t f o l) (λ z. omega arith) ∙ ap (λ (n : ℕ). done (answer.Refused n) m o l) e
+
+-- a table with at most one entry ended, and that one due at t
+pub record Ended (t : ℕ) (ps qs : List (Option (Live What Note))) : Type 0 where
+  pub place : ℕ
+  pub others : (j : ℕ) → (j ≡ place → ⊥) → getD qs j none ≡ getD ps j none
+  pub due : (getD qs place none ≡ getD ps place none) ⊎ ((e : Live What Note) × (getD ps place none ≡ some e) × (e .deadline ≤ t) × (getD qs place none ≡ none))
+
+none-ended : (t : ℕ) (ps : List (Option (Live What Note))) → Ended t ps ps
+none-ended t ps = record { place = 0; others = λ j n. refl; due = inl refl }
+
+expired-ends : (m : Machine) (o l : List ℕ) (q : Option (Live What Note)) → Good rules (m .book) → at (m .book) (duePlace rules (m .book)) ≡ q
+    → Ended (m .book .clock) (m .book .places) (expiredTo m (duePlace rules (m .book)) o l q .after .book .places)
+unfolding expiredTo
+expired-ends m o l none g h = none-ended (m .book .clock) (m .book .places)
+expired-ends m o l (some e) g h =
+    let k = duePlace rules (m .book) in
+    let w = due-found rules (m .book) g (rw (g .long) at (at-low (m .book .places) k e h)) in
+    record {
+      place = k;
+      others = λ j n. getD-set-other (m .book .places) k j none none n;
+      due = inr (e, h, rw (same-entry (sym (w .1) ∙ h)) at (w .2), getD-set-same (m .book .places) k none none (at-low (m .book .places) k e h));
+    }
+
+ended-at : {u t : ℕ} {ps qs : List (Option (Live What Note))} → u ≡ t → Ended u ps qs → Ended t ps qs
+ended-at h e = record { place = e .place; others = e .others; due = ⊎-elim inl (λ w. inr (w .0, w .1, rw h at (w .2), w .3)) (e .due) }
+
+-- A tick ends at most one entry: every other place is as it was, and an entry that it ends has its deadline at or before the tick's time.
+pub tick-ends-one : (m : Machine) (t : ℕ) (o l : List ℕ) → Good rules (m .book) → Ended t (m .book .places) (outcome m (tick t o l) .after .book .places)
+unfolding granted ticked
+tick-ends-one m t o l g =
+    ⊎-elim
+    (λ (h : refusal m (tick t o l) ≡ 0).
+    rw (granted-is m (tick t o l) h)
+    (ended-at (clocked-at m (tick t o l) t h refl) (expired-ends (clocked m t) o l (at (clocked m t .book) (duePlace rules (clocked m t .book))) (good-move rules (m .book) (pass t) g tt) refl)))
+    (λ (h : refusal m (tick t o l) ≡ 0 → ⊥). rw (refusal-changes-nothing m (tick t o l) h) (none-ended t (m .book .places)))
+    (eq-or (refusal m (tick t o l)) 0)
+
+-- After a client has left, no party is of that client, and each entry's other parties stand in their order.
+pub left-is-nowhere : (m : Machine) (c k : ℕ) (e : Live What Note) → refusal m (detach c) ≡ 0 → at (outcome m (detach c) .after .book) k ≡ some e
+    → (d : Live What Note) × (at (m .book) k ≡ some d) × (e .parties ≡ without (isOf c) (d .parties)) × ((p : Party) → List·Memᴰ p (e .parties) → p .client ≡ c → ⊥)
+unfolding granted
+left-is-nowhere m c k e h a =
+    let b : at (apply rules (m .book) (strike c)) k ≡ some e = sym (ap (λ (d : Done). at (d .after .book) k) (granted-is m (detach c) h)) ∙ a in
+    let w = map-cases (struck c) (m .book .places) k e b in
+    let s : e .parties ≡ without (isOf c) (w .0 .parties) = ap (λ (x : Live What Note). x .parties) (sym (w .2)) in (
+      w .0,
+      w .1,
+      s,
+      λ p i q.
+          let n = not-true (isOf c p) (filter-in (λ x. not (isOf c x)) p (w .0 .parties) (rw s at i) .1) in
+          true≢false (sym (eq-eqb (p .client) c q) ∙ n),
+    )

@@ -1,0 +1,42 @@
+-- The machine: the book of live requests with the settings in force, its cursor and its clock, and the set of attached clients.
+-- Assumes nothing.
+use Prim.Native.Nat.{ℕ, _<_}
+use mathlib.Core.Bool.{Bool}
+use lib.Dec.{lit<}
+use Rattle.laws.specs.Numbers.{ids, places, room}
+use Rattle.settings.specs.Grammar.{Value}
+use Rattle.pdu.specs.Replies.{What}
+use Rattle.book.specs.Book.{Rules, Book, Move, fresh, apply}
+use Rattle.book.specs.Book.Move.{pass}
+
+-- nothing else is kept of a live request
+abbrev pub Note : Type 0
+Note = Unit {0}
+
+abbrev pub Live-book : Type 0
+Live-book = Book Value What Note
+
+-- 65,536 ids, 64 places, 8 parties to a place; a request waits for the timeout
+abbrev pub rules : Rules Value
+rules = record { ids = ids; places = places; room = room; wait = λ v. v .timeout; fewer = lit< tt; roomy = lit< tt }
+
+pub record Machine : Type 0 where
+  pub book : Live-book
+  pub attached : ℕ
+
+abbrev pub machine : Live-book → ℕ → Machine
+machine b s = record { book = b; attached = s }
+
+-- a fresh state: cursor and clock 0, nobody attached, nothing live
+abbrev pub made : Value → Machine
+made v = machine (fresh rules v) 0
+
+abbrev pub settings : Machine → Value
+settings m = m .book .rule
+
+-- the machine whose clock is set to t, and whose book has moved
+abbrev pub clocked : Machine → ℕ → Machine
+clocked m t = machine (apply rules (m .book) (pass t)) (m .attached)
+
+abbrev pub moved : Machine → Move Value What Note → Machine
+moved m x = machine (apply rules (m .book) x) (m .attached)

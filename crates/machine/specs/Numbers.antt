@@ -1,0 +1,44 @@
+-- The C host's numbers of each answer.
+-- Assumes nothing.
+use Prim.Native.Nat.{ℕ}
+use Rattle.laws.specs.Numbers.{exceptionFrame}
+use Rattle.machine.specs.declared.Answer.{Answer}
+use Rattle.machine.specs.declared.Answer.the-variants.{Refused, Done, Issued, Joined, Excepted, Answered, TimedOut, NothingDue, Lost}
+use Rattle.machine.specs.declared.Report.{Report}
+
+-- the outcomes' numbers: ZB_DONE and so on
+abbrev pub isDone : ℕ
+isDone = 1
+
+abbrev pub isIssued : ℕ
+isIssued = 2
+
+abbrev pub isJoined : ℕ
+isJoined = 3
+
+abbrev pub isException : ℕ
+isException = 4
+
+abbrev pub isAnswered : ℕ
+isAnswered = 5
+
+abbrev pub isTimedOut : ℕ
+isTimedOut = 6
+
+abbrev pub isNothingDue : ℕ
+isNothingDue = 7
+
+abbrev pub report : (refusal outcome length parties partial value set id code : ℕ) → Report
+report r o n k p v s i c =
+    record { refusal = r; line = 0; outcome = o; length = n; parties = k; partial = p; value = v; set = s; id = i; code = c }
+
+unfoldable pub numbers : Answer → Report
+numbers (Refused n) = report n 0 0 0 0 0 0 0 0
+numbers Done = report 0 isDone 0 0 0 0 0 0 0
+numbers (Issued i n p v) = report 0 isIssued n 0 p v 0 (i .0) 0
+numbers (Joined i) = report 0 isJoined 0 0 0 0 0 (i .0) 0
+numbers (Excepted c) = report 0 isException exceptionFrame 0 0 0 0 0 c
+numbers (Answered i n k p v) = report 0 isAnswered n k p v 0 (i .0) 0
+numbers (TimedOut i k) = report 0 isTimedOut exceptionFrame k 0 0 0 (i .0) 0
+numbers NothingDue = report 0 isNothingDue 0 0 0 0 0 0 0
+numbers (Lost s) = report 0 isDone 0 0 0 0 s 0 0

@@ -1,0 +1,88 @@
+-- A request that was not refused: the exceptions 03 and 02, joining, issuing, and exception 04, in document 01's order.
+-- Assumes nothing.
+use Prim.Native.Nat.{ℕ, _+_}
+use mathlib.Core.Bool.{Bool, true, false, cond, not, _&&_, _||_}
+use mathlib.Core.Option.{Option, some, none}
+use mathlib.Core.List.{List, [], _∷_}
+use lib.ListN.{length}
+use lib.Dec.{eqb, ltb}
+use Rattle.laws.specs.Numbers.{places, deviceFailure}
+use Rattle.laws.specs.Bytes.{over}
+use Rattle.wire.specs.Frame.{idOf, unitOf, functionOf, laid, exception}
+use Rattle.settings.specs.Grammar.{Value}
+use Rattle.pdu.specs.Requests.{askedOf, faultOf}
+use Rattle.pdu.specs.Replies.{What, what}
+use Rattle.pdu.specs.declared.Asked.{Asked}
+use Rattle.pdu.specs.declared.Asked.the-variants.{Read, SingleWrite, MultipleWrite, Other}
+use Rattle.rewrite.specs.Rewriting.{Rewritten}
+use Rattle.rewrite.specs.Frames.{forwarded}
+use Rattle.book.specs.Book.{Party, Live, Move, at}
+use Rattle.book.specs.Book.Move.{join, issue}
+use Rattle.book.specs.Desk.{joinPlace, freePlace, freeId}
+use Rattle.machine.specs.Machine.{Machine, Note, rules, settings, clocked, moved}
+use Rattle.machine.specs.Calls.{Done, done}
+use Rattle.machine.specs.declared.Answer.{Answer}
+use Rattle.machine.specs.declared.Answer.the-variants.{Issued, Joined, Excepted}
+
+-- what a request asks, and who asks it under which id
+abbrev pub wanted : List ℕ → What
+wanted f = what (unitOf f) (functionOf f) (askedOf f)
+
+abbrev pub partyOf : ℕ → List ℕ → Party
+partyOf c f = record { client = c; original = idOf f }
+
+-- 03 and 04, when joining is on: equal unit, function, start and quantity
+unfoldable pub sameRead : Asked → Asked → Bool
+sameRead (Read s q) (Read u p) = eqb s u && eqb q p
+sameRead (Read s q) (SingleWrite a) = false
+sameRead (Read s q) (MultipleWrite u p) = false
+sameRead (Read s q) Other = false
+sameRead (SingleWrite a) v = false
+sameRead (MultipleWrite u p) v = false
+sameRead Other v = false
+
+unfoldable pub joins : Value → What → What → Bool
+joins s w v = eqb (s .join) 1 && (eqb (w .unit) (v .unit) && (eqb (w .function) (v .function) && sameRead (w .asked) (v .asked)))
+
+-- where a request would join: the smallest proxy id of those that it may join; and the place for an issue, if fewer than 64 are live
+abbrev pub joiningPlace : Machine → List ℕ → ℕ
+joiningPlace m f = joinPlace rules (m .book) (joins (settings m) (wanted f))
+
+abbrev pub canJoin : Machine → List ℕ → Bool
+canJoin m f = ltb (joiningPlace m f) places
+
+-- no place is free for that client's request
+unfoldable pub exhausted : Machine → ℕ → Bool
+exhausted m c = not (ltb (freePlace rules (m .book)) places)
+
+-- an exception for the caller under its own id; it changes only the clock
+unfoldable pub excepted : Machine → ℕ → List ℕ → List ℕ → Done
+excepted m code f o = done (Excepted code) m (over (exception (idOf f) (unitOf f) (functionOf f) code) o) []
+
+-- step 3: join; no frame is written
+unfoldable pub joinedTo : Machine → ℕ → ℕ → List ℕ → List ℕ → Option (Live What Note) → Done
+joinedTo m k c f o none = excepted m deviceFailure f o
+joinedTo m k c f o (some e) = done (Joined (record { 0 = e .id })) (moved m (join k e (wanted f) (partyOf c f))) o []
+
+-- step 4: issue; the frame goes out with the proxy id and its payload rewritten
+unfoldable pub issuedTo : Machine → ℕ → List ℕ → List ℕ → Done
+issuedTo m c f o =
+    let id = freeId rules (m .book) in
+    let sent = forwarded (settings m .tags) (askedOf f) f in
+    done (Issued (record { 0 = id }) (length f) (sent .partial) (sent .value))
+    (moved m (issue (freePlace rules (m .book)) id (wanted f) tt (m .book .clock + settings m .timeout) (partyOf c f)))
+    (over (laid id (sent .bytes)) o)
+    []
+
+-- a legal request: join, else issue, else exception 04
+unfoldable pub served : Machine → ℕ → List ℕ → List ℕ → Done
+served m c f o =
+    cond (canJoin m f) (joinedTo m (joiningPlace m f) c f o (at (m .book) (joiningPlace m f)))
+    (cond (exhausted m c) (excepted m deviceFailure f o)
+    (issuedTo m c f o))
+
+-- after the refusals: the clock is set, then exception 03, exception 02, and what a legal request comes to
+unfoldable pub accepted : Machine → ℕ → ℕ → List ℕ → List ℕ → Done
+accepted m c t f o =
+    cond (eqb (faultOf f) 0) (served (clocked m t) c f o)
+    (excepted (clocked m t) (faultOf f) f o)

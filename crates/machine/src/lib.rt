@@ -1,0 +1,155 @@
+// What each call does, in document 01's words: definitions and the theorems on them. The only code is the answer and its numbers.
+ghost use mathlib.Core.Path.{_≡_};
+ghost use Rattle.machine.specs.Numbers.{report, numbers};
+use pdu::ProxyId;
+
+// What a call answers. Each case's numbers for the C host are in specs/Numbers.antt.
+pub enum Answer {
+    Refused {
+        number: u32,
+    },
+    Done,
+    Issued {
+        id: ProxyId,
+        length: u32,
+        partial: u32,
+        value: u32,
+    },
+    Joined {
+        id: ProxyId,
+    },
+    Excepted {
+        code: u8,
+    },
+    Answered {
+        id: ProxyId,
+        length: u32,
+        parties: u32,
+        partial: u32,
+        value: u32,
+    },
+    TimedOut {
+        id: ProxyId,
+        parties: u32,
+    },
+    NothingDue,
+    Lost {
+        set: u32,
+    },
+}
+
+// The C host's answer: a field that a call does not speak of is 0.
+#[repr(C)]
+pub struct Report {
+    pub refusal: u32,
+    pub line: u32,
+    pub outcome: u32,
+    pub length: u32,
+    pub parties: u32,
+    pub partial: u32,
+    pub value: u32,
+    pub set: u32,
+    pub id: u32,
+    pub code: u32,
+}
+
+// The outcomes' numbers: ZB_DONE and so on.
+const DONE: u32 = 1;
+
+const ISSUED: u32 = 2;
+
+const JOINED: u32 = 3;
+
+const EXCEPTION: u32 = 4;
+
+const ANSWERED: u32 = 5;
+
+const TIMED_OUT: u32 = 6;
+
+const NOTHING_DUE: u32 = 7;
+
+// A report of an outcome with nothing else to say.
+fn plain(refusal: u32, outcome: u32, length: u32, set: u32, id: u32, code: u32) -> Report
+    ensures { λ r. ⌜ r ≡ report refusal outcome length 0 0 0 set id code ⌝ }
+{
+    Report {
+        refusal,
+        line: 0,
+        outcome,
+        length,
+        parties: 0,
+        partial: 0,
+        value: 0,
+        set,
+        id,
+        code,
+    }
+}
+
+// The numbers of an answer.
+pub fn report_of(a: Answer) -> Report
+    ensures { λ r. ⌜ r ≡ numbers a ⌝ }
+{
+    match a {
+        Answer::Refused { number } => plain(number, 0, 0, 0, 0, 0),
+        Answer::Done => plain(0, DONE, 0, 0, 0, 0),
+        Answer::Issued {
+            id,
+            length,
+            partial,
+            value,
+        } => Report {
+            refusal: 0,
+            line: 0,
+            outcome: ISSUED,
+            length,
+            parties: 0,
+            partial,
+            value,
+            set: 0,
+            id: id.0 as u32,
+            code: 0,
+        },
+        Answer::Joined { id } => plain(0, JOINED, 0, 0, id.0 as u32, 0),
+        Answer::Excepted { code } => plain(
+            0,
+            EXCEPTION,
+            laws::EXCEPTION_FRAME as u32,
+            0,
+            0,
+            code as u32,
+        ),
+        Answer::Answered {
+            id,
+            length,
+            parties,
+            partial,
+            value,
+        } => Report {
+            refusal: 0,
+            line: 0,
+            outcome: ANSWERED,
+            length,
+            parties,
+            partial,
+            value,
+            set: 0,
+            id: id.0 as u32,
+            code: 0,
+        },
+        Answer::TimedOut { id, parties } => Report {
+            refusal: 0,
+            line: 0,
+            outcome: TIMED_OUT,
+            length: laws::EXCEPTION_FRAME as u32,
+            parties,
+            partial: 0,
+            value: 0,
+            set: 0,
+            id: id.0 as u32,
+            code: 0,
+        },
+        Answer::NothingDue => plain(0, NOTHING_DUE, 0, 0, 0, 0),
+        Answer::Lost { set } => plain(0, DONE, 0, set, 0, 0),
+    }
+}

@@ -1,0 +1,96 @@
+-- Each change of the columns is the book's move of that name, and keeps the columns sound.
+-- Assumes nothing.
+use Prim.Native.Nat.{ℕ, _+_, _≤_, _<_}
+use mathlib.Core.Path.{_≡_, ap, sym, _∙_}
+use mathlib.Core.Logic.{⊎-elim}
+use mathlib.Core.Option.{some, Option·map}
+use mathlib.Core.List.{List, [], _∷_, _++_}
+use lib.ListN.{getD, set}
+use lib.Dec.{eqb}
+use Rattle.laws.specs.Numbers.{ids, places}
+use Rattle.laws.specs.Circle.{turn}
+use Rattle.laws.proofs.Choice.{true-or, lt-or}
+use Rattle.laws.proofs.ListLaws.{tab-ext, map-tab}
+use Rattle.settings.specs.Grammar.{Value}
+use Rattle.pdu.specs.Replies.{What}
+use Rattle.pdu.specs.Words.{whatOf}
+use Rattle.book.specs.Book.{Party, Live, book, entry, added, struck, isOf, without, at, apply}
+use Rattle.book.specs.Book.Move.{join, issue, reply, expire, strike, wipe}
+use Rattle.machine.specs.Machine.{Note, rules}
+use Rattle.table.specs.Columns.{Columns, columns, party, partiesAt, entryAt, tableOf, bookOf, Sound}
+use Rattle.table.specs.Changes.{Joined, Struck, reach, blank}
+use Rattle.table.proofs.EntryLaws.{table-at, table-set, withParties, parties-sound, freedAt, freed-table, freed-sound, blank-table, blank-sound}
+
+-- other parties of one place: its entry has them, and is otherwise as it was
+abbrev regrouped : (List Party → List Party) → Live What Note → Live What Note
+regrouped g e = entry (e .id) (e .what) (e .by) (e .note) (e .deadline) (g (e .parties))
+
+regrouped-at : (g : List Party → List Party) (c : Columns) (ns cs os : List ℕ) (k : ℕ) → partiesAt ns cs os k ≡ g (partiesAt (c .counts) (c .clients) (c .originals) k)
+    → entryAt (withParties c ns cs os) k ≡ Option·map (regrouped g) (entryAt c k)
+regrouped-at g c ns cs os k e = rw e (⊎-elim (λ t. rw t) (λ t. rw t) (true-or (eqb (getD (c .ids) k 0) 0)))
+
+module _ (v : Value) (x t : ℕ) (c : Columns) (s : Sound c) where
+  -- A table with a new entry is the book after its issue, with the cursor behind its id.
+  pub issue-is : (c′ : Columns) (place id word deadline client original : ℕ)
+      → tableOf c′ ≡ set (tableOf c) place (some (entry id (whatOf word) client tt deadline (party client original ∷ [])))
+      → bookOf v c′ (turn ids (id + 1)) t ≡ apply rules (bookOf v c x t) (issue place id (whatOf word) tt deadline (party client original))
+  issue-is c′ place id word deadline client original e = ap (λ m. book v m (turn ids (id + 1)) t) e
+
+  module _ (place : ℕ) (p : Party) (ns cs os : List ℕ) (low : place < places) (j : Joined place p (c .counts) (c .clients) (c .originals) ns cs os) where
+    -- One party more at the place of a live entry is the book after the join.
+    pub join-is : (e : Live What Note) (w : What) → at (bookOf v c x t) place ≡ some e
+        → bookOf v (withParties c ns cs os) x t ≡ apply rules (bookOf v c x t) (join place e w p)
+    join-is e w live =
+        ap (λ m. book v m x t)
+        (table-set c (withParties c ns cs os) place (some (added p e)) low
+        (regrouped-at (λ ps. ps ++ (p ∷ [])) c ns cs os place (j .here) ∙ ap (Option·map (added p)) (sym (table-at c place low) ∙ live))
+        (λ k ne. rw (j .elsewhere k ne)))
+
+    -- One party more keeps the columns sound.
+    pub join-sound : Sound (withParties c ns cs os)
+    join-sound = parties-sound c ns cs os s (j .runs)
+
+  module _ (place : ℕ) (is : List ℕ) (top : ℕ) (low : place < places) (f : (is ≡ set (c .ids) place 0) × (top ≡ reach is (c .top))) where
+    abbrev pub freed : Columns
+    freed = columns is (c .asked) (c .notes) (c .deadlines) (c .counts) (c .clients) (c .originals) top
+
+    freed-is : freed ≡ freedAt c s place low
+    freed-is = rw (f .1, f .0)
+
+    -- A freed place is the book after the reply to the entry that stood there.
+    pub remove-is-reply : (e : Live What Note) → bookOf v freed x t ≡ apply rules (bookOf v c x t) (reply place e)
+    remove-is-reply e = ap (λ m. book v m x t) (ap tableOf freed-is ∙ freed-table c s place low)
+
+    -- A freed place is the book after the timeout of the entry that stood there.
+    pub remove-is-expire : (e : Live What Note) → bookOf v freed x t ≡ apply rules (bookOf v c x t) (expire place e)
+    remove-is-expire e = remove-is-reply e
+
+    -- A freed place keeps the columns sound.
+    pub remove-sound : Sound freed
+    remove-sound = rw freed-is (freed-sound c s place low)
+
+  module _ (client : ℕ) (ns cs os : List ℕ) (d : Struck (c .top) client (c .counts) (c .clients) (c .originals) ns cs os) where
+    struck-at : (k : ℕ) → entryAt (withParties c ns cs os) k ≡ Option·map (struck client) (entryAt c k)
+    struck-at k =
+        ⊎-elim
+        (λ (l : k < c .top). regrouped-at (without (isOf client)) c ns cs os k (d .below k l))
+        (λ (l : c .top ≤ k). rw (s .above k l))
+        (lt-or k (c .top))
+
+    -- The client struck out of the places below top is the book after the strike.
+    pub strike-is : bookOf v (withParties c ns cs os) x t ≡ apply rules (bookOf v c x t) (strike client)
+    unfolding tableOf
+    strike-is =
+        ap (λ m. book v m x t) (tab-ext places _ _ (λ k l. struck-at k) ∙ sym (map-tab (Option·map (struck client)) places (entryAt c)))
+
+    -- A strike keeps the columns sound.
+    pub strike-sound : Sound (withParties c ns cs os)
+    strike-sound = parties-sound c ns cs os s (d .runs)
+
+-- Columns of zeros are the book after a wipe, whatever the columns were.
+pub clear-is : (v : Value) (x t : ℕ) (c c′ : Columns) → c′ ≡ blank → bookOf v c′ x t ≡ apply rules (bookOf v c x t) wipe
+clear-is v x t c c′ e = ap (λ m. book v m x t) (ap tableOf e ∙ blank-table)
+
+-- Columns of zeros are sound, whatever the columns were.
+pub clear-sound : (c′ : Columns) → c′ ≡ blank → Sound c′
+clear-sound c′ e = rw e blank-sound
