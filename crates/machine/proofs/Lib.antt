@@ -5,4 +5,7 @@ pub mod OutcomeLaws
 pub mod RequestLaws
 pub mod Follows
 pub mod PartyLaws
+pub mod AnswerLaws
+pub mod TickLaws
 pub mod Histories
+pub mod Claims

@@ -1,0 +1,154 @@
+-- What a reply's parties and a tick's parties get, and that ticking at one time comes to an end.
+-- Assumes nothing.
+use Prim.Native.Nat.{ℕ, zero, suc, _+_, _≤_, _<_, max}
+use mathlib.Core.Path.{_≡_, refl, ap, sym, _∙_}
+use mathlib.Core.Logic.{⊎-elim, _⊎_, inl, inr}
+use mathlib.Core.Bool.{Bool, true, false, not, true≢false, false≢true}
+use mathlib.Core.Option.{Option, some, none}
+use mathlib.Core.List.{List, [], _∷_}
+use native.Mathlib.Omega.{arith}
+use native.Mathlib.Nat.{max-eq-right}
+use lib.ListN.{length}
+use borrow.Author.Tests.{not-false}
+use Rattle.laws.specs.Numbers.{places, noResponse}
+use Rattle.laws.specs.Bytes.{over}
+use Rattle.laws.proofs.Choice.{true-or, eq-or, lt-or}
+use Rattle.wire.specs.Frame.{idOf, laid, exception}
+use Rattle.pdu.specs.Replies.{What, answering}
+use Rattle.rewrite.specs.Frames.{returned}
+use Rattle.book.specs.Book.{Live, Move, Good, NothingDue, at, apply}
+use Rattle.book.specs.Book.Move.{pass}
+use Rattle.book.specs.Desk.{duePlace, idPlace, choose, ticks}
+use Rattle.book.specs.Desk.Op.{tick as ticking}
+use Rattle.book.proofs.GoodLaws.{good-move}
+use Rattle.book.proofs.DeskLaws.{due-found, due-none, id-found}
+use Rattle.book.proofs.PlaceLaws.{at-low}
+use Rattle.book.proofs.TickLaws.{drains}
+use Rattle.machine.specs.Machine.{Machine, Note, Live-book, rules, settings, clocked}
+use Rattle.machine.specs.Calls.{Call, Done, done}
+use Rattle.machine.specs.Calls.Call.{reply, tick}
+use Rattle.machine.specs.Refusals.{rows, refusal, entryFor, isMismatched}
+use Rattle.machine.specs.Replies.{pairs, answeredTo, answered, expiredTo, ticked}
+use Rattle.machine.specs.Outcomes.{granted, outcome}
+use Rattle.machine.specs.declared.Answer.{Answer}
+use Rattle.machine.specs.declared.Answer.the-variants as answer
+use Rattle.machine.proofs.RefusalLaws.{refusal-changes-nothing}
+use Rattle.machine.proofs.OutcomeLaws.{none-applies, granted-is, reply-finds, clocked-at}
+use Rattle.machine.proofs.Follows.{same-entry}
+
+-- a reply that is not refused answers the entry that it finds
+matched : (f : List ℕ) (q : Option (Live What Note)) (e : Live What Note) → isMismatched f q ≡ false → q ≡ some e → answering (e .what) f ≡ true
+matched f q e n h = not-false (answering (e .what) f) (sym (ap (isMismatched f) h) ∙ n)
+
+-- what a reply that is not refused does: the entry under its id, which it answers; its whole frame and list
+pub record Answers (m : Machine) (f o l : List ℕ) (d : Done) : Type 0 where
+  pub place : ℕ
+  pub entry : Live What Note
+  pub there : at (m .book) place ≡ some entry
+  pub same : entry .id ≡ idOf f
+  pub matches : answering (entry .what) f ≡ true
+  pub frame : d .written ≡ over (laid 0 (returned (settings m .tags) (entry .what) f .bytes)) o
+  pub list : d .listed ≡ over (pairs (entry .parties)) l
+
+answered-frame : (m : Machine) (k : ℕ) (f o l : List ℕ) (e : Live What Note)
+    → (answeredTo m k f o l (some e) .written ≡ over (laid 0 (returned (settings m .tags) (e .what) f .bytes)) o) × (answeredTo m k f o l (some e) .listed ≡ over (pairs (e .parties)) l)
+unfolding answeredTo
+answered-frame m k f o l e = (refl, refl)
+
+-- A reply that is not refused hands the parties of its own entry the definition's rewriting of that reply, which answers what the entry holds.
+pub reply-answers : (m : Machine) (t : ℕ) (f o l : List ℕ) → Good rules (m .book) → refusal m (reply t f o l) ≡ 0 → Answers m f o l (outcome m (reply t f o l))
+unfolding granted rows answered
+reply-answers m t f o l g h =
+    let a = none-applies _ 1 _ (λ z. omega arith) h in
+    let b = none-applies _ 3 _ (λ z. omega arith) (a .1) in
+    let c = none-applies _ 4 _ (λ z. omega arith) (b .1) in
+    let d = none-applies _ 7 _ (λ z. omega arith) (c .1) in
+    let x = none-applies (isMismatched f (entryFor m f)) 8 _ (λ z. omega arith) (d .1) in
+    let e = reply-finds m t f o l h in
+    let k = idPlace rules (m .book) (idOf f) in
+    let q : outcome m (reply t f o l) ≡ answeredTo (clocked m t) k f o l (some (e .0)) = granted-is m (reply t f o l) h ∙ ap (answeredTo (clocked m t) k f o l) (e .1) in
+    let w = id-found rules (m .book) g (idOf f) (rw (g .long) at (at-low (m .book .places) k (e .0) (e .1))) in
+    record {
+      place = k;
+      entry = e .0;
+      there = e .1;
+      same = ap (λ (y : Live What Note). y .id) (same-entry (sym (e .1) ∙ w .1)) ∙ w .2;
+      matches = matched f (entryFor m f) (e .0) (x .0) (e .1);
+      frame = ap (λ (y : Done). y .written) q ∙ answered-frame (clocked m t) k f o l (e .0) .0;
+      list = ap (λ (y : Done). y .listed) q ∙ answered-frame (clocked m t) k f o l (e .0) .1;
+    }
+
+-- what a tick that ends an entry does
+pub record Expires (m : Machine) (t : ℕ) (o l : List ℕ) (d : Done) : Type 0 where
+  pub place : ℕ
+  pub entry : Live What Note
+  pub there : at (m .book) place ≡ some entry
+  pub due : entry .deadline ≤ t
+  pub frame : d .written ≡ over (exception 0 (entry .what .unit) (entry .what .function) noResponse) o
+  pub list : d .listed ≡ over (pairs (entry .parties)) l
+
+expired-says : (m : Machine) (k : ℕ) (o l : List ℕ) (e : Live What Note) → (expiredTo m k o l (some e) .says ≡ answer.NothingDue → ⊥)
+    × (expiredTo m k o l (some e) .written ≡ over (exception 0 (e .what .unit) (e .what .function) noResponse) o) × (expiredTo m k o l (some e) .listed ≡ over (pairs (e .parties)) l)
+unfolding expiredTo
+expired-says m k o l e = (λ z. let n : _≡_ {A = ℕ} 0 1 = cc in omega arith, refl, refl)
+
+pub idle-says : (m : Machine) (k : ℕ) (o l : List ℕ) → expiredTo m k o l none ≡ done answer.NothingDue m o l
+unfolding expiredTo
+idle-says m k o l = refl
+
+-- the tick's search, once the clock is set
+pub ticked-is : (m : Machine) (t : ℕ) (o l : List ℕ) → refusal m (tick t o l) ≡ 0
+    → outcome m (tick t o l) ≡ expiredTo (clocked m t) (duePlace rules (clocked m t .book)) o l (at (clocked m t .book) (duePlace rules (clocked m t .book)))
+unfolding granted ticked
+ticked-is m t o l h = granted-is m (tick t o l) h
+
+pub spot : (b : Live-book) (k : ℕ) → ((e : Live What Note) × (at b k ≡ some e)) ⊎ (at b k ≡ none)
+spot b k = go (at b k) refl
+  where
+    go : (q : Option (Live What Note)) → at b k ≡ q → ((e : Live What Note) × (at b k ≡ some e)) ⊎ (at b k ≡ none)
+    go none h = inr h
+    go (some e) h = inl (e, h)
+
+nothing-there : (b : Live-book) → Good rules b → at b (duePlace rules b) ≡ none → NothingDue b
+nothing-there b g n =
+    due-none rules b g (⊎-elim
+    (λ (l : duePlace rules b < places). let w = due-found rules b g l in absurd (let z : _≡_ {A = ℕ} 0 1 = cc (w .1, n) in omega arith))
+    (λ l. l)
+    (lt-or (duePlace rules b) places))
+
+-- A tick that is not refused and does not say that nothing is due hands exception 0B to the parties of an entry whose deadline has come.
+pub tick-expires : (m : Machine) (t : ℕ) (o l : List ℕ) → Good rules (m .book) → refusal m (tick t o l) ≡ 0 → (outcome m (tick t o l) .says ≡ answer.NothingDue → ⊥) → Expires m t o l (outcome m (tick t o l))
+tick-expires m t o l g h n =
+    let b = clocked m t .book in
+    let gb = good-move rules (m .book) (pass t) g tt in
+    let k = duePlace rules b in
+    ⊎-elim
+    (λ (e : (e : Live What Note) × (at b k ≡ some e)).
+    let q : outcome m (tick t o l) ≡ expiredTo (clocked m t) k o l (some (e .0)) = ticked-is m t o l h ∙ ap (expiredTo (clocked m t) k o l) (e .1) in
+    let w = due-found rules b gb (rw (gb .long) at (at-low (b .places) k (e .0) (e .1))) in
+    record {
+      place = k;
+      entry = e .0;
+      there = e .1;
+      due = rw (same-entry (sym (w .1) ∙ e .1), clocked-at m (tick t o l) t h refl) at (w .2);
+      frame = ap (λ (y : Done). y .written) q ∙ expired-says (clocked m t) k o l (e .0) .1;
+      list = ap (λ (y : Done). y .listed) q ∙ expired-says (clocked m t) k o l (e .0) .2;
+    })
+    (λ (e : at b k ≡ none). absurd (n (ap (λ (y : Done). y .says) (ticked-is m t o l h ∙ ap (expiredTo (clocked m t) k o l) e ∙ idle-says (clocked m t) k o l))))
+    (spot b k)
+
+-- A tick says that nothing is due exactly when, at its time, nothing is.
+pub idle-when : (m : Machine) (t : ℕ) (o l : List ℕ) → Good rules (m .book) → outcome m (tick t o l) .says ≡ answer.NothingDue → (refusal m (tick t o l) ≡ 0) × NothingDue (clocked m t .book) × (outcome m (tick t o l) .after ≡ clocked m t)
+idle-when m t o l g s =
+    let b = clocked m t .book in
+    let k = duePlace rules b in
+    ⊎-elim
+    (λ (h : refusal m (tick t o l) ≡ 0). ⊎-elim
+    (λ (e : (e : Live What Note) × (at b k ≡ some e)).
+    absurd (expired-says (clocked m t) k o l (e .0) .0 (sym (ap (λ (y : Done). y .says) (ticked-is m t o l h ∙ ap (expiredTo (clocked m t) k o l) (e .1))) ∙ s)))
+    (λ (e : at b k ≡ none).
+    (h, nothing-there b (good-move rules (m .book) (pass t) g tt) e, ap (λ (y : Done). y .after) (ticked-is m t o l h ∙ ap (expiredTo (clocked m t) k o l) e ∙ idle-says (clocked m t) k o l)))
+    (spot b k))
+    (λ (h : refusal m (tick t o l) ≡ 0 → ⊥).
+    absurd (let z : _≡_ {A = ℕ} 0 1 = cc (sym (ap (λ (y : Done). y .says) (refusal-changes-nothing m (tick t o l) h)) ∙ s) in omega arith))
+    (eq-or (refusal m (tick t o l)) 0)

@@ -1,0 +1,124 @@
+-- What the tender asks of any history, in one place: every list of calls on a fresh machine, refused calls included, whatever the settings value.
+-- `afterCalls v xs` is the machine after the calls xs, `ledgerOf v xs` the ledger kept from the calls and what the host saw of them: the C answer's numbers, the bytes and the list.
+-- Assumes nothing.
+use Prim.Native.Nat.{ℕ, zero, suc, _+_, _≤_, _<_, max}
+use mathlib.Core.Path.{_≡_, refl, ap, sym, _∙_}
+use mathlib.Core.Logic.{⊎-elim, _↔_}
+use mathlib.Core.Bool.{true}
+use mathlib.Core.Option.{some}
+use mathlib.Core.List.{List, [], _∷_, _++_, map, List·Memᴰ}
+use native.Mathlib.Omega.{arith}
+use native.Mathlib.Nat.{max-eq-right}
+use lib.ListN.{length, getD, replicate}
+use lib.Dec.{eqb}
+use borrow.Author.Tests.{eqb-true}
+use Rattle.laws.specs.Lists.{filter}
+use Rattle.laws.proofs.FilterLaws.{filter-in}
+use Rattle.settings.specs.Grammar.{Value}
+use Rattle.wire.specs.Frame.{idOf, laid}
+use Rattle.wire.proofs.FrameLaws.{laid-laid}
+use Rattle.pdu.specs.Requests.{legal}
+use Rattle.pdu.specs.Replies.{What}
+use Rattle.book.specs.Book.{Live, Event, Good, NothingDue, at}
+use Rattle.book.specs.Book.Event.{left}
+use Rattle.book.specs.Ledger.{Ticket, Ledger, Anew, empty, post, posts, under, partiesOf}
+use Rattle.book.specs.Desk.{NoneOpen, AllLive}
+use Rattle.book.specs.Machine.{Accounted, after, history}
+use Rattle.book.proofs.History.{issues-differ, always-sound}
+use Rattle.book.proofs.LedgerLaws.{successor}
+use Rattle.machine.specs.Machine.{Machine, Note, made, rules, settings, clocked}
+use Rattle.machine.specs.Calls.{Call, Done}
+use Rattle.machine.specs.Calls.Call.{attach, detach, request, reply, tick, linkLost}
+use Rattle.machine.specs.Refusals.{refusal}
+use Rattle.machine.specs.Requests.{wanted, joins}
+use Rattle.machine.specs.Outcomes.{outcome}
+use Rattle.machine.specs.declared.Answer.the-variants as answer
+use Rattle.machine.proofs.OutcomeLaws.{clocked-at}
+use Rattle.machine.proofs.RequestLaws.{exception-04 as said-exactly}
+use Rattle.machine.proofs.AnswerLaws.{Answers, Expires, reply-answers, tick-expires, idle-when}
+use Rattle.machine.proofs.TickLaws.{ticked, ticking-ends}
+use Rattle.machine.proofs.Histories.{product, afterCalls, toldBy, ledgerOf, accounted}
+
+-- Tender 3, the sum: accepted = answered by a reply + answered by timeout + dropped by a leaving + dropped by a lost link + held in the party places; each accepted
+-- request is in one group and there once; the held ones are, entry by entry and in order, the parties in the places; each answer's list is exactly those that it answers.
+pub every-request-is-accounted-for : (v : Value) (xs : List Call) → Accounted rules (afterCalls v xs .book) (toldBy v xs) (ledgerOf v xs)
+every-request-is-accounted-for v xs = accounted v xs
+
+module _ (v : Value) (xs : List Call) where
+  -- every book of a history is good
+  good : Good rules (afterCalls v xs .book)
+  good = accounted v xs .good
+
+  -- and its settings are those that it was made with
+  same-settings : settings (afterCalls v xs) ≡ v
+  same-settings = always-sound (product v) xs
+
+  -- Tender 3: live proxy ids differ.
+  pub live-ids-differ : (i j : ℕ) (d e : Live What Note) → at (afterCalls v xs .book) i ≡ some d → at (afterCalls v xs .book) j ≡ some e → d .id ≡ e .id → i ≡ j
+  live-ids-differ = good .differ
+
+  -- Tender 3: an id is not issued again until at least 65,472 others were.
+  pub an-id-comes-round-late : (a c : ℕ) → a < c → c < length (ledgerOf v xs .issues) → getD (ledgerOf v xs .issues) a 0 ≡ getD (ledgerOf v xs .issues) c 0 → a + 65472 < c
+  an-id-comes-round-late = accounted v xs .apart
+
+  -- and those others are of different ids
+  pub the-others-differ : (i j : ℕ) → i < j → j ≤ i + 65472 → j < length (ledgerOf v xs .issues) → getD (ledgerOf v xs .issues) i 0 ≡ getD (ledgerOf v xs .issues) j 0 → ⊥
+  the-others-differ = issues-differ rules (afterCalls v xs .book) (toldBy v xs) (ledgerOf v xs) (accounted v xs)
+
+  -- Tender 3: the proxy itself gives exception 04 exactly when a legal request can join nothing and 64 are live.
+  pub exception-04-exactly : (c t : ℕ) (f o : List ℕ)
+      → (outcome (afterCalls v xs) (request c t f o) .says ≡ answer.Excepted 4)
+      ↔ ((refusal (afterCalls v xs) (request c t f o) ≡ 0) × (legal (settings (afterCalls v xs)) f ≡ true)
+      × NoneOpen rules (clocked (afterCalls v xs) t .book) (joins (settings (afterCalls v xs)) (wanted f)) × AllLive rules (clocked (afterCalls v xs) t .book))
+  exception-04-exactly c t f o = said-exactly (afterCalls v xs) c t f o good
+
+  -- Tender 2 and 3, a reply: it hands the definition's rewriting of itself to the parties of the entry under its id, which it answers; these are the requests that
+  -- wait under that id, in the order in which they were accepted, and each asked what the reply was matched against.
+  pub a-reply-goes-to-its-own : (t : ℕ) (f o l : List ℕ) → refusal (afterCalls v xs) (reply t f o l) ≡ 0
+      → (a : Answers (afterCalls v xs) f o l (outcome (afterCalls v xs) (reply t f o l)))
+      × (a .entry .parties ≡ partiesOf (filter (under (a .entry .id)) (ledgerOf v xs .waiting)))
+      × ((k : Ticket What) → List·Memᴰ k (filter (under (a .entry .id)) (ledgerOf v xs .waiting)) → k .what ≡ a .entry .what)
+  a-reply-goes-to-its-own t f o l h =
+      let a = reply-answers (afterCalls v xs) t f o l good h in (
+        a,
+        accounted v xs .entries (a .place) (a .entry) (a .there),
+        λ k m.
+            let i = filter-in (under (a .entry .id)) k (ledgerOf v xs .waiting) m in
+            accounted v xs .asked (a .place) (a .entry) (a .there) k (i .0) (eqb-true (k .id) (a .entry .id) (i .1)),
+      )
+
+  -- Tender 2 and 3, a timeout: exception 0B goes to the parties of an entry whose deadline has come, and these are the requests that wait under its id.
+  pub a-timeout-goes-to-its-own : (t : ℕ) (o l : List ℕ) → refusal (afterCalls v xs) (tick t o l) ≡ 0 → (outcome (afterCalls v xs) (tick t o l) .says ≡ answer.NothingDue → ⊥)
+      → (a : Expires (afterCalls v xs) t o l (outcome (afterCalls v xs) (tick t o l))) × (a .entry .parties ≡ partiesOf (filter (under (a .entry .id)) (ledgerOf v xs .waiting)))
+  a-timeout-goes-to-its-own t o l h n =
+      let a = tick-expires (afterCalls v xs) t o l good h n in
+      (a, accounted v xs .entries (a .place) (a .entry) (a .there))
+
+  -- Document 01: laying a party's id over bytes 0 and 1 gives its frame.
+  pub a-partys-frame : (id : ℕ) (f : List ℕ) → laid id (laid 0 f) ≡ laid id f
+  a-partys-frame id f = laid-laid id 0 f
+
+  -- Tender 3: ticking at one time ends. After as many ticks as there are places the next one says that nothing is due.
+  pub ticking-comes-to-an-end : (t : ℕ) (o l : List ℕ) (n : ℕ) → refusal (afterCalls v xs) (tick t o l) ≡ 0 → 64 ≤ n → outcome (ticked t o l n (afterCalls v xs)) (tick t o l) .says ≡ answer.NothingDue
+  ticking-comes-to-an-end t o l n h p = ticking-ends t o l n (afterCalls v xs) good h p
+
+-- the machine after one call more
+after-one : (v : Value) (m : Machine) (xs : List Call) (x : Call) → after (product v) m (xs ++ (x ∷ [])) ≡ outcome (after (product v) m xs) x .after
+unfolding after
+after-one v m [] x = refl
+after-one v m (y ∷ ys) x = after-one v (outcome m y .after) ys x
+
+-- Tender 3: once the host has ticked until nothing is due, at the time t, nothing accepted a full timeout ago waits.
+pub nothing-waits-forever : (v : Value) (xs : List Call) (t : ℕ) (o l : List ℕ) → outcome (afterCalls v xs) (tick t o l) .says ≡ answer.NothingDue
+    → (k : Ticket What) → List·Memᴰ k (ledgerOf v (xs ++ (tick t o l ∷ [])) .waiting) → t < k .time + v .timeout
+nothing-waits-forever v xs t o l s k m =
+    let w = idle-when (afterCalls v xs) t o l (good v xs) s in
+    let ys = xs ++ (tick t o l ∷ []) in
+    let e : afterCalls v ys ≡ clocked (afterCalls v xs) t = after-one v (made v) xs (tick t o l) ∙ w .2 in
+    let d = accounted v ys .drained (rw (ap (λ (n : Machine). n .book) e) (w .1)) k m in
+    let c : afterCalls v ys .book .clock ≡ t = ap (λ (n : Machine). n .book .clock) e ∙ clocked-at (afterCalls v xs) (tick t o l) t (w .0) refl in
+    rw (c, same-settings v ys) at d
+
+-- Tender 3: a client number that is attached again gets nothing that its predecessor asked: of what is answered after a client left, whatever is its number's was accepted since.
+pub a-successor-gets-nothing-old : (us : List (Event What)) (c : ℕ) (ws : List (Event What)) → Anew c (post (posts empty us) (left c)) (posts empty (us ++ left c ∷ ws))
+a-successor-gets-nothing-old us c ws = successor us c ws
