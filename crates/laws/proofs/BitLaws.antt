@@ -7,7 +7,7 @@ use mathlib.Core.Bool.{Bool, true, false, not, _&&_, _||_, and-false, and-comm, 
 use native.Mathlib.Nat.{pow-zero, pow-succ', div-one, zero-div, div-div-eq-div-mul, one-mul, div-eq-of-lt, mod-eq-of-lt, lt-of-lt-of-le, lt-of-le-of-lt, zero-mul, add-comm}
 use native.Mathlib.Numerals.{add-one}
 use native.Mathlib.Omega.{arith}
-use lib.Dec.{eqb, ltb, eqb·suc-suc, eqb·zero-suc, eqb·suc-zero}
+use lib.Dec.{lit<, eqb, ltb, eqb·suc-suc, eqb·zero-suc, eqb·suc-zero}
 use lib.Pow.{pow-pos, pow-lt, pow-mono}
 use lib.Bits.{bitAnd, bitOr, and-step, or-step, and-shr, or-shr, and-high, and-le-l, or-lt, or-add-and}
 use borrow.Author.Tests.{eq-eqb, ne-eqb, eqb-true, eqb-false, ltb-true, ltb-false}
@@ -21,33 +21,25 @@ odd-or x = ⊎-elim (λ e. inl e) (λ e. inr (omega (arith, e))) (go (eqb (x % 2
     go true e = inl (eqb-true (x % 2) 0 e)
     go false e = inr (eqb-false (x % 2) 0 e)
 
+-- what holds of each two bits holds of the lowest two
+bit-cases : (P : ℕ → ℕ → Type 0) → P 0 0 → P 0 1 → P 1 0 → P 1 1 → (x y : ℕ) → P (x % 2) (y % 2)
+bit-cases P a b c d x y =
+    ⊎-elim
+    (λ (e : x % 2 ≡ 0). ⊎-elim (λ (f : y % 2 ≡ 0). rw (e, f) a) (λ (f : y % 2 ≡ 1). rw (e, f) b) (odd-or y))
+    (λ (e : x % 2 ≡ 1). ⊎-elim (λ (f : y % 2 ≡ 0). rw (e, f) c) (λ (f : y % 2 ≡ 1). rw (e, f) d) (odd-or y))
+    (odd-or x)
+
 and-odd : (x y : ℕ) → eqb (bitAnd x y % 2) 1 ≡ (eqb (x % 2) 1 && eqb (y % 2) 1)
 and-odd x y =
-    let s = and-step x y in
-    ⊎-elim
-    (λ (a : x % 2 ≡ 0). ⊎-elim
-    (λ (b : y % 2 ≡ 0). let e : bitAnd x y % 2 ≡ 0 = let t = rw (a, b) at s in omega arith in simp (e, a, b))
-    (λ (b : y % 2 ≡ 1). let e : bitAnd x y % 2 ≡ 0 = let t = rw (a, b) at s in omega arith in simp (e, a, b))
-    (odd-or y))
-    (λ (a : x % 2 ≡ 1). ⊎-elim
-    (λ (b : y % 2 ≡ 0). let e : bitAnd x y % 2 ≡ 0 = let t = rw (a, b) at s in omega arith in simp (e, a, b))
-    (λ (b : y % 2 ≡ 1). let e : bitAnd x y % 2 ≡ 1 = let t = rw (a, b) at s in omega arith in simp (e, a, b))
-    (odd-or y))
-    (odd-or x)
+    let low : min (x % 2) (y % 2) < 2 = bit-cases (λ a b. min a b < 2) (lit< tt) (lit< tt) (lit< tt) (lit< tt) x y in
+    let e : bitAnd x y % 2 ≡ min (x % 2) (y % 2) = omega (arith, and-step x y) in
+    ap (λ (n : ℕ). eqb n 1) e ∙ bit-cases (λ a b. eqb (min a b) 1 ≡ (eqb a 1 && eqb b 1)) refl refl refl refl x y
 
 or-odd : (x y : ℕ) → eqb (bitOr x y % 2) 1 ≡ (eqb (x % 2) 1 || eqb (y % 2) 1)
 or-odd x y =
-    let s = or-step x y in
-    ⊎-elim
-    (λ (a : x % 2 ≡ 0). ⊎-elim
-    (λ (b : y % 2 ≡ 0). let e : bitOr x y % 2 ≡ 0 = let t = rw (a, b) at s in omega arith in simp (e, a, b))
-    (λ (b : y % 2 ≡ 1). let e : bitOr x y % 2 ≡ 1 = let t = rw (a, b) at s in omega arith in simp (e, a, b))
-    (odd-or y))
-    (λ (a : x % 2 ≡ 1). ⊎-elim
-    (λ (b : y % 2 ≡ 0). let e : bitOr x y % 2 ≡ 1 = let t = rw (a, b) at s in omega arith in simp (e, a, b))
-    (λ (b : y % 2 ≡ 1). let e : bitOr x y % 2 ≡ 1 = let t = rw (a, b) at s in omega arith in simp (e, a, b))
-    (odd-or y))
-    (odd-or x)
+    let low : max (x % 2) (y % 2) < 2 = bit-cases (λ a b. max a b < 2) (lit< tt) (lit< tt) (lit< tt) (lit< tt) x y in
+    let e : bitOr x y % 2 ≡ max (x % 2) (y % 2) = omega (arith, or-step x y) in
+    ap (λ (n : ℕ). eqb n 1) e ∙ bit-cases (λ a b. eqb (max a b) 1 ≡ (eqb a 1 || eqb b 1)) refl refl refl refl x y
 
 pub has-and : (a b i : ℕ) → has (bitAnd a b) i ≡ (has a i && has b i)
 has-and a b i = rw (and-shr a b i) (and-odd (a / 2 ^ i) (b / 2 ^ i))
