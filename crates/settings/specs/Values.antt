@@ -1,19 +1,14 @@
--- The settings value of the boundary's struct; what reading and writing a text report.
+-- The settings value of the boundary's struct, and back; when two values are equal.
 -- Assumes nothing.
 use Prim.Native.Nat.{ℕ, _+_, _-_}
-use mathlib.Core.Bool.{Bool, true, false, cond, not, _&&_}
+use mathlib.Core.Bool.{Bool, true, false, _&&_}
 use mathlib.Core.List.{List, [], _∷_, _++_, map}
 use lib.ListN.{length, getD, replicate}
-use lib.Dec.{eqb, ltb}
+use lib.Dec.{eqb}
 use Rattle.laws.specs.Numbers.{mostTags, usualTimeout}
 use Rattle.laws.specs.Lists.{tab}
-use Rattle.laws.specs.Bytes.{over}
-use Rattle.settings.specs.Grammar.Read.{got, wrong}
-use Rattle.settings.specs.Grammar.{Tag, Value, Read, newest, textIn, valid, readText}
+use Rattle.settings.specs.Grammar.{Tag, Value}
 use Rattle.settings.specs.declared.Settings.{Settings}
-use Rattle.settings.specs.declared.ReadText.{ReadText}
-use Rattle.settings.specs.declared.Wrote.{Wrote}
-use Rattle.settings.specs.declared.Wrote.the-variants.{Text, TooShort, Invalid}
 
 -- the listed tags count, and nothing beyond them
 unfoldable pub valueOf : Settings → Value
@@ -38,11 +33,6 @@ settingsOf v =
 abbrev pub usual : Value
 usual = record { timeout = usualTimeout; join = 1; tags = [] }
 
--- the value with line 0, or the first wrong line with the usual value
-unfoldable pub reported : Read Value → ReadText
-reported (got v r) = record { line = 0; settings = settingsOf v }
-reported (wrong k) = record { line = k; settings = settingsOf usual }
-
 -- two settings values are equal when timeout, join and the listed tags are
 unfoldable pub sameTags : List Tag → List Tag → Bool
 sameTags [] [] = true
@@ -52,17 +42,3 @@ sameTags (t ∷ ts) (u ∷ us) = eqb (t .address) (u .address) && (eqb (t .width
 
 unfoldable pub same : Value → Value → Bool
 same v w = eqb (v .timeout) (w .timeout) && (eqb (v .join) (w .join) && sameTags (v .tags) (w .tags))
-
--- writing: refusal 10 for an invalid value whatever the buffer's length, refusal 1 if the text does not fit; the buffer afterwards
-pub record Writing : Type 0 where
-  pub says : Wrote
-  pub buffer : List ℕ
-
-abbrev pub writing : Wrote → List ℕ → Writing
-writing w b = record { says = w; buffer = b }
-
-unfoldable pub writtenTo : Value → List ℕ → Writing
-writtenTo v b =
-    cond (not (valid v)) (writing Invalid b)
-    (cond (ltb (length b) (length (textIn newest v))) (writing TooShort b)
-    (writing (Text (length (textIn newest v))) (over (textIn newest v) b)))

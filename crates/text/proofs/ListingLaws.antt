@@ -13,10 +13,11 @@ use borrow.Author.Tests.{ne-eqb}
 use Rattle.laws.specs.Numbers.{mostTags}
 use Rattle.settings.specs.Grammar.{Tag, Value, Read, newest, readLines, readTags, readBehind}
 use Rattle.settings.specs.Grammar.Read.{got, wrong}
-use Rattle.settings.specs.Values.{padded, settingsOf, reported}
+use Rattle.settings.specs.Values.{padded, settingsOf}
+use Rattle.text.specs.Reports.{reported}
 use Rattle.text.specs.Reading.{lowest, placedTag}
 use Rattle.settings.specs.declared.Settings.{Settings}
-use Rattle.settings.specs.declared.ReadText.{ReadText}
+use Rattle.text.specs.declared.ReadText.{ReadText}
 use Rattle.text.specs.declared.reading.TagRead.the-variants.{Tagged, WrongAt}
 use Rattle.laws.proofs.ListLaws.{set-padded}
 use Rattle.settings.proofs.RowLaws.{onto, onto-onto, tag-wrong, tag-right}

@@ -18,8 +18,9 @@ use Rattle.laws.proofs.ListLaws.{length-tab, flatMap-more}
 use Rattle.settings.specs.Lines.{equals, lineFeed, digitZero, decimalOf, decimal, lineOf}
 use Rattle.settings.specs.Grammar.{Tag, Value, newest, versionKey, timeoutKey, joinKey, tagsKey, addrKey, widthKey, textOfLines, textIn, valid}
 use Rattle.settings.specs.declared.Settings.{Settings}
-use Rattle.settings.specs.Values.{valueOf, writing, writtenTo}
-use Rattle.settings.specs.declared.Wrote.the-variants.{Text, TooShort, Invalid}
+use Rattle.settings.specs.Values.{valueOf}
+use Rattle.text.specs.Reports.{writing, writtenTo}
+use Rattle.text.specs.declared.Wrote.the-variants.{Text, TooShort, Invalid}
 use Rattle.text.specs.Parts.{Laid, headText, tagText, tagsText}
 use Rattle.settings.proofs.ValueLaws.{tagAt}
 use Rattle.laws.proofs.ByteLaws.{overAt-none, overAt-paste, length-overAt, overAt-front, overAt-behind, overAt-over}

@@ -7,10 +7,10 @@ ghost use Rattle.laws.specs.Numbers.{mostTags};
 ghost use Rattle.settings.specs.Lines.{behind, numberIn};
 ghost use Rattle.settings.specs.Grammar.{newest, readLines, readBehind, readIn, readText};
 ghost use Rattle.settings.specs.Grammar.Read.{wrong};
-ghost use Rattle.settings.specs.Values.{reported};
+ghost use Rattle.text.specs.Reports.{reported};
 ghost use Rattle.settings.specs.Grammar.{kept};
 ghost use Rattle.text.specs.Reading.{ceiling, found, capped, placed, within, lineBehind, lowest, placedTag, blankOf};
-use settings::ReadText;
+use crate::ReadText;
 use settings::Settings;
 
 // A longer number stays here: above every number that a line may have.

@@ -6,10 +6,11 @@ ghost use lib.ListN.{length};
 ghost use Rattle.laws.specs.Numbers.{mostTags};
 ghost use Rattle.settings.specs.Lines.{digitZero, decimal, lineOf};
 ghost use Rattle.settings.specs.Grammar.{newest, textIn};
-ghost use Rattle.settings.specs.Values.{valueOf, writing, writtenTo};
+ghost use Rattle.settings.specs.Values.{valueOf};
+ghost use Rattle.text.specs.Reports.{writing, writtenTo};
 ghost use Rattle.text.specs.Parts.{Laid, headText, tagText, tagsText};
+use crate::Wrote;
 use settings::Settings;
-use settings::Wrote;
 use settings::values::is_valid;
 
 // How many digits a number has.

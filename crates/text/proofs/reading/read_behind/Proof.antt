@@ -5,7 +5,7 @@ use mathlib.Core.Path.{ap, sym, _∙_}
 use native.Mathlib.Omega.{arith}
 use lib.ListN.{drop}
 use Rattle.laws.specs.Numbers.{mostTags, addresses}
-use Rattle.settings.specs.Values.{reported}
+use Rattle.text.specs.Reports.{reported}
 use Rattle.text.proofs.AnswerLaws.{tagged}
 use Rattle.text.proofs.ListingLaws.{Listed, listed-none, listed-stop, listed-more, listed-done, listed-extra}
 use borrow.Author.Needs.{needs}

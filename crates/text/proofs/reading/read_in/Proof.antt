@@ -2,7 +2,7 @@
 -- Assumes nothing.
 use mathlib.Core.Path.{ap, sym, _∙_}
 use native.Mathlib.Omega.{arith}
-use Rattle.settings.specs.Values.{reported}
+use Rattle.text.specs.Reports.{reported}
 use Rattle.text.proofs.AnswerLaws.{placed-inside, placed-most}
 use Rattle.text.proofs.HeadLaws.{timeout-stop, join-stop, tags-stop, head-read}
 use borrow.Author.Needs.{needs}

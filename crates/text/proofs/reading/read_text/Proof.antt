@@ -1,7 +1,7 @@
 -- `reading::read_text` meets its contract: the version line, and what is read behind it.
 -- Assumes nothing.
 use mathlib.Core.Path.{ap, sym, _∙_}
-use Rattle.settings.specs.Values.{reported}
+use Rattle.text.specs.Reports.{reported}
 use Rattle.text.proofs.AnswerLaws.{placed-inside}
 use Rattle.text.proofs.HeadLaws.{version-stop, version-read}
 use borrow.Author.Needs.{needs}

@@ -1,6 +1,7 @@
 -- `reading::wrong_at` meets its contract, by computing.
 -- Assumes nothing.
-use Rattle.settings.specs.Values.{reported, settingsOf}
+use Rattle.settings.specs.Values.{settingsOf}
+use Rattle.text.specs.Reports.{reported}
 use borrow.Author.Needs.{needs}
 use Rattle.text.proofs.reading.wrong_at.Statement.{statement}
 use Rattle.text.proofs.reading.wrong_at.Tie as tie
