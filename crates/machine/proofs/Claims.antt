@@ -4,7 +4,7 @@
 use Prim.Native.Nat.{ℕ, zero, suc, _+_, _≤_, _<_, max}
 use mathlib.Core.Path.{_≡_, refl, ap, sym, _∙_}
 use mathlib.Core.Logic.{⊎-elim, _↔_}
-use mathlib.Core.Bool.{true}
+use mathlib.Core.Bool.{true, false}
 use mathlib.Core.Option.{some}
 use mathlib.Core.List.{List, [], _∷_, _++_, map, List·Memᴰ}
 use native.Mathlib.Omega.{arith}
@@ -14,11 +14,20 @@ use lib.Dec.{eqb}
 use borrow.Author.Tests.{eqb-true}
 use Rattle.laws.specs.Lists.{filter}
 use Rattle.laws.proofs.FilterLaws.{filter-in}
-use Rattle.settings.specs.Grammar.{Value}
+use Rattle.bcd.specs.Bcd.{inRange}
+use Rattle.bcd.specs.Words.{numberOf}
+use Rattle.settings.specs.Grammar.{Value, Tag, valid}
+use Rattle.settings.specs.TagWords.{kindOf}
+use Rattle.settings.proofs.TagLaws.{valid-ascends}
 use Rattle.wire.specs.Frame.{idOf, laid}
 use Rattle.wire.proofs.FrameLaws.{laid-laid}
-use Rattle.pdu.specs.Requests.{legal}
-use Rattle.pdu.specs.Replies.{What}
+use Rattle.pdu.specs.Requests.{askedOf, legal}
+use Rattle.pdu.specs.Replies.{What, excepts}
+use Rattle.pdu.specs.declared.ProxyId.{ProxyId}
+use Rattle.pdu.specs.declared.Asked.the-variants.{Read}
+use Rattle.rewrite.specs.Registers.{registersAt}
+use Rattle.rewrite.specs.Rewriting.{ownIn}
+use Rattle.rewrite.specs.Plain.{Whole}
 use Rattle.book.specs.Book.{Live, Event, Good, NothingDue, at}
 use Rattle.book.specs.Book.Event.{left}
 use Rattle.book.specs.Ledger.{Ticket, Ledger, Anew, empty, post, posts, under, partiesOf}
@@ -36,6 +45,7 @@ use Rattle.machine.specs.declared.Answer.the-variants as answer
 use Rattle.machine.proofs.OutcomeLaws.{clocked-at}
 use Rattle.machine.proofs.RequestLaws.{exception-04 as said-exactly}
 use Rattle.machine.proofs.AnswerLaws.{Answers, Expires, reply-answers, tick-expires, idle-when}
+use Rattle.machine.proofs.ReadBack.{Carries, comes-back}
 use Rattle.machine.proofs.TickLaws.{ticked, ticking-ends}
 use Rattle.machine.proofs.Histories.{product, afterCalls, toldBy, ledgerOf, accounted}
 
@@ -118,6 +128,23 @@ nothing-waits-forever v xs t o l s k m =
     let d = accounted v ys .drained (rw (ap (λ (n : Machine). n .book) e) (w .1)) k m in
     let c : afterCalls v ys .book .clock ≡ t = ap (λ (n : Machine). n .book .clock) e ∙ clocked-at (afterCalls v xs) (tick t o l) t (w .0) refl in
     rw (c, same-settings v ys) at d
+
+-- Tender 2: a value in a tag's range, written over the whole tag in one request, stored as sent and read back whole in one, comes back equal. Whatever calls came before the
+-- write and whatever calls came before the reply: the registers of the tag in the frame that was issued, carried by a reply to a read that covers the tag, reach the reader
+-- as the registers that the writer sent. 06 and 16; one tag among any others.
+pub a-value-comes-back : (v : Value) → valid v ≡ true → (tag : Tag) → List·Memᴰ tag (v .tags)
+    → (xs : List Call) (c t : ℕ) (f o : List ℕ) → ((k : ℕ) → getD f k 0 < 256)
+    → (i : ProxyId) (n p w : ℕ) → outcome (afterCalls v xs) (request c t f o) .says ≡ answer.Issued i n p w
+    → (base s q : ℕ) → Carries (askedOf f) base s q → Whole s q tag → inRange (kindOf tag) (numberOf (ownIn s (registersAt base q f) tag)) ≡ true
+    → (ys : List Call) (t′ : ℕ) (g o′ l : List ℕ) → ((k : ℕ) → getD g k 0 < 256)
+    → (a : Answers (afterCalls v ys) g o′ l (outcome (afterCalls v ys) (reply t′ g o′ l))) → excepts (a .entry .what .function) g ≡ false
+    → (s′ q′ : ℕ) → a .entry .what .asked ≡ Read s′ q′ → Whole s′ q′ tag
+    → ownIn s′ (registersAt 9 q′ g) tag ≡ ownIn s (registersAt base q (outcome (afterCalls v xs) (request c t f o) .written)) tag
+    → ownIn s′ (registersAt 9 q′ (outcome (afterCalls v ys) (reply t′ g o′ l) .written)) tag ≡ ownIn s (registersAt base q f) tag
+a-value-comes-back v right tag m xs c t f o bytes i n p w e base s q carries whole range ys =
+    comes-back (v .tags) (valid-ascends v right) tag m (afterCalls v xs) (ap (λ (x : Value). x .tags) (same-settings v xs)) c t f o bytes i n p w e base s q carries whole range
+    (afterCalls v ys)
+    (ap (λ (x : Value). x .tags) (same-settings v ys))
 
 -- Tender 3: a client number that is attached again gets nothing that its predecessor asked: of what is answered after a client left, whatever is its number's was accepted since.
 pub a-successor-gets-nothing-old : (us : List (Event What)) (c : ℕ) (ws : List (Event What)) → Anew c (post (posts empty us) (left c)) (posts empty (us ++ left c ∷ ws))

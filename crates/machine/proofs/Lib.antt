@@ -7,5 +7,6 @@ pub mod Follows
 pub mod PartyLaws
 pub mod AnswerLaws
 pub mod TickLaws
+pub mod ReadBack
 pub mod Histories
 pub mod Claims

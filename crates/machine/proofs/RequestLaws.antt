@@ -120,7 +120,7 @@ granted-code : (m : Machine) (c t : ℕ) (f o : List ℕ) → refusal m (request
 unfolding granted accepted
 granted-code m c t f o h = (λ z. granted-is m (request c t f o) h ∙ rw z refl, λ z. granted-is m (request c t f o) h ∙ rw z refl)
 
-excepted-says : (m : Machine) (n : ℕ) (f o : List ℕ) → excepted m n f o .says ≡ answer.Excepted n
+pub excepted-says : (m : Machine) (n : ℕ) (f o : List ℕ) → excepted m n f o .says ≡ answer.Excepted n
 unfolding excepted
 excepted-says m n f o = refl
 
