@@ -1,0 +1,145 @@
+-- What attach, detach and link lost do to the set, the parties and the ids is the machine's outcome of that call, and keeps the state sound.
+-- Assumes nothing.
+use Prim.Native.Nat.{ℕ, _≤_, _<_, _^_}
+use mathlib.Core.Path.{_≡_, refl, ap, sym, _∙_}
+use mathlib.Core.Logic.{⊎-elim}
+use mathlib.Core.Bool.{true, false, not, _||_}
+use mathlib.Core.Option.{none}
+use mathlib.Core.List.{List, []}
+use native.Mathlib.Omega.{arith}
+use lib.ListN.{replicate, length-replicate}
+use lib.Pow.{pow-pos}
+use lib.Dec.{leb}
+use borrow.Author.Tests.{le-leb, lt-leb, leb-false}
+use Rattle.laws.specs.Numbers.{clients, places}
+use Rattle.laws.specs.Bits.{has, with, without}
+use Rattle.laws.proofs.BitLaws.{with-low, without-low}
+use Rattle.laws.proofs.Choice.{true-or, lt-or, or-left}
+use Rattle.laws.proofs.ListLaws.{tab-ext, tab-repeat, getD-repeat}
+use Rattle.settings.specs.Grammar.{Value}
+use Rattle.book.specs.Book.{book, apply}
+use Rattle.book.specs.Book.Move.{wipe}
+use Rattle.machine.specs.Machine.{Live-book, Machine, machine, rules}
+use Rattle.machine.specs.Calls.{Call, Done, done, outOf, listOf}
+use Rattle.machine.specs.Calls.Call.{attach, detach, linkLost}
+use Rattle.machine.specs.Refusals.{rows, lowest, refusal, isStranger}
+use Rattle.machine.specs.Outcomes.{granted, outcome}
+use Rattle.machine.specs.declared.Answer.{Answer}
+use Rattle.machine.specs.declared.Answer.the-variants.{Refused, Done as Finished, Lost}
+use Rattle.machine.proofs.RefusalLaws.{refusal-changes-nothing}
+use Rattle.machine.proofs.OutcomeLaws.{granted-is}
+use Rattle.table.specs.Columns.{Columns, columns, entryAt, tableOf, bookOf, Sound}
+use Rattle.table.specs.Changes.{Struck}
+use Rattle.table.proofs.EntryLaws.{withParties}
+use Rattle.table.proofs.ChangeLaws.{strike-is, strike-sound}
+use Rattle.proxy.specs.State.{State, state, machineOf, valueIn, Sounds}
+use Rattle.proxy.specs.Calls.{Does}
+
+-- a call that is refused with n comes to just that
+refused : (m : Machine) (x : Call) (n : ℕ) → (n ≡ 0 → ⊥) → refusal m x ≡ n → done (Refused n) m (outOf x) (listOf x) ≡ outcome m x
+refused m x n h e = sym (rw e at (refusal-changes-nothing m x (λ z. h (sym e ∙ z))))
+
+-- who is no stranger has a client's number
+pub no-stranger : (set client : ℕ) → (leb clients client || not (has set client)) ≡ false → client < clients
+no-stranger set client t = leb-false clients client (or-left _ (not (has set client)) t)
+
+module _ (b : Live-book) (set client : ℕ) where
+  -- Attach above the last client is refusal 2.
+  pub attach-above : clients ≤ client → done (Refused 2) (machine b set) [] [] ≡ outcome (machine b set) (attach client)
+  unfolding rows lowest outOf listOf
+  attach-above h = refused (machine b set) (attach client) 2 (λ z. omega arith) (rw (le-leb clients client h))
+
+  -- Attach of an attached client is refusal 9.
+  pub attach-again : client < clients → has set client ≡ true → done (Refused 9) (machine b set) [] [] ≡ outcome (machine b set) (attach client)
+  unfolding rows lowest outOf listOf
+  attach-again h t = refused (machine b set) (attach client) 9 (λ z. omega arith) (rw (lt-leb clients client h) (rw t refl))
+
+  -- Attach of another puts it into the set.
+  pub attach-new : client < clients → has set client ≡ false → done Finished (machine b (with set client)) [] [] ≡ outcome (machine b set) (attach client)
+  unfolding rows lowest granted
+  attach-new h t = sym (granted-is (machine b set) (attach client) (rw (lt-leb clients client h) (rw t refl)))
+
+  -- and what attach leaves is a set of clients
+  attached-low : set < 2 ^ clients → outcome (machine b set) (attach client) .after .attached < 2 ^ clients
+  attached-low low =
+      ⊎-elim
+      (λ (h : client < clients). ⊎-elim
+      (λ t. rw (← attach-again h t) low)
+      (λ t. rw (← attach-new h t) (with-low clients set client low h))
+      (true-or (has set client)))
+      (λ (h : clients ≤ client). rw (← attach-above h) low)
+      (lt-or client clients)
+
+module _ (s : State) (sounds : Sounds s) where
+  -- Attach on any book is attach on this state, and keeps it sound.
+  pub attach-does : (client set : ℕ) (answer : Answer) → ((b : Live-book) → done answer (machine b set) [] [] ≡ outcome (machine b (s .attached)) (attach client))
+      → Does s (attach client) answer (state (s .table) (s .cursor) set (s .clock) (s .settings))
+  attach-does client set answer e = (
+    e (machineOf s .book),
+    record {
+      table = sounds .table;
+      cursor = sounds .cursor;
+      attached = rw (ap (λ (d : Done). d .after .attached) (e (machineOf s .book))) (attached-low (machineOf s .book) (s .attached) client (sounds .attached));
+      settings = sounds .settings;
+    },
+  )
+
+  -- Detach of a stranger is refusal 2.
+  pub detach-stranger : (client : ℕ) → isStranger (machineOf s) client ≡ true → Does s (detach client) (Refused 2) s
+  unfolding rows lowest outOf listOf
+  detach-stranger client t = (refused (machineOf s) (detach client) 2 (λ z. omega arith) (rw t), sounds)
+
+  -- Detach of an attached client strikes its parties out and takes it out of the set.
+  pub detach-known : (client : ℕ) (ns cs os : List ℕ) → isStranger (machineOf s) client ≡ false
+      → Struck (s .table .top) client (s .table .counts) (s .table .clients) (s .table .originals) ns cs os
+      → Does s (detach client) Finished (state (withParties (s .table) ns cs os) (s .cursor) (without (s .attached) client) (s .clock) (s .settings))
+  unfolding rows lowest granted
+  detach-known client ns cs os t d = (
+    ap (λ b. done Finished (machine b (without (s .attached) client)) [] [])
+        (strike-is (valueIn (s .settings)) (s .cursor) (s .clock) (s .table) (sounds .table) client ns cs os d)
+        ∙ sym (granted-is (machineOf s) (detach client) (rw t)),
+    record {
+      table = strike-sound (valueIn (s .settings)) (s .cursor) (s .clock) (s .table) (sounds .table) client ns cs os d;
+      cursor = sounds .cursor;
+      attached = without-low clients (s .attached) client (sounds .attached);
+      settings = sounds .settings;
+    },
+  )
+
+-- no id stands at any place; all else is as it was
+abbrev pub emptied : Columns → Columns
+emptied c = columns (replicate places 0) (c .asked) (c .notes) (c .deadlines) (c .counts) (c .clients) (c .originals) 0
+
+-- nothing is live, and the columns stay sound
+emptied-table : (c : Columns) → tableOf (emptied c) ≡ replicate places none
+unfolding tableOf
+emptied-table c = tab-ext places (entryAt (emptied c)) (λ k. none) (λ k l. rw (getD-repeat {A = ℕ} places k 0)) ∙ tab-repeat places none
+
+emptied-sound : (c : Columns) → Sound c → Sound (emptied c)
+emptied-sound c s = record {
+  ids-long = length-replicate {A = ℕ} places 0;
+  asked-long = s .asked-long;
+  notes-long = s .notes-long;
+  deadlines-long = s .deadlines-long;
+  counts-long = s .counts-long;
+  clients-long = s .clients-long;
+  originals-long = s .originals-long;
+  within = omega arith;
+  low = λ k. rw (getD-repeat {A = ℕ} places k 0) (omega arith);
+  above = λ k h. getD-repeat {A = ℕ} places k 0;
+  roomy = s .roomy;
+  proper = λ k live. absurd (live (getD-repeat {A = ℕ} places k 0));
+}
+
+-- Columns without an id are the book after a wipe.
+pub emptied-is : (v : Value) (x t : ℕ) (c : Columns) → bookOf v (emptied c) x t ≡ apply rules (bookOf v c x t) wipe
+emptied-is v x t c = ap (λ l. book v l x t) (emptied-table c)
+
+-- Link lost removes every entry and everyone, and tells the former set.
+pub lost : (s : State) → Sounds s → Does s linkLost (Lost (s .attached)) (state (emptied (s .table)) (s .cursor) 0 (s .clock) (s .settings))
+unfolding rows lowest granted
+lost s sounds = (
+  ap (λ b. done (Lost (s .attached)) (machine b 0) [] []) (emptied-is (valueIn (s .settings)) (s .cursor) (s .clock) (s .table))
+      ∙ sym (granted-is (machineOf s) linkLost refl),
+  record { table = emptied-sound (s .table) (sounds .table); cursor = sounds .cursor; attached = pow-pos clients; settings = sounds .settings },
+)

@@ -1,0 +1,2 @@
+pub mod AttachLaws
+pub mod MakingLaws

@@ -1,0 +1,115 @@
+-- A fresh state is the machine that the document says, made from a valid value or from the usual one, and it is sound.
+-- Assumes nothing.
+use Prim.Native.Nat.{ℕ, _^_}
+use mathlib.Core.Path.{_≡_, refl, ap, sym, _∙_}
+use mathlib.Core.Logic.{⊎-elim}
+use mathlib.Core.Bool.{true, false}
+use mathlib.Core.Option.{none}
+use mathlib.Core.List.{List, map}
+use native.Mathlib.Nat.{zero-div}
+use native.Mathlib.Omega.{arith}
+use lib.ListN.{length, take, replicate, length-replicate, length-append, length-map}
+use lib.Pow.{pow-pos}
+use Rattle.laws.specs.Numbers.{clients, places, partyPlaces, mostTags}
+use Rattle.laws.specs.Bits.{has}
+use Rattle.laws.proofs.Choice.{true-or}
+use Rattle.laws.proofs.ListLaws.{length-tab, getD-repeat}
+use Rattle.settings.specs.declared.Settings.{Settings}
+use Rattle.settings.specs.Grammar.{Value, validIn, valid, allRight, tagsRight}
+use Rattle.settings.specs.Values.{valueOf, padded, usual}
+use Rattle.settings.specs.TagWords.{wordOf, tagOf, Ascending}
+use Rattle.settings.proofs.ValueLaws.{value-ext}
+use Rattle.settings.proofs.TagLaws.{words-kept, valid-ascends, valid-bounds}
+use Rattle.book.specs.Book.{book, at}
+use Rattle.machine.specs.Machine.{machine, made}
+use Rattle.table.specs.Columns.{Columns, columns, tableOf}
+use Rattle.table.specs.Changes.{blank}
+use Rattle.table.proofs.EntryLaws.{blank-table}
+use Rattle.table.proofs.ChangeLaws.{clear-sound}
+use Rattle.proxy.specs.State.{State, Kept, kept, valueIn, state, machineOf, Settled, Sounds}
+use Rattle.proxy.specs.Gates.{adopted, makingRefusal}
+
+-- the usual value is valid
+pub usual-valid : valid usual ≡ true
+unfolding validIn allRight tagsRight
+usual-valid = refl
+
+-- What a fresh state is made from is valid.
+pub adopted-valid : (v : Value) → valid (adopted v) ≡ true
+unfolding adopted
+adopted-valid v = ⊎-elim (λ (t : valid v ≡ true). rw t t) (λ (t : valid v ≡ false). rw t usual-valid) (true-or (valid v))
+
+-- A valid value is adopted, and nothing is refused.
+pub adopts-valid : (v : Value) → valid v ≡ true → (makingRefusal v ≡ 0) × (adopted v ≡ v)
+unfolding adopted makingRefusal
+adopts-valid v t = (rw t, rw t)
+
+-- An invalid one is refusal 10, beside the usual value.
+pub adopts-usual : (v : Value) → valid v ≡ false → (makingRefusal v ≡ 10) × (adopted v ≡ usual)
+unfolding adopted makingRefusal
+adopts-usual v t = (rw t, rw t)
+
+-- the settings that keep a value: its numbers and its tag words
+abbrev pub keeping : Value → ℕ → List ℕ → Kept
+keeping v n words = kept (v .timeout) (v .join) n words
+
+-- what is kept gives the value back, and is settled
+abbrev pub Keeps : Kept → Value → Type 0
+Keeps k v = (valueIn k ≡ v) × Settled k
+
+-- A valid value's numbers with the words of its tags keep the value.
+pub kept-value : (v : Value) (n : ℕ) (words : List ℕ) → valid v ≡ true → length (v .tags) ≡ n → words ≡ padded (map wordOf (v .tags)) → Keeps (keeping v n words) v
+unfolding valueIn
+kept-value v n words right listed e =
+    let b = valid-bounds v right in
+    let few = b .few in
+    let back : map tagOf (take n words) ≡ v .tags = rw (e, ← listed) (words-kept v right) in (
+      value-ext (valueIn (keeping v n words)) v refl refl back,
+      record {
+        timeout = b .most;
+        few = rw listed at few;
+        long = rw e (simp (length-append, length-replicate, length-map) (omega arith));
+        ascending = rw back (valid-ascends v right);
+      },
+    )
+
+-- the boundary's struct says how many tags there are
+pub listed-tags : (s : Settings) → length (valueOf s .tags) ≡ s .tags
+unfolding valueOf
+listed-tags s = length-tab (s .tags) _
+
+-- a state with columns of zeros and all else 0 is sound, whatever settings are in it
+zeroed-sound : (c : Columns) (k : Kept) → c ≡ blank → Settled k → Sounds (state c 0 0 0 k)
+zeroed-sound c k e q = record { table = clear-sound c e; cursor = omega arith; attached = pow-pos clients; settings = q }
+
+-- Columns of zeros with what was adopted are the fresh state, beside the refusal.
+pub made-fresh : (from w : Value) (n : ℕ) (c : Columns) (k : Kept) → (makingRefusal from ≡ n) × (adopted from ≡ w) → c ≡ blank → Keeps k w
+    → (n ≡ makingRefusal from) × ((machineOf (state c 0 0 0 k) ≡ made (adopted from)) × Sounds (state c 0 0 0 k))
+made-fresh from w n c k a e q = (
+  sym (a .0),
+  (
+    ap (λ v. machine (book v (tableOf c) 0 0) 0) (q .0 ∙ sym (a .1)) ∙ ap (λ l. machine (book (adopted from) l 0 0) 0) (ap tableOf e ∙ blank-table),
+    zeroed-sound c k e (q .1),
+  ),
+)
+
+-- the state that is all zeros
+abbrev pub zeros : State
+zeros =
+    state
+    (columns (replicate places 0) (replicate places 0) (replicate places 0) (replicate places 0) (replicate places 0) (replicate partyPlaces 0)
+    (replicate partyPlaces 0) 0)
+    0 0 0 (kept 0 0 0 (replicate mostTags 0))
+
+-- A state of zeros is sound, and nobody is attached.
+pub zeros-sound : Sounds zeros × ((client : ℕ) → has (zeros .attached) client ≡ false)
+unfolding blank Ascending
+zeros-sound = (
+  zeroed-sound (zeros .table) (zeros .settings) refl
+      (record { timeout = omega arith; few = omega arith; long = length-replicate {A = ℕ} mostTags 0; ascending = tt }),
+  λ client. rw (zero-div (2 ^ client)),
+)
+
+-- In a fresh machine cursor and clock are 0, nobody is attached and nothing is live.
+pub fresh-is : (v : Value) → (made v .book .cursor ≡ 0) × (made v .book .clock ≡ 0) × ((client : ℕ) → has (made v .attached) client ≡ false) × ((k : ℕ) → at (made v .book) k ≡ none)
+fresh-is v = (refl, refl, zeros-sound .1, λ k. getD-repeat places k none)

@@ -1,0 +1,52 @@
+-- The machine that a state's columns and numbers are, and what every state has that these calls made.
+-- Assumes nothing.
+use Prim.Native.Nat.{ℕ, _≤_, _<_, _^_}
+use mathlib.Core.Path.{_≡_}
+use mathlib.Core.List.{List, map}
+use lib.ListN.{length, take}
+use Rattle.laws.specs.Numbers.{ids, clients, mostTags, mostTimeout}
+use Rattle.settings.specs.Grammar.{Tag, Value}
+use Rattle.settings.specs.TagWords.{tagOf, Ascending}
+use Rattle.machine.specs.Machine.{Machine, machine}
+use Rattle.table.specs.Columns.{Columns, columns, bookOf, Sound}
+
+-- the settings inside the state: timeout, join, how many tags, and their words
+pub record Kept : Type 0 where
+  pub timeout : ℕ
+  pub join : ℕ
+  pub tagged : ℕ
+  pub tags : List ℕ
+
+abbrev pub kept : ℕ → ℕ → ℕ → List ℕ → Kept
+kept w j n g = record { timeout = w; join = j; tagged = n; tags = g }
+
+unfoldable pub valueIn : Kept → Value
+valueIn s = record { timeout = s .timeout; join = s .join; tags = map tagOf (take (s .tagged) (s .tags)) }
+
+-- a state: the live table, the cursor, the set of attached clients, the clock, the settings
+pub record State : Type 0 where
+  pub table : Columns
+  pub cursor : ℕ
+  pub attached : ℕ
+  pub clock : ℕ
+  pub settings : Kept
+
+abbrev pub state : Columns → (cursor attached clock : ℕ) → Kept → State
+state c x s t k = record { table = c; cursor = x; attached = s; clock = t; settings = k }
+
+-- the machine that it is
+abbrev pub machineOf : State → Machine
+machineOf s = machine (bookOf (valueIn (s .settings)) (s .table) (s .cursor) (s .clock)) (s .attached)
+
+-- what every state has that these calls made: a sound table, an id as cursor, a set of clients, and settings that a value gave
+pub record Settled (k : Kept) : Type 0 where
+  pub timeout : k .timeout ≤ mostTimeout
+  pub few : k .tagged ≤ mostTags
+  pub long : length (k .tags) ≡ mostTags
+  pub ascending : Ascending 0 (map tagOf (take (k .tagged) (k .tags)))
+
+pub record Sounds (s : State) : Type 0 where
+  pub table : Sound (s .table)
+  pub cursor : s .cursor < ids
+  pub attached : s .attached < 2 ^ clients
+  pub settings : Settled (s .settings)

@@ -1,0 +1,94 @@
+// Attach, detach and link lost: the set of attached clients is one number, by shift and mask.
+use machine::Answer;
+ghost use mathlib.Core.Path.{_≡_};
+ghost use mathlib.Core.List.{List, []};
+ghost use Prim.Native.Nat.{ℕ, _<_, _≤_};
+ghost use mathlib.Core.Bool.{not, _||_};
+ghost use lib.Dec.{leb};
+ghost use Rattle.laws.specs.Numbers.{clients as clientCount, places};
+ghost use Rattle.laws.specs.Bits.{has};
+ghost use Rattle.machine.specs.Machine.{Live-book, machine};
+ghost use Rattle.machine.specs.Calls.{done};
+ghost use Rattle.machine.specs.Calls.Call.{attach as attaches, detach as detaches, linkLost};
+ghost use Rattle.machine.specs.Outcomes.{outcome};
+ghost use Rattle.table.specs.Columns.{columns};
+ghost use Rattle.table.specs.Changes.{Runs};
+ghost use Rattle.proxy.specs.State.{Kept, state, Sounds};
+ghost use Rattle.proxy.specs.Calls.{Does};
+
+// Whether a client is in a set.
+pub fn is_member(set: u32, client: u32) -> bool
+    requires { ⌜ client < clientCount ⌝ }
+    ensures { λ r. ⌜ r ≡ has set client ⌝ }
+{
+    (set >> client) & 1 == 1
+}
+
+// Whether a client number is above the last, or not attached: refusal 2.
+pub fn is_stranger(attached: u32, client: u32) -> bool
+    ensures { λ r. ⌜ r ≡ (leb clientCount client || not (has attached client)) ⌝ }
+{
+    if client < laws::CLIENTS {
+        !is_member(attached, client)
+    } else {
+        true
+    }
+}
+
+// Attaches a client: refusal 2 above 31, refusal 9 where it is attached. Whatever the book is, only the set changes.
+pub fn attach(attached: &mut u32, client: u32) -> Answer
+    ensures { λ r. ⌜ ((b : Live-book) → done r (machine b (now (attached .exit))) [] [] ≡ outcome (machine b (now (attached .entry))) (attaches client)) ⌝ }
+{
+    if laws::CLIENTS <= client {
+        return Answer::Refused { number: 2 };
+    }
+    if is_member(*attached, client) {
+        return Answer::Refused { number: 9 };
+    }
+    *attached = *attached | (1 << client);
+    Answer::Done
+}
+
+// Detaches a client and strikes its parties out of every entry: refusal 2 for a stranger. Whatever the rest of the state is, it stays.
+pub fn detach<'a>(
+    counts: &'a mut [u8; laws::PLACES],
+    clients: &'a mut [u8; laws::PARTY_PLACES],
+    originals: &'a mut [u16; laws::PARTY_PLACES],
+    top: &'a mut u32,
+    attached: &'a mut u32,
+    client: u32,
+) -> Answer
+    requires { ⌜ Runs (now counts) (now clients) (now originals) ⌝ }
+    requires { ⌜ now top ≤ places ⌝ }
+    ensures { λ r. ⌜ ((ids asked notes deadlines : List ℕ) (x t : ℕ) (k : Kept)
+        → Sounds (state (columns ids asked notes deadlines (now (counts .entry)) (now (clients .entry)) (now (originals .entry)) (now (top .entry))) x (now (attached .entry)) t k)
+        → Does (state (columns ids asked notes deadlines (now (counts .entry)) (now (clients .entry)) (now (originals .entry)) (now (top .entry))) x (now (attached .entry)) t k)
+        (detaches client) r
+        (state (columns ids asked notes deadlines (now (counts .exit)) (now (clients .exit)) (now (originals .exit)) (now (top .exit))) x (now (attached .exit)) t k)) ⌝ }
+{
+    if is_stranger(*attached, client) {
+        return Answer::Refused { number: 2 };
+    }
+    table::changing::strike(counts, clients, originals, *top, client as u8);
+    *attached = *attached & !(1 << client);
+    Answer::Done
+}
+
+// The link is lost: nothing is live, nobody is attached; the former set is told. Whatever the rest of the state is, it stays.
+pub fn link_lost<'a>(
+    ids: &'a mut [u32; laws::PLACES],
+    top: &'a mut u32,
+    attached: &'a mut u32,
+) -> Answer
+    ensures { λ r. ⌜ ((asked notes deadlines counts clients originals : List ℕ) (x t : ℕ) (k : Kept)
+        → Sounds (state (columns (now (ids .entry)) asked notes deadlines counts clients originals (now (top .entry))) x (now (attached .entry)) t k)
+        → Does (state (columns (now (ids .entry)) asked notes deadlines counts clients originals (now (top .entry))) x (now (attached .entry)) t k)
+        linkLost r
+        (state (columns (now (ids .exit)) asked notes deadlines counts clients originals (now (top .exit))) x (now (attached .exit)) t k)) ⌝ }
+{
+    let former = *attached;
+    *ids = [0u32; laws::PLACES];
+    *top = 0;
+    *attached = 0;
+    Answer::Lost { set: former }
+}

@@ -1,0 +1,97 @@
+-- The end of an entry: its place is free, its clock is the call's time, and the state stays sound.
+-- Assumes nothing.
+use Prim.Native.Nat.{ℕ, _+_, _≤_, _<_}
+use mathlib.Core.Path.{_≡_, ap, sym, _∙_}
+use mathlib.Core.Logic.{⊎-elim}
+use mathlib.Core.Bool.{Bool, true, false}
+use mathlib.Core.Option.{some}
+use mathlib.Core.List.{List}
+use native.Mathlib.Omega.{arith}
+use native.Mathlib.Nat.{max-eq-right}
+use lib.ListN.{length, getD, set}
+use borrow.Author.Tests.{eqb-true, eqb-false, not-true}
+use Rattle.laws.specs.Numbers.{ids, places, room, listBuffer}
+use Rattle.laws.specs.Search.{best}
+use Rattle.laws.proofs.Choice.{and-left}
+use Rattle.laws.proofs.SearchLaws.{best-in}
+use Rattle.pdu.specs.Words.{whatOf, Proper}
+use Rattle.rewrite.specs.Lent.{TagWords}
+use Rattle.book.specs.Book.{at}
+use Rattle.book.specs.Book.Move.{reply, expire}
+use Rattle.machine.specs.Machine.{Machine, machine, clocked, moved}
+use Rattle.table.specs.Columns.{Columns, columns, Sound}
+use Rattle.table.specs.Places.{holds, isDue, isSooner}
+use Rattle.table.specs.Changes.{reach}
+use Rattle.table.proofs.EntryLaws.{held, live-at}
+use Rattle.table.proofs.ChangeLaws.{remove-is-reply, remove-is-expire, remove-sound}
+use Rattle.proxy.specs.State.{Kept, State, state, valueIn, machineOf, Settled, Sounds}
+
+-- the state at another time; and with other ids and another top at another time
+abbrev pub timed : State → ℕ → State
+timed s t = state (s .table) (s .cursor) (s .attached) t (s .settings)
+
+abbrev pub ended : State → List ℕ → ℕ → ℕ → State
+ended s is top t =
+    state (columns is (s .table .asked) (s .table .notes) (s .table .deadlines) (s .table .counts) (s .table .clients) (s .table .originals) top) (s .cursor) (s .attached) t
+    (s .settings)
+
+-- The machine at a later time is that of the state at that time.
+pub clock-is : (s : State) (t : ℕ) → s .clock ≤ t → clocked (machineOf s) t ≡ machineOf (timed s t)
+clock-is s t h = rw (max-eq-right h)
+
+-- Another time keeps the state sound.
+pub timed-sound : (s : State) (t : ℕ) → Sounds s → Sounds (timed s t)
+timed-sound s t d = record { table = d .table; cursor = d .cursor; attached = d .attached; settings = d .settings }
+
+-- the settings in the state as the rewriter asks for them
+pub tag-words : (k : Kept) → Settled k → TagWords (k .tagged) (k .tags)
+tag-words k d = record { places = d .long; few = d .few; ascending = d .ascending }
+
+-- a live place
+pub record Living (c : Columns) (k : ℕ) : Type 0 where
+  pub low : k < places
+  pub live : getD (c .ids) k 0 ≡ 0 → ⊥
+
+-- A place that a scan found is live, where the test asks that.
+module _ (c : Columns) (s : Sound c) (test : ℕ → Bool) (beats : ℕ → ℕ → Bool) (asks : (k : ℕ) → test k ≡ true → getD (c .ids) k 0 ≡ 0 → ⊥) where
+  found-lives : (k : ℕ) → k ≡ best test beats places (c .top) → (k ≡ places → ⊥) → Living c k
+  found-lives k e h =
+      ⊎-elim
+      (λ w. absurd (h (e ∙ w)))
+      (λ w. rw e (record { low = let i = s .within in omega (arith, w .0); live = asks _ (w .1) }))
+      (best-in test beats places (c .top))
+
+-- The place under an id, and the earliest that is due, are live.
+pub holder-lives : (c : Columns) → Sound c → (id k : ℕ) → k ≡ best (holds (c .ids) id) (λ i j. false) places (c .top) → (k ≡ places → ⊥) → Living c k
+holder-lives c s id = found-lives c s (holds (c .ids) id) _ (λ k t z. let e = eqb-true (getD (c .ids) k 0) (id + 1) t in omega arith)
+
+pub due-lives : (c : Columns) → Sound c → (t k : ℕ) → k ≡ best (isDue (c .ids) (c .deadlines) t) (isSooner (c .ids) (c .deadlines)) places (c .top) → (k ≡ places → ⊥) → Living c k
+due-lives c s t = found-lives c s (isDue (c .ids) (c .deadlines) t) _ (λ k e. eqb-false _ _ (not-true _ (and-left _ _ e)))
+
+module _ (s : State) (d : Sounds s) (k : ℕ) (l : Living (s .table) k) where
+  -- A live place has an id.
+  pub has-id : (k < places) × (0 < getD (s .table .ids) k 0) × (getD (s .table .ids) k 0 ≤ ids)
+  has-id = let n = l .live in (l .low, omega (arith, n), d .table .low k)
+
+  -- Its entry may end.
+  pub may-end : (list : ℕ) → listBuffer ≤ list → (k < places) × (getD (s .table .counts) k 0 ≤ room) × (listBuffer ≤ list) × (s .table .top ≤ places)
+  may-end list h = (l .low, d .table .roomy k, h, d .table .within)
+
+  -- What was asked is something that may be asked.
+  pub asks-proper : Proper (whatOf (getD (s .table .asked) k 0))
+  asks-proper = d .table .proper k (l .live) .0
+
+  module _ (t : ℕ) (is : List ℕ) (top : ℕ) (f : (is ≡ set (s .table .ids) k 0) × (top ≡ reach is (s .table .top))) where
+    -- The state with the place freed is the machine after the reply to its entry, and after its timeout.
+    pub ended-is : machineOf (ended s is top t) ≡ moved (machineOf (timed s t)) (reply k (held (s .table) k))
+    ended-is =
+        ap (λ b. machine b (s .attached)) (remove-is-reply (valueIn (s .settings)) (s .cursor) t (s .table) (d .table) k is top (l .low) f (held (s .table) k))
+
+    -- It is sound.
+    pub ended-sound : Sounds (ended s is top t)
+    ended-sound = record {
+      table = remove-sound (valueIn (s .settings)) (s .cursor) t (s .table) (d .table) k is top (l .low) f;
+      cursor = d .cursor;
+      attached = d .attached;
+      settings = d .settings;
+    }

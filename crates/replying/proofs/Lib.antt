@@ -1,0 +1,4 @@
+pub mod GateLaws
+pub mod EndLaws
+pub mod ReplyLaws
+pub mod TickLaws
