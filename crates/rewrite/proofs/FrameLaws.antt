@@ -4,11 +4,11 @@ use Prim.Native.Nat.{ℕ, _+_, _*_, _≤_, _<_}
 use mathlib.Core.Path.{_≡_, refl, ap, sym, _∙_}
 use mathlib.Core.Logic.{_⊎_, ⊎-elim}
 use mathlib.Core.Bool.{true, false}
-use mathlib.Core.List.{List, [], _∷_, _++_}
+use mathlib.Core.List.{List, _++_}
 use native.Mathlib.Omega.{arith}
 use lib.ListN.{length, getD, take, drop, length-drop}
 use lib.Seq.{take-append-seam, drop-append-seam, drop-append-le}
-use Rattle.laws.specs.Bytes.{over, pairOf}
+use Rattle.laws.specs.Bytes.{over}
 use Rattle.laws.proofs.Choice.{true-or}
 use Rattle.wire.specs.Frame.{laid}
 use Rattle.settings.specs.Grammar.{Tag}
@@ -71,11 +71,11 @@ module _ (tags : List Tag) (f : List ℕ) where
 -- A FRAME AT THE START OF A BUFFER
 
 module _ (f out : List ℕ) where
-  -- what was written over the start stands there
+  -- What was written over the start of a buffer stands there.
   pub front : take (length f) (over f out) ≡ f
   front = take-append-seam f (drop (length f) out)
 
-  -- a frame of the same length in its place, under an id
+  -- A frame of the same length in its place, under an id, is that frame under that id over the buffer.
   pub laid-under : (id p v : ℕ) (b : List ℕ) (w : Rewritten) → 2 ≤ length f → length b ≡ length f → outcome p v b ≡ w
       → outcome p v (laid id (b ++ drop (length f) (over f out))) ≡ under id out w
   laid-under id p v b w h l e =

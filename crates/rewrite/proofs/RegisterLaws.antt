@@ -1,13 +1,13 @@
 -- Registers laid in a buffer and read from it: what was laid is read back, what was read changes nothing when laid, and every other byte stays.
 -- Assumes nothing.
 use Prim.Native.Nat.{ℕ, zero, suc, _+_, _*_, _/_, _%_, _≤_, _<_}
-use mathlib.Core.Path.{_≡_, refl, ap, sym, _∙_}
+use mathlib.Core.Path.{_≡_, refl, ap, _∙_}
 use mathlib.Core.Logic.{⊎-elim, _⊎_, inl, inr}
 use mathlib.Core.Bool.{true}
 use mathlib.Core.List.{List, [], _∷_}
 use native.Mathlib.Omega.{arith}
-use lib.ListN.{length, getD, set, take, drop, length-set}
-use lib.Seq.{sets, getD-set-other, set-set, set-comm, length-sets}
+use lib.ListN.{length, getD, set, take, drop}
+use lib.Seq.{sets, getD-set-other, length-sets}
 use lib.Dec.{ltb}
 use borrow.Author.Tests.{lt-ltb}
 use Rattle.laws.specs.Bytes.{pairAt, putAt}

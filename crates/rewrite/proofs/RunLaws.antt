@@ -11,7 +11,6 @@ use lib.Seq.{sets, length-sets, getD-take, getD-drop, length-take-le, ext-getD}
 use Rattle.laws.specs.Digits.{below}
 use Rattle.laws.proofs.Choice.{lt-or}
 use Rattle.bcd.specs.Bcd.{registers}
-use Rattle.bcd.specs.Words.{wordsOf}
 use Rattle.bcd.proofs.Words.{words-count, words-below}
 use Rattle.settings.specs.Grammar.{Tag}
 use Rattle.settings.specs.TagWords.{kindOf, lastOf, Ascending}
@@ -117,11 +116,13 @@ module _ (way : Way) (start : ℕ) (came : List ℕ) where
 
 -- a tag's own registers in a run that has all of it
 module _ (start : ℕ) (rs : List ℕ) (t : Tag) where
+  -- There are as many as the tag has.
   pub own-length : Whole start (length rs) t → length (ownIn start rs t) ≡ registers (kindOf t)
   own-length w =
       let b = behind-last t in
       length-take-le (registers (kindOf t)) (drop (t .address - start) rs) (rw (length-drop (t .address - start) rs) (omega (arith, w .0, w .1)))
 
+  -- They are words if the run has words.
   pub own-below : below 65536 rs ≡ true → below 65536 (ownIn start rs t) ≡ true
   own-below b = below-take 65536 (registers (kindOf t)) (drop (t .address - start) rs) (below-drop 65536 (t .address - start) rs b)
 

@@ -3,24 +3,24 @@
 use Prim.Native.Nat.{ℕ, _+_, _*_, _-_, _≤_, _<_}
 use mathlib.Core.Path.{_≡_, refl, ap, sym, _∙_}
 use mathlib.Core.Logic.{⊎-elim}
-use mathlib.Core.Bool.{Bool, true, false, or-true}
+use mathlib.Core.Bool.{Bool, false, or-true}
 use mathlib.Core.List.{List, [], _∷_, _++_, map, map-append, List·Memᴰ, List·Memᴰ·head, List·Memᴰ·tail}
 use native.Mathlib.Nat.{add-zero, zero-add}
 use native.Mathlib.Numerals.{add-one}
 use native.Mathlib.Omega.{arith}
-use lib.ListN.{length, getD, take, drop, length-append, length-map, length-take, List·getD-map}
+use lib.ListN.{length, getD, take, drop, length-map, length-take, List·getD-map}
 use lib.Seq.{take-suc, take-add, getD-take, getD-drop, length-take-le}
 use lib.Dec.{ltb}
 use borrow.Author.Tests.{lt-ltb, le-leb, lt-leb, leb-false}
 use Rattle.laws.specs.Lists.{filter}
 use Rattle.laws.specs.Search.{first}
 use Rattle.laws.proofs.Choice.{lt-or}
-use Rattle.laws.proofs.FilterLaws.{filter-append, filter-none}
+use Rattle.laws.proofs.FilterLaws.{filter-none, filter-count}
 use Rattle.laws.proofs.SearchLaws.{first-before}
 use Rattle.settings.specs.Grammar.{Tag}
 use Rattle.settings.specs.TagWords.{tagOf, lastOf, Ascending}
 use Rattle.rewrite.specs.declared.Way.{Way}
-use Rattle.rewrite.specs.Registers.{registersAt, laidAt}
+use Rattle.rewrite.specs.Registers.{registersAt}
 use Rattle.rewrite.specs.Rewriting.{Verdict, isRawPartial, isRawValue, verdict, laidBy, rewrittenFrom, rewritten, partials, values, Rewritten, outcome, rewriting}
 use Rattle.rewrite.specs.Rewriting.Verdict.{outside}
 use Rattle.rewrite.specs.Lent.{tagsOf, TagWords, reaches}
@@ -39,21 +39,24 @@ module _ (way : Way) (start : ℕ) (came : List ℕ) where
 
   partials-append : (ts us : List Tag) → partials way start (ts ++ us) came ≡ partials way start ts came + partials way start us came
   unfolding partials
-  partials-append ts us = let p : Tag → Bool = λ t. isRawPartial (verdict way start came t) in rw (filter-append p ts us) (length-append (filter p ts) (filter p us))
+  partials-append = filter-count (λ t. isRawPartial (verdict way start came t))
 
   values-append : (ts us : List Tag) → values way start (ts ++ us) came ≡ values way start ts came + values way start us came
   unfolding values
-  values-append ts us = let p : Tag → Bool = λ t. isRawValue (verdict way start came t) in rw (filter-append p ts us) (length-append (filter p ts) (filter p us))
+  values-append = filter-count (λ t. isRawValue (verdict way start came t))
 
   -- tags outside do nothing and count nowhere
   module _ (us : List Tag) (out : (u : Tag) → List·Memᴰ u us → verdict way start came u ≡ outside) where
+    count-idle : (test : Verdict → Bool) → test outside ≡ false → length (filter (λ t. test (verdict way start came t)) us) ≡ 0
+    count-idle test e = ap length (filter-none (λ t. test (verdict way start came t)) us (λ u m. ap test (out u m) ∙ e))
+
     partials-idle : partials way start us came ≡ 0
     unfolding partials
-    partials-idle = ap length (filter-none (λ t. isRawPartial (verdict way start came t)) us (λ u m. ap isRawPartial (out u m)))
+    partials-idle = count-idle isRawPartial refl
 
     values-idle : values way start us came ≡ 0
     unfolding values
-    values-idle = ap length (filter-none (λ t. isRawValue (verdict way start came t)) us (λ u m. ap isRawValue (out u m)))
+    values-idle = count-idle isRawValue refl
 
   from-idle : (us : List Tag) (rs : List ℕ) → ((u : Tag) → List·Memᴰ u us → verdict way start came u ≡ outside) → rewrittenFrom way start came us rs ≡ rs
   unfolding rewrittenFrom laidBy
@@ -166,12 +169,13 @@ module _ (n : ℕ) (words : List ℕ) (w : TagWords n words) where
       (lt-or k m))
 
 -- what the code knows of the tag words and of the buffer
-pub record Known (base q n : ℕ) (words d : List ℕ) : Type 0 where
+pub record KnownTable (base q n : ℕ) (words d : List ℕ) : Type 0 where
   pub tags : TagWords n words
   pub room : base + 2 * q ≤ length d
   pub bytes : (i : ℕ) → getD d i 0 < 256
 
-module _ (way : Way) (start : ℕ) {base q n : ℕ} {words d : List ℕ} (known : Known base q n words d) where
+module _ (way : Way) (start : ℕ) {base q n : ℕ} {words d : List ℕ} (known : KnownTable base q n words d) where
+  -- what the first i tags come to
   abbrev pub upTo : ℕ → Rewritten
   upTo i = rewriting way base start q (tagsOf i words) d
 

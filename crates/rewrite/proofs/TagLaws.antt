@@ -2,8 +2,8 @@
 -- Assumes nothing.
 use Prim.Native.Nat.{ℕ, _+_, _*_, _-_, _/_, _%_, _≤_, _<_}
 use mathlib.Core.Path.{_≡_, refl, ap, sym, _∙_}
-use mathlib.Core.Bool.{Bool, true, false, cond, _||_}
-use mathlib.Core.Option.{Option, some, none}
+use mathlib.Core.Bool.{true, false, cond, _||_}
+use mathlib.Core.Option.{some, none}
 use mathlib.Core.List.{List, [], _∷_}
 use native.Mathlib.Omega.{arith}
 use lib.ListN.{length, getD}
@@ -20,7 +20,7 @@ use Rattle.settings.specs.Grammar.{Tag}
 use Rattle.settings.specs.TagWords.{kindOf, lastOf}
 use Rattle.rewrite.specs.declared.Way.{Way}
 use Rattle.rewrite.specs.Registers.{registersAt, laidAt}
-use Rattle.rewrite.specs.Rewriting.{turned, Verdict, ownIn, verdict, laidBy, rewrittenFrom, isRawPartial, isRawValue, partials, values, Rewritten, outcome, rewriting}
+use Rattle.rewrite.specs.Rewriting.{turned, Verdict, isOutside, isPartial, ownIn, verdict, laidBy, rewrittenFrom, isRawPartial, isRawValue, partials, values, Rewritten, outcome, rewriting}
 use Rattle.rewrite.specs.Rewriting.Verdict.{outside, partial, value, done}
 use Rattle.rewrite.specs.Plain.{Whole}
 use Rattle.rewrite.proofs.RegisterLaws.{length-registers, registers-part, laid-registers, laid-part}
@@ -30,18 +30,22 @@ use Rattle.rewrite.proofs.VerdictLaws.{not-partial, verdict-outside, ve
 -- A NUMBER IN ONE REGISTER OR TWO
 
 module _ (kind : Kind) (k : ℕ) (d : List ℕ) where
+  -- A kind with one register has its number there.
   pub number-one : registers kind ≡ 1 → pairAt d k ≡ numberOf (registersAt k (registers kind) d)
   unfolding numberOf valueOf registersAt
   number-one e = rw e (omega arith)
 
+  -- A kind with two registers has the low word first.
   pub number-two : registers kind ≡ 2 → pairAt d k + 65536 * pairAt d (k + 2) ≡ numberOf (registersAt k (registers kind) d)
   unfolding numberOf valueOf registersAt
   number-two e = rw e (omega arith)
 
+  -- A number laid into one register.
   pub lay-one : (n : ℕ) → registers kind ≡ 1 → putAt d k (n % 65536) ≡ laidAt k (wordsOf kind n) d
   unfolding wordsOf digits laidAt
   lay-one n e = rw e refl
 
+  -- A number laid into two registers, the low word first.
   pub lay-two : (n : ℕ) → registers kind ≡ 2 → n < 4294967296 → putAt (putAt d (k + 2) (n / 65536)) k (n % 65536) ≡ laidAt k (wordsOf kind n) d
   unfolding wordsOf digits laidAt
   lay-two n e l = let m : n / 65536 % 65536 ≡ n / 65536 = omega arith in rw (e, m) refl
@@ -49,64 +53,71 @@ module _ (kind : Kind) (k : ℕ) (d : List ℕ) where
 -- ONE TAG, by its verdict
 
 module _ (way : Way) (base start q : ℕ) (t : Tag) (d : List ℕ) where
-  abbrev run : List ℕ
-  run = registersAt base q d
-
   -- what a verdict makes of the buffer, and what it adds to the counts
   abbrev byVerdict : Verdict → Rewritten
-  byVerdict v = outcome (length (cond (isRawPartial v) (t ∷ []) [])) (length (cond (isRawValue v) (t ∷ []) [])) (laidAt base (laidBy v (t .address - start) run) d)
+  byVerdict v = outcome (length (cond (isRawPartial v) (t ∷ []) [])) (length (cond (isRawValue v) (t ∷ []) [])) (laidAt base (laidBy v (t .address - start) (registersAt base q d)) d)
 
-  by-verdict : (v : Verdict) → verdict way start run t ≡ v → rewriting way base start q (t ∷ []) d ≡ byVerdict v
+  by-verdict : (v : Verdict) → verdict way start (registersAt base q d) t ≡ v → rewriting way base start q (t ∷ []) d ≡ byVerdict v
   unfolding rewriting partials values filter rewrittenFrom
   by-verdict v e = ap byVerdict e
 
 -- what the code knows of a tag and of the buffer: the tag's first register and its last, and that the buffer holds bytes
-pub record Known (t : Tag) (d : List ℕ) (first final : ℕ) : Type 0 where
+pub record KnownTag (t : Tag) (d : List ℕ) (first final : ℕ) : Type 0 where
   pub first-is : first ≡ t .address
   pub final-is : final ≡ lastOf t
   pub bytes : (i : ℕ) → getD d i 0 < 256
 
-module _ (way : Way) (base start q : ℕ) {t : Tag} {d : List ℕ} {a z : ℕ} (n : Known t d a z) where
+module _ (way : Way) (base start q : ℕ) {t : Tag} {d : List ℕ} {a z : ℕ} (n : KnownTag t d a z) where
   same : d ≡ laidAt base (registersAt base q d) d
   same = sym (laid-registers base q d (n .bytes))
 
+  -- the definition's tests are the code's
+  outside-test : isOutside start (length (registersAt base q d)) t ≡ (ltb z start || leb (start + q) a)
+  outside-test = rw (length-registers base q d, n .first-is, n .final-is)
+
+  partial-test : isPartial start (length (registersAt base q d)) t ≡ (ltb a start || leb (start + q) z)
+  partial-test = rw (length-registers base q d, n .first-is, n .final-is)
+
+  -- A tag outside the run changes nothing and is not counted.
   pub one-outside : (ltb z start || leb (start + q) a) ≡ true → outcome 0 0 d ≡ rewriting way base start q (t ∷ []) d
   unfolding laidBy
   one-outside o =
       ap (outcome 0 0) same
-      ∙ sym (by-verdict way base start q t d outside (verdict-outside way start (registersAt base q d) t (rw (length-registers base q d, ← n .final-is, ← n .first-is) o)))
+      ∙ sym (by-verdict way base start q t d outside (verdict-outside way start (registersAt base q d) t (outside-test ∙ o)))
 
+  -- A tag partly in the run changes nothing and is counted for partial cover.
   pub one-partial : (ltb z start || leb (start + q) a) ≡ false → (ltb a start || leb (start + q) z) ≡ true → outcome 1 0 d ≡ rewriting way base start q (t ∷ []) d
   unfolding laidBy
   one-partial o p =
       ap (outcome 1 0) same
-      ∙ sym (by-verdict way base start q t d partial
-      (verdict-partial way start (registersAt base q d) t (rw (length-registers base q d, ← n .final-is, ← n .first-is) o) (rw (length-registers base q d, ← n .final-is, ← n .first-is) p)))
+      ∙ sym (by-verdict way base start q t d partial (verdict-partial way start (registersAt base q d) t (outside-test ∙ o) (partial-test ∙ p)))
 
   module _ (p : (ltb a start || leb (start + q) z) ≡ false) where
-    whole : Whole start q t
-    whole = not-partial start q t (rw (← n .final-is, ← n .first-is) p)
+    whole-run : Whole start (length (registersAt base q d)) t
+    whole-run = not-partial start (length (registersAt base q d)) t (partial-test ∙ p)
 
-    -- the tag's registers are in the run
+    whole : Whole start q t
+    whole = rw (length-registers base q d) at whole-run
+
+    -- The registers of a tag that passes both tests are in the run.
     pub one-room : (start ≤ a) × (a - start + registers (kindOf t) ≤ q)
     one-room = let b = behind-last t in let f = n .first-is in (omega (arith, whole .0), omega (arith, whole .0, whole .1))
 
     -- the tag's number, at its registers in the buffer
     module _ (k m : ℕ) (hk : k ≡ base + 2 * (a - start)) (hm : m ≡ numberOf (registersAt k (registers (kindOf t)) d)) where
-      whole-run : Whole start (length (registersAt base q d)) t
-      whole-run = rw (length-registers base q d) whole
-
       number : numberOf (ownIn start (registersAt base q d) t) ≡ m
       number =
           ap numberOf (registers-part base q d (t .address - start) (registers (kindOf t)) (rw (n .first-is) at (one-room .1)))
           ∙ rw (hm, hk, n .first-is) refl
 
+      -- A tag whose number stays raw changes nothing and is counted for its value.
       pub one-value : none ≡ turned way (kindOf t) m → outcome 0 1 d ≡ rewriting way base start q (t ∷ []) d
       unfolding laidBy
       one-value e =
           ap (outcome 0 1) same
           ∙ sym (by-verdict way base start q t d value (value-exactly way start (registersAt base q d) t .1 (whole-run, rw number (sym e))))
 
+      -- A tag whose number is rewritten has its words in the buffer, and is not counted.
       pub one-done : (r : ℕ) (d′ : List ℕ) → some r ≡ turned way (kindOf t) m → d′ ≡ laidAt k (wordsOf (kindOf t) r) d
           → outcome 0 0 d′ ≡ rewriting way base start q (t ∷ []) d
       unfolding laidBy

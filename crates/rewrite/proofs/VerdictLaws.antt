@@ -3,13 +3,13 @@
 use Prim.Native.Nat.{ℕ, _+_, _*_, _-_, _≤_, _<_}
 use mathlib.Core.Path.{_≡_, refl, ap, sym, _∙_}
 use mathlib.Core.Logic.{⊎-elim, _⊎_, inl, inr, _↔_}
-use mathlib.Core.Bool.{Bool, true, false, cond, _||_}
+use mathlib.Core.Bool.{true, false}
 use mathlib.Core.Option.{Option, some, none}
-use mathlib.Core.List.{List, [], _∷_}
+use mathlib.Core.List.{List}
 use native.Mathlib.Omega.{arith}
-use lib.ListN.{length, take, drop}
-use lib.Dec.{ltb, leb}
-use borrow.Author.Tests.{lt-ltb, le-ltb, le-leb, lt-leb, ltb-true, ltb-false, leb-true, leb-false}
+use lib.ListN.{length}
+use lib.Dec.{ltb}
+use borrow.Author.Tests.{le-ltb, lt-leb, ltb-true, ltb-false, leb-true, leb-false}
 use Rattle.laws.specs.Numbers.{digitsPerRegister}
 use Rattle.laws.proofs.Choice.{true-or, lt-or, or-left, or-right, or-second}
 use Rattle.bcd.specs.declared.Kind.{Kind}
@@ -37,6 +37,7 @@ module _ (start n : ℕ) (t : Tag) where
   not-outside o =
       (ltb-false (lastOf t) start (or-left (ltb (lastOf t) start) _ o), leb-false (start + n) (t .address) (or-right (ltb (lastOf t) start) _ o))
 
+  -- A tag that the second test lets pass is whole in the run.
   pub not-partial : isPartial start n t ≡ false → Whole start n t
   not-partial p =
       (ltb-false (t .address) start (or-left (ltb (t .address) start) _ p), leb-false (start + n) (lastOf t) (or-right (ltb (t .address) start) _ p))
@@ -48,7 +49,7 @@ module _ (start n : ℕ) (t : Tag) where
         rw (le-ltb (t .address) start (w .0)) (lt-leb (start + n) (lastOf t) (w .1)),
       )
 
-  -- outside, partly inside, or whole
+  -- A tag is outside the run, partly inside, or whole in it.
   pub cover : (isOutside start n t ≡ true) ⊎ (((isOutside start n t ≡ false) × (isPartial start n t ≡ true)) ⊎ Whole start n t)
   cover =
       ⊎-elim
@@ -125,14 +126,17 @@ module _ (way : Way) (start : ℕ) (rs : List ℕ) (t : Tag) where
   abbrev pub turnedIn : Option ℕ
   turnedIn = turned way (kindOf t) (numberOf (ownIn start rs t))
 
+  -- A tag that the first test catches is outside.
   pub verdict-outside : isOutside start (length rs) t ≡ true → verdict way start rs t ≡ outside
   unfolding verdict
   verdict-outside o = rw o
 
+  -- A tag that only the second test catches is raw for partial cover, whatever its registers hold.
   pub verdict-partial : isOutside start (length rs) t ≡ false → isPartial start (length rs) t ≡ true → verdict way start rs t ≡ partial
   unfolding verdict
   verdict-partial o p = rw o (rw p refl)
 
+  -- A tag that is whole in the run is judged by its number.
   pub verdict-whole : Whole start (length rs) t → verdict way start rs t ≡ judged (kindOf t) turnedIn
   unfolding verdict
   verdict-whole w = let s = whole-tests start (length rs) t w in rw (s .0) (rw (s .1) refl)
@@ -168,6 +172,7 @@ module _ (way : Way) (start : ℕ) (rs : List ℕ) (t : Tag) where
   unfolding rank
   was-value e = let j = was-judged value (omega arith) e in (j .0, judged-value (kindOf t) turnedIn (j .1))
 
+  -- A tag that is done is whole in the run, and its words are those of its number rewritten.
   pub was-done : (ws : List ℕ) → verdict way start rs t ≡ done ws → Whole start (length rs) t × ((n : ℕ) × (turnedIn ≡ some n) × (ws ≡ wordsOf (kindOf t) n))
   unfolding rank
   was-done ws e = let j = was-judged (done ws) (omega arith) e in (j .0, judged-done (kindOf t) turnedIn ws (j .1))
@@ -215,6 +220,7 @@ verdict-own way start rs rs′ t e f =
 
 -- WHAT BECOMES OF A NUMBER, in plain words
 
+-- what an outcome of encoding, and one of decoding, gives
 abbrev pub fromEncoded : Encoded → Option ℕ
 fromEncoded e = elim e [ Bcd w ↦ some w | OutOfRange ↦ none ]
 

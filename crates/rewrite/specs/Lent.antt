@@ -1,6 +1,6 @@
 -- What the callers of the rewriter vouch for: the tag words, a run of registers in a buffer, and a frame that carries what was asked.
 -- Assumes nothing.
-use Prim.Native.Nat.{ℕ, _+_, _*_, _≤_, _<_}
+use Prim.Native.Nat.{ℕ, _+_, _*_, _≤_}
 use mathlib.Core.Path.{_≡_}
 use mathlib.Core.Bool.{Bool}
 use mathlib.Core.List.{List, map}

@@ -1,10 +1,13 @@
 -- `rewrite::give_back` meets its contract: the frame at the start of the buffer is rewritten there, and the id 0 laid over it.
 -- Assumes nothing.
-use mathlib.Core.Path.{_≡_, sym}
+use mathlib.Core.Path.{sym}
 use native.Mathlib.Omega.{arith}
 use lib.Seq.{length-take-le}
 use denote.Ref.{now}
 use borrow.Author.Needs.{needs}
+use Rattle.pdu.specs.Replies.{what}
+use Rattle.rewrite.specs.Frames.{returned}
+use Rattle.rewrite.specs.Lent.{tagsOf}
 use Rattle.rewrite.proofs.FrameLaws.{front, laid-under}
 use Rattle.rewrite.proofs.give_back.Statement.{statement}
 use Rattle.rewrite.proofs.give_back.Tie as tie
@@ -25,7 +28,7 @@ returns c unit =
     let o = now (a .out) in
     let r = c .before .before .before .before .before .before .bring in
     rw (c .before .before .lay-id .ensures, c .before .before .before .before .before .before .before .before .before .before .copy .ensures)
-    (laid-under f o 0 (r .result .partial) (r .result .value) (r .last .0) _ (omega (arith, s .pre .0 .least)) (rw (c .before .before .before .before .before .before .before .before .before .before .copy .ensures, front f o) at (r .kept .0))
+    (laid-under f o 0 (r .result .partial) (r .result .value) (r .last .0) (returned (tagsOf (a .tagged) (now (a .tags))) (what unit (a .function) (a .asked)) f) (omega (arith, s .pre .0 .least)) (rw (c .before .before .before .before .before .before .before .before .before .before .copy .ensures, front f o) at (r .kept .0))
     (rw (c .before .before .before .before .before .before .before .before .before .before .copy .ensures, front f o) at (r .ensures unit)))
 
 pub give-back-spec : {M : Type 1} → statement M

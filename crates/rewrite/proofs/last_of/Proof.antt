@@ -1,7 +1,5 @@
 -- `rewrite::last_of` meets its contract: a tag has one register or two.
 -- Assumes nothing.
-use Prim.Native.Nat.{_+_, _-_}
-use mathlib.Core.Path.{_≡_, sym}
 use native.Mathlib.Omega.{arith}
 use borrow.Author.Needs.{needs}
 use Rattle.bcd.proofs.Words.{registers-least, registers-most}

@@ -1,16 +1,16 @@
 -- `rewrite::one_tag` meets its contract: the tests and the tag's number give the verdict.
 -- Assumes nothing.
-use mathlib.Core.Path.{_≡_, refl, sym, ap, _∙_}
+use mathlib.Core.Path.{refl, sym, ap, _∙_}
 use native.Mathlib.Omega.{arith}
 use denote.Ref.{now}
 use borrow.Author.Needs.{needs}
 use Rattle.settings.specs.TagWords.{tagOf}
 use Rattle.rewrite.specs.Lent.{numberIn}
-use Rattle.rewrite.proofs.TagLaws.{Known, one-outside, one-partial, one-room, one-value, one-done}
+use Rattle.rewrite.proofs.TagLaws.{KnownTag, one-outside, one-partial, one-room, one-value, one-done}
 use Rattle.rewrite.proofs.one_tag.Statement.{statement}
 use Rattle.rewrite.proofs.one_tag.Tie as tie
 
-known : (c : tie.After-last-of) → Known (tagOf (c .before .before .before .before .args .word)) (now (c .before .before .before .before .args .d)) (c .before .tag-address .result) (c .last-of .result)
+known : (c : tie.After-last-of) → KnownTag (tagOf (c .before .before .before .before .args .word)) (now (c .before .before .before .before .args .d)) (c .before .tag-address .result) (c .last-of .result)
 known c = record { first-is = c .before .tag-address .ensures; final-is = c .last-of .ensures; bytes = λ i. c .before .before .before .slice-known .given i .fits }
 
 returns : tie.Need-returns

@@ -9,7 +9,7 @@ use borrow.Author.Needs.{needs}
 use Rattle.laws.proofs.SearchLaws.{first-le}
 use Rattle.rewrite.specs.Rewriting.{outcome, rewriting}
 use Rattle.rewrite.specs.Lent.{tagsOf, reaches}
-use Rattle.rewrite.proofs.TableLaws.{Known, table-start, table-more, table-done, table-few}
+use Rattle.rewrite.proofs.TableLaws.{KnownTable, table-start, table-more, table-done, table-few}
 use Rattle.rewrite.proofs.rewrite.Statement.{statement}
 use Rattle.rewrite.proofs.rewrite.Tie as tie
 
@@ -20,7 +20,7 @@ Inv-loop d₀ base start quantity way tags tagged end partial₀ value₀ i₀ d
 abbrev μ-loop : tie.MeasureT-loop
 μ-loop d₀ base start quantity way tags tagged end partial₀ value₀ i₀ d partial value i = tagged - i
 
-known : (c : tie.After-slice-known Inv-loop μ-loop) → (let a = c .before .args in Known (a .base) (a .quantity) (a .tagged) (now (a .tags)) (now (a .d)))
+known : (c : tie.After-slice-known Inv-loop μ-loop) → (let a = c .before .args in KnownTable (a .base) (a .quantity) (a .tagged) (now (a .tags)) (now (a .d)))
 known c = record { tags = c .before .pre .1; room = c .before .pre .0 .room; bytes = λ i. c .slice-known .given i .fits }
 
 loop-holds : tie.Need-loop-holds Inv-loop μ-loop
