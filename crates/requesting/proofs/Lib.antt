@@ -1,0 +1,3 @@
+pub mod GateLaws
+pub mod SeatLaws
+pub mod StepLaws

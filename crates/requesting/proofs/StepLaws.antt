@@ -1,0 +1,106 @@
+-- The ways in which a request ends, one law each, over the machine and plain values.
+-- Assumes nothing.
+use Prim.Native.Nat.{ℕ, _+_, _≤_, _<_, max}
+use mathlib.Core.Path.{_≡_, refl, ap, sym, _∙_}
+use mathlib.Core.Bool.{Bool, true, false, not}
+use mathlib.Core.Option.{some}
+use mathlib.Core.List.{List, []}
+use native.Mathlib.Nat.{max-eq-right}
+use native.Mathlib.Omega.{arith}
+use lib.ListN.{length}
+use lib.Dec.{eqb, ltb}
+use borrow.Author.Tests.{eq-eqb, lt-ltb, le-ltb}
+use Rattle.laws.specs.Numbers.{places, deviceFailure}
+use Rattle.laws.specs.Bytes.{over}
+use Rattle.wire.specs.Frame.{idOf, unitOf, functionOf, laid, exception}
+use Rattle.pdu.specs.Requests.{askedOf, faultOf, checkedOf}
+use Rattle.pdu.specs.Replies.{What}
+use Rattle.pdu.specs.declared.Asked.{Asked}
+use Rattle.pdu.specs.declared.Checked.the-variants.{BadFunction, BadLength, Excepted as Faulty, Legal}
+use Rattle.pdu.proofs.RequestLaws.{Tested, check-tests}
+use Rattle.rewrite.specs.Rewriting.{Rewritten, outcome as rewrote}
+use Rattle.rewrite.specs.Frames.{forwarded, under}
+use Rattle.book.specs.Book.{Live, at, apply}
+use Rattle.book.specs.Book.Move.{join, issue}
+use Rattle.book.specs.Desk.{freePlace, freeId}
+use Rattle.machine.specs.Machine.{Machine, Note, Live-book, machine, rules, settings, clocked, moved}
+use Rattle.machine.specs.Calls.{Done, done, outOf, listOf}
+use Rattle.machine.specs.Calls.Call.{request}
+use Rattle.machine.specs.Refusals.{refusal}
+use Rattle.machine.specs.Requests.{wanted, partyOf, joiningPlace, canJoin, exhausted, excepted, joinedTo, issuedTo, served, accepted}
+use Rattle.machine.specs.Outcomes.{granted, outcome}
+use Rattle.machine.specs.declared.Answer.the-variants.{Refused, Joined, Issued}
+use Rattle.machine.proofs.RefusalLaws.{refusal-changes-nothing}
+use Rattle.machine.proofs.OutcomeLaws.{granted-is}
+use Rattle.proxy.specs.State.{State, state, machineOf}
+use Rattle.requesting.proofs.GateLaws.{Open, check-passes, not-before}
+
+-- A refused request changes nothing.
+pub was-refused : (m : Machine) (c t : ℕ) (f o : List ℕ) (n : ℕ) → (n ≡ 0 → ⊥) → refusal m (request c t f o) ≡ n → done (Refused n) m o [] ≡ outcome m (request c t f o)
+unfolding outOf listOf
+was-refused m c t f o n h e = ap (λ (k : ℕ). done (Refused k) m o []) (sym e) ∙ sym (refusal-changes-nothing m (request c t f o) (λ z. h (sym e ∙ z)))
+
+-- the state whose clock is set
+abbrev pub atTime : State → ℕ → State
+atTime s t = state (s .table) (s .cursor) (s .attached) t (s .settings)
+
+set-clock : (s : State) (t : ℕ) → s .clock ≤ t → clocked (machineOf s) t ≡ machineOf (atTime s t)
+set-clock s t h = ap (λ (n : ℕ). machineOf (atTime s n)) (max-eq-right h)
+
+module _ (s : State) (c t : ℕ) (f o : List ℕ) (p : Open (machineOf s) c t f o) where
+  -- A request with a fault sets the clock and gets the exception.
+  pub was-excepted : (code : ℕ) (d : Done) → checkedOf f ≡ Faulty code → d ≡ excepted (machineOf (atTime s t)) code f o → d ≡ outcome (machineOf s) (request c t f o)
+  unfolding granted accepted
+  was-excepted code d e q =
+      let w : Tested f (Faulty code) = rw e at (check-tests f) in
+      q ∙ sym (granted-is (machineOf s) (request c t f o) (check-passes (machineOf s) c t f o p (w .0) (w .1))
+      ∙ rw (w .3) (rw (w .2, set-clock s t (not-before (machineOf s) c t f o p)) refl))
+
+  -- A legal request sets the clock and is served.
+  pub was-served : (a : Asked) (d : Done) → checkedOf f ≡ Legal a → d ≡ served (machineOf (atTime s t)) c f o → d ≡ outcome (machineOf s) (request c t f o)
+  unfolding granted accepted
+  was-served a d e q =
+      let w : Tested f (Legal a) = rw e at (check-tests f) in
+      q ∙ sym (granted-is (machineOf s) (request c t f o) (check-passes (machineOf s) c t f o p (w .0) (w .1))
+      ∙ rw (eq-eqb (faultOf f) 0 (w .2)) (rw (set-clock s t (not-before (machineOf s) c t f o p)) refl))
+
+module _ (m : Machine) (c : ℕ) (f o : List ℕ) where
+  -- A request that can join does, and no frame is written.
+  pub was-joined : (k : ℕ) (e : Live What Note) → k ≡ joiningPlace m f → k < places → at (m .book) k ≡ some e
+      → done (Joined (record { 0 = e .id })) (moved m (join k e (wanted f) (partyOf c f))) o [] ≡ served m c f o
+  unfolding served joinedTo
+  was-joined k e q l live = rw (← q) (rw (lt-ltb k places l) (rw live refl))
+
+  module _ (none : places ≤ joiningPlace m f) where
+    cannot : canJoin m f ≡ false
+    cannot = le-ltb (joiningPlace m f) places none
+
+    -- A request that can join nothing is issued where a place is free,
+    pub was-issued : (d : Done) → freePlace rules (m .book) < places → d ≡ issuedTo m c f o → d ≡ served m c f o
+    unfolding served exhausted
+    was-issued d l q = rw cannot (rw (lt-ltb (freePlace rules (m .book)) places l) q)
+
+    -- and gets exception 04 where none is.
+    pub was-full : (d : Done) → places ≤ freePlace rules (m .book) → d ≡ excepted m deviceFailure f o → d ≡ served m c f o
+    unfolding served exhausted
+    was-full d l q = rw cannot (rw (le-ltb (freePlace rules (m .book)) places l) q)
+
+  -- what is said, kept and written of an issue under an id into a place
+  abbrev sent : ℕ → ℕ → Rewritten → Done
+  sent id place r =
+      done (Issued (record { 0 = id }) (length f) (r .partial) (r .value)) (moved m (issue place id (wanted f) tt (m .book .clock + settings m .timeout) (partyOf c f)))
+      (r .bytes) []
+
+  -- What is issued: the first free id, the lowest free place, the frame under that id with its registers rewritten, and both counts.
+  pub issue-made : (id place : ℕ) (a : Asked) (p v : ℕ) (o′ : List ℕ) (b : Live-book)
+      → id ≡ freeId rules (m .book) → place ≡ freePlace rules (m .book) → a ≡ askedOf f
+      → rewrote p v o′ ≡ under id o (forwarded (settings m .tags) a f)
+      → b ≡ apply rules (m .book) (issue place id (wanted f) tt (m .book .clock + settings m .timeout) (partyOf c f))
+      → done (Issued (record { 0 = id }) (length f) p v) (machine b (m .attached)) o′ [] ≡ issuedTo m c f o
+  unfolding issuedTo
+  issue-made id place a p v o′ b ei ep ea w eb =
+      rw eb
+      (ap (sent id place) w
+      ∙ ap (λ (x : Asked). sent id place (under id o (forwarded (settings m .tags) x f))) ea
+      ∙ ap (λ (k : ℕ). sent id k (under id o (forwarded (settings m .tags) (askedOf f) f))) ep
+      ∙ ap (λ (i : ℕ). sent i (freePlace rules (m .book)) (under i o (forwarded (settings m .tags) (askedOf f) f))) ei)

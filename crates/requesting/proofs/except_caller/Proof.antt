@@ -1,0 +1,14 @@
+use Rattle.machine.specs.Requests.{excepted}
+use borrow.Author.Needs.{needs}
+use Rattle.requesting.proofs.except_caller.Statement.{statement}
+use Rattle.requesting.proofs.except_caller.Tie as tie
+
+returns : tie.Need-returns
+unfolding excepted
+returns c =
+    λ m. rw (c .before .before .except .ensures, c .before .before .before .before .before .before .original-of .ensures, c .before .before .before .before .before .byte-at .ensures, c .before .before .before .before .byte-at2 .ensures)
+
+pub except-caller-spec : {M : Type 1} → statement M
+except-caller-spec =
+    tie.close
+    (tie.spec (λ c κs. search needs) (λ c κs. search needs) (λ c κs. search needs) (λ c κs. search needs) (λ c. search needs) returns)

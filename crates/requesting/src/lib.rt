@@ -1,0 +1,300 @@
+// The request call over lent columns: the gate, the check of what is asked, and what a legal request comes to.
+use machine::Answer;
+use pdu::Asked;
+use pdu::Checked;
+use pdu::ProxyId;
+ghost use mathlib.Core.Path.{_≡_};
+ghost use mathlib.Core.Bool.{false};
+ghost use mathlib.Core.List.{[]};
+ghost use Prim.Native.Nat.{ℕ, _≤_, _<_};
+ghost use lib.ListN.{length};
+ghost use Rattle.laws.specs.Numbers.{clients as clientCount, places, exceptionFrame, leastFrame};
+ghost use Rattle.laws.specs.Bits.{has};
+ghost use Rattle.laws.specs.Search.{best};
+ghost use Rattle.settings.specs.Grammar.{Value};
+ghost use Rattle.pdu.specs.Requests.{checkedOf};
+ghost use Rattle.pdu.specs.Replies.{What};
+ghost use Rattle.pdu.specs.Words.{wordOf, Proper};
+ghost use Rattle.machine.specs.Machine.{Machine};
+ghost use Rattle.machine.specs.Calls.{done};
+ghost use Rattle.machine.specs.Calls.Call.{request as asks};
+ghost use Rattle.machine.specs.Requests.{wanted, joins, excepted, issuedTo, served};
+ghost use Rattle.machine.specs.Outcomes.{outcome};
+ghost use Rattle.table.specs.Columns.{columns, Sound};
+ghost use Rattle.table.specs.Places.{isFree};
+ghost use Rattle.proxy.specs.State.{kept, state, machineOf, Settled, Sounds};
+ghost use Rattle.proxy.specs.Gates.{requestGate};
+ghost use Rattle.requesting.specs.Parts.{Admitted, Came};
+
+// The byte at which a frame's unit stands.
+const UNIT_AT: usize = 6;
+
+// Whether a client is in a set.
+fn is_member(set: u32, client: u32) -> bool
+    requires { ⌜ client < clientCount ⌝ }
+    ensures { λ r. ⌜ r ≡ has set client ⌝ }
+{
+    (set >> client) & 1 == 1
+}
+
+// The refusals 1 to 4, the lowest that applies; 0 where none does.
+fn gate(out: usize, client: u32, attached: u32, time: u64, clock: u64, frame: &[u8]) -> u32
+    ensures { λ r. ⌜ r ≡ requestGate out client attached time clock (now (frame .entry)) ⌝ }
+{
+    if out < laws::FRAME_BUFFER {
+        return 1;
+    }
+    if laws::CLIENTS <= client {
+        return 2;
+    }
+    if !is_member(attached, client) {
+        return 2;
+    }
+    if (laws::LATEST_TIME < time) | (time < clock) {
+        return 3;
+    }
+    if wire::is_misframed(frame) {
+        return 4;
+    }
+    0
+}
+
+// An exception for the caller, under its own id.
+fn except_caller(out: &mut [u8], frame: &[u8], code: u8) -> Answer
+    requires { ⌜ exceptionFrame ≤ length (now out) ⌝ }
+    ensures { λ r. ⌜ ((m : Machine) → done r m (now (out .exit)) [] ≡ excepted m code (now (frame .entry)) (now (out .entry))) ⌝ }
+{
+    let id = pdu::original_of(frame);
+    let unit = wire::byte_at(frame, UNIT_AT);
+    let function = wire::byte_at(frame, laws::HEADER_SIZE);
+    wire::except(out, id.0, unit, function, code);
+    Answer::Excepted { code }
+}
+
+// Whether a request may join its like: a read, when joining is on.
+fn may_join(join: u32, what: Asked) -> bool
+    ensures { λ r. ⌜ ((v : Value) (w : What) → v .join ≡ join → w .asked ≡ what → r ≡ joins v w w) ⌝ }
+{
+    match what {
+        Asked::Read {
+            start: _,
+            quantity: _,
+        } => join == 1,
+        Asked::SingleWrite { address: _ } => false,
+        Asked::MultipleWrite {
+            start: _,
+            quantity: _,
+        } => false,
+        Asked::Other => false,
+    }
+}
+
+// What a legal request asks, as one word.
+fn word_asked(frame: &[u8], what: Asked) -> u64
+    requires { ⌜ (leastFrame ≤ length (now frame)) × (checkedOf (now frame) ≡ Checked.Legal what) ⌝ }
+    ensures { λ r. ⌜ (r ≡ wordOf (wanted (now (frame .entry)))) × Proper (wanted (now (frame .entry))) ⌝ }
+{
+    let unit = frame[UNIT_AT];
+    let function = frame[laws::HEADER_SIZE];
+    pdu::word_of(unit, function, what)
+}
+
+// Issues a legal request into the lowest free place, and sends its frame on.
+fn issue_request<'a>(
+    ids: &'a mut [u32; laws::PLACES],
+    asked: &'a mut [u64; laws::PLACES],
+    notes: &'a mut [u8; laws::PLACES],
+    deadlines: &'a mut [u64; laws::PLACES],
+    counts: &'a mut [u8; laws::PLACES],
+    clients: &'a mut [u8; laws::PARTY_PLACES],
+    originals: &'a mut [u16; laws::PARTY_PLACES],
+    top: &'a mut u32,
+    cursor: &'a mut u16,
+    timeout: u32,
+    tagged: u32,
+    tags: &[u64; laws::MOST_TAGS],
+    client: u8,
+    time: u64,
+    frame: &[u8],
+    out: &mut [u8],
+    what: Asked,
+    word: u64,
+    place: usize,
+) -> Answer
+    requires { ⌜ Sound (columns (now ids) (now asked) (now notes) (now deadlines) (now counts) (now clients) (now originals) (now top)) ⌝ }
+    requires { ⌜ Settled (kept timeout 0 tagged (now tags)) ⌝ }
+    requires { ⌜ Admitted client time (now frame) (now out) what ⌝ }
+    requires { ⌜ (word ≡ wordOf (wanted (now frame))) × Proper (wanted (now frame)) ⌝ }
+    requires { ⌜ (place ≡ best (isFree (now ids)) (λ j k. false) places places) × (place < places) ⌝ }
+    ensures { λ r. ⌜ ((join : ℕ) → Came r (kept timeout join tagged (now (tags .entry))) time (columns (now (ids .exit)) (now (asked .exit)) (now (notes .exit)) (now (deadlines .exit)) (now (counts .exit)) (now (clients .exit)) (now (originals .exit)) (now (top .exit))) (now (cursor .exit)) (now (out .exit))
+        (λ m. issuedTo m client (now (frame .entry)) (now (out .entry)))
+        (columns (now (ids .entry)) (now (asked .entry)) (now (notes .entry)) (now (deadlines .entry)) (now (counts .entry)) (now (clients .entry)) (now (originals .entry)) (now (top .entry))) (now (cursor .entry))) ⌝ }
+{
+    let id = table::finding::free_id(ids, *top as usize, ProxyId(*cursor));
+    let deadline = time + timeout as u64;
+    let original = pdu::original_of(frame);
+    table::changing::issue(
+        ids,
+        asked,
+        notes,
+        deadlines,
+        counts,
+        clients,
+        originals,
+        top,
+        place,
+        id,
+        word,
+        deadline,
+        client,
+        original,
+    );
+    let next = id.next();
+    *cursor = next.0;
+    let raw = rewrite::forward(out, frame, id, what, tags, tagged as usize);
+    let length = frame.len() as u32;
+    Answer::Issued {
+        id,
+        length,
+        partial: raw.partial,
+        value: raw.value,
+    }
+}
+
+// A legal request: it joins, else is issued, else gets exception 04.
+fn serve<'a>(
+    ids: &'a mut [u32; laws::PLACES],
+    asked: &'a mut [u64; laws::PLACES],
+    notes: &'a mut [u8; laws::PLACES],
+    deadlines: &'a mut [u64; laws::PLACES],
+    counts: &'a mut [u8; laws::PLACES],
+    clients: &'a mut [u8; laws::PARTY_PLACES],
+    originals: &'a mut [u16; laws::PARTY_PLACES],
+    top: &'a mut u32,
+    cursor: &'a mut u16,
+    timeout: u32,
+    join: u32,
+    tagged: u32,
+    tags: &[u64; laws::MOST_TAGS],
+    client: u8,
+    time: u64,
+    frame: &[u8],
+    out: &mut [u8],
+    what: Asked,
+) -> Answer
+    requires { ⌜ Sound (columns (now ids) (now asked) (now notes) (now deadlines) (now counts) (now clients) (now originals) (now top)) ⌝ }
+    requires { ⌜ Settled (kept timeout join tagged (now tags)) ⌝ }
+    requires { ⌜ Admitted client time (now frame) (now out) what ⌝ }
+    ensures { λ r. ⌜ Came r (kept timeout join tagged (now (tags .entry))) time (columns (now (ids .exit)) (now (asked .exit)) (now (notes .exit)) (now (deadlines .exit)) (now (counts .exit)) (now (clients .exit)) (now (originals .exit)) (now (top .exit))) (now (cursor .exit)) (now (out .exit))
+        (λ m. served m client (now (frame .entry)) (now (out .entry)))
+        (columns (now (ids .entry)) (now (asked .entry)) (now (notes .entry)) (now (deadlines .entry)) (now (counts .entry)) (now (clients .entry)) (now (originals .entry)) (now (top .entry))) (now (cursor .entry)) ⌝ }
+{
+    let word = word_asked(frame, what);
+    let joining = may_join(join, what);
+    let seats = table::finding::find_seats(
+        ids,
+        asked,
+        deadlines,
+        counts,
+        *top as usize,
+        joining,
+        word,
+        time,
+    );
+    let open = seats.open;
+    let free = seats.free;
+    if open < laws::PLACES {
+        let original = pdu::original_of(frame);
+        table::changing::join(counts, clients, originals, open, client, original);
+        let id = table::changing::id_at(ids, open);
+        return Answer::Joined { id };
+    }
+    if free < laws::PLACES {
+        return issue_request(
+            ids,
+            asked,
+            notes,
+            deadlines,
+            counts,
+            clients,
+            originals,
+            top,
+            cursor,
+            timeout,
+            tagged,
+            tags,
+            client,
+            time,
+            frame,
+            out,
+            what,
+            word,
+            free,
+        );
+    }
+    except_caller(out, frame, laws::DEVICE_FAILURE)
+}
+
+// A request of any client, at any time, of any bytes, over a buffer of any length.
+pub fn request<'a>(
+    ids: &'a mut [u32; laws::PLACES],
+    asked: &'a mut [u64; laws::PLACES],
+    notes: &'a mut [u8; laws::PLACES],
+    deadlines: &'a mut [u64; laws::PLACES],
+    counts: &'a mut [u8; laws::PLACES],
+    clients: &'a mut [u8; laws::PARTY_PLACES],
+    originals: &'a mut [u16; laws::PARTY_PLACES],
+    top: &'a mut u32,
+    cursor: &'a mut u16,
+    attached: &'a mut u32,
+    clock: &'a mut u64,
+    timeout: &'a mut u32,
+    join: &'a mut u32,
+    tagged: &'a mut u32,
+    tags: &'a mut [u64; laws::MOST_TAGS],
+    client: u32,
+    time: u64,
+    frame: &[u8],
+    out: &mut [u8],
+) -> Answer
+    requires { ⌜ Sounds (state (columns (now ids) (now asked) (now notes) (now deadlines) (now counts) (now clients) (now originals) (now top)) (now cursor) (now attached) (now clock) (kept (now timeout) (now join) (now tagged) (now tags))) ⌝ }
+    ensures { λ r. ⌜ done r (machineOf (state (columns (now (ids .exit)) (now (asked .exit)) (now (notes .exit)) (now (deadlines .exit)) (now (counts .exit)) (now (clients .exit)) (now (originals .exit)) (now (top .exit))) (now (cursor .exit)) (now (attached .exit)) (now (clock .exit)) (kept (now (timeout .exit)) (now (join .exit)) (now (tagged .exit)) (now (tags .exit))))) (now (out .exit)) []
+        ≡ outcome (machineOf (state (columns (now (ids .entry)) (now (asked .entry)) (now (notes .entry)) (now (deadlines .entry)) (now (counts .entry)) (now (clients .entry)) (now (originals .entry)) (now (top .entry))) (now (cursor .entry)) (now (attached .entry)) (now (clock .entry)) (kept (now (timeout .entry)) (now (join .entry)) (now (tagged .entry)) (now (tags .entry))))) (asks client time (now (frame .entry)) (now (out .entry))) ⌝ }
+    ensures { λ r. ⌜ Sounds (state (columns (now (ids .exit)) (now (asked .exit)) (now (notes .exit)) (now (deadlines .exit)) (now (counts .exit)) (now (clients .exit)) (now (originals .exit)) (now (top .exit))) (now (cursor .exit)) (now (attached .exit)) (now (clock .exit)) (kept (now (timeout .exit)) (now (join .exit)) (now (tagged .exit)) (now (tags .exit)))) ⌝ }
+{
+    let refused = gate(out.len(), client, *attached, time, *clock, frame);
+    if refused != 0 {
+        return Answer::Refused { number: refused };
+    }
+    match pdu::check_request(frame) {
+        Checked::BadFunction => Answer::Refused { number: 5 },
+        Checked::BadLength => Answer::Refused { number: 6 },
+        Checked::Excepted(code) => {
+            *clock = time;
+            except_caller(out, frame, code)
+        }
+        Checked::Legal(what) => {
+            *clock = time;
+            serve(
+                ids,
+                asked,
+                notes,
+                deadlines,
+                counts,
+                clients,
+                originals,
+                top,
+                cursor,
+                *timeout,
+                *join,
+                *tagged,
+                tags,
+                client as u8,
+                time,
+                frame,
+                out,
+                what,
+            )
+        }
+    }
+}
