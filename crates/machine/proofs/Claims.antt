@@ -12,6 +12,7 @@ use native.Mathlib.Nat.{max-eq-right}
 use lib.ListN.{length, getD, replicate}
 use lib.Dec.{eqb}
 use borrow.Author.Tests.{eqb-true}
+use Rattle.laws.specs.Numbers.{places}
 use Rattle.laws.specs.Lists.{filter}
 use Rattle.laws.proofs.FilterLaws.{filter-in}
 use Rattle.bcd.specs.Bcd.{inRange}
@@ -109,7 +110,7 @@ module _ (v : Value) (xs : List Call) where
   a-partys-frame id f = laid-laid id 0 f
 
   -- Tender 3: ticking at one time ends. After as many ticks as there are places the next one says that nothing is due.
-  pub ticking-comes-to-an-end : (t : ℕ) (o l : List ℕ) (n : ℕ) → refusal (afterCalls v xs) (tick t o l) ≡ 0 → 64 ≤ n → outcome (ticked t o l n (afterCalls v xs)) (tick t o l) .says ≡ answer.NothingDue
+  pub ticking-comes-to-an-end : (t : ℕ) (o l : List ℕ) (n : ℕ) → refusal (afterCalls v xs) (tick t o l) ≡ 0 → places ≤ n → outcome (ticked t o l n (afterCalls v xs)) (tick t o l) .says ≡ answer.NothingDue
   ticking-comes-to-an-end t o l n h p = ticking-ends t o l n (afterCalls v xs) good h p
 
 -- the machine after one call more

@@ -35,15 +35,15 @@ says n p = record { number = n; holds = p }
 
 -- size not 8 to 260, protocol not 0, or length field not size − 6
 abbrev pub Misframed : List ℕ → Type 0
-Misframed f = (length f < 8) ⊎ ((260 < length f) ⊎ ((protocolOf f ≡ 0 → ⊥) ⊎ (lengthOf f + 6 ≡ length f → ⊥)))
+Misframed f = (length f < leastFrame) ⊎ ((mostFrame < length f) ⊎ ((protocolOf f ≡ 0 → ⊥) ⊎ (lengthOf f + uncounted ≡ length f → ⊥)))
 
 -- time above 2^63 − 1, or below the state's clock
 abbrev pub Untimely : Machine → ℕ → Type 0
-Untimely m t = (9223372036854775807 < t) ⊎ (t < m .book .clock)
+Untimely m t = (latestTime < t) ⊎ (t < m .book .clock)
 
 -- client number above 31, or not attached
 abbrev pub Stranger : Machine → ℕ → Type 0
-Stranger m c = (31 < c) ⊎ (has (m .attached) c ≡ false)
+Stranger m c = (clients ≤ c) ⊎ (has (m .attached) c ≡ false)
 
 -- no live entry has the reply's id; one has it, but the reply does not answer its request
 abbrev pub NotLive : Machine → List ℕ → Type 0
@@ -54,19 +54,19 @@ NoAnswer m f = (e : Live What Note) × (entryFor m f ≡ some e) × (answering (
 
 -- the table, for each call the rows that it knows
 abbrev pub table : Machine → Call → List Plain
-table m (attach c) = says 2 (31 < c) ∷ says 9 (has (m .attached) c ≡ true) ∷ []
+table m (attach c) = says 2 (clients ≤ c) ∷ says 9 (has (m .attached) c ≡ true) ∷ []
 table m (detach c) = says 2 (Stranger m c) ∷ []
 table m (request c t f o) =
-    says 1 (length o < 260)
+    says 1 (length o < frameBuffer)
     ∷ says 2 (Stranger m c)
     ∷ says 3 (Untimely m t)
     ∷ says 4 (Misframed f)
-    ∷ says 5 ((functionOf f ≡ 0) ⊎ (127 < functionOf f))
+    ∷ says 5 ((functionOf f ≡ 0) ⊎ (lastFunction < functionOf f))
     ∷ says 6 (badLength (classOf (functionOf f)) f ≡ true)
     ∷ []
 table m (reply t f o l) =
-    says 1 ((length o < 260) ⊎ (length l < 16)) ∷ says 3 (Untimely m t) ∷ says 4 (Misframed f) ∷ says 7 (NotLive m f) ∷ says 8 (NoAnswer m f) ∷ []
-table m (tick t o l) = says 1 ((length o < 260) ⊎ (length l < 16)) ∷ says 3 (Untimely m t) ∷ []
+    says 1 ((length o < frameBuffer) ⊎ (length l < listBuffer)) ∷ says 3 (Untimely m t) ∷ says 4 (Misframed f) ∷ says 7 (NotLive m f) ∷ says 8 (NoAnswer m f) ∷ []
+table m (tick t o l) = says 1 ((length o < frameBuffer) ⊎ (length l < listBuffer)) ∷ says 3 (Untimely m t) ∷ []
 table m linkLost = []
 
 -- row n is in the table and applies
@@ -126,39 +126,39 @@ differ-test a b h = rw (ne-eqb a b h)
 misframed-says : (f : List ℕ) → misframed f ≡ true → Misframed f
 unfolding misframed
 misframed-says f e =
-    either _ _ _ _ (ltb-true (length f) 8)
-    (either _ _ _ _ (ltb-true 260 (length f)) (either _ _ _ _ (differs (protocolOf f) 0) (differs (lengthOf f + 6) (length f)))) e
+    either _ _ _ _ (ltb-true (length f) leastFrame)
+    (either _ _ _ _ (ltb-true mostFrame (length f)) (either _ _ _ _ (differs (protocolOf f) 0) (differs (lengthOf f + uncounted) (length f)))) e
 
 says-misframed : (f : List ℕ) → Misframed f → misframed f ≡ true
 unfolding misframed
 says-misframed f w =
-    one-of _ _ _ _ (lt-ltb (length f) 8)
-    (one-of _ _ _ _ (lt-ltb 260 (length f)) (one-of _ _ _ _ (differ-test (protocolOf f) 0) (differ-test (lengthOf f + 6) (length f)))) w
+    one-of _ _ _ _ (lt-ltb (length f) leastFrame)
+    (one-of _ _ _ _ (lt-ltb mostFrame (length f)) (one-of _ _ _ _ (differ-test (protocolOf f) 0) (differ-test (lengthOf f + uncounted) (length f)))) w
 
-above-says : (c : ℕ) → leb 32 c ≡ true → 31 < c
-above-says c e = let z = leb-true 32 c e in omega arith
+above-says : (c : ℕ) → leb clients c ≡ true → clients ≤ c
+above-says c e = leb-true clients c e
 
-says-above : (c : ℕ) → 31 < c → leb 32 c ≡ true
-says-above c h = le-leb 32 c (omega arith)
+says-above : (c : ℕ) → clients ≤ c → leb clients c ≡ true
+says-above c h = le-leb clients c h
 
 module _ (m : Machine) where
-  stranger-says : (c : ℕ) → (leb 32 c || not (has (m .attached) c)) ≡ true → Stranger m c
+  stranger-says : (c : ℕ) → (leb clients c || not (has (m .attached) c)) ≡ true → Stranger m c
   stranger-says c e = either _ _ _ _ (above-says c) (not-true (has (m .attached) c)) e
 
-  says-stranger : (c : ℕ) → Stranger m c → (leb 32 c || not (has (m .attached) c)) ≡ true
+  says-stranger : (c : ℕ) → Stranger m c → (leb clients c || not (has (m .attached) c)) ≡ true
   says-stranger c w = one-of _ _ _ _ (says-above c) (λ z. rw z) w
 
-  untimely-says : (t : ℕ) → (ltb 9223372036854775807 t || ltb t (m .book .clock)) ≡ true → Untimely m t
-  untimely-says t e = either _ _ _ _ (ltb-true 9223372036854775807 t) (ltb-true t (m .book .clock)) e
+  untimely-says : (t : ℕ) → (ltb latestTime t || ltb t (m .book .clock)) ≡ true → Untimely m t
+  untimely-says t e = either _ _ _ _ (ltb-true latestTime t) (ltb-true t (m .book .clock)) e
 
-  says-untimely : (t : ℕ) → Untimely m t → (ltb 9223372036854775807 t || ltb t (m .book .clock)) ≡ true
-  says-untimely t w = one-of _ _ _ _ (lt-ltb 9223372036854775807 t) (lt-ltb t (m .book .clock)) w
+  says-untimely : (t : ℕ) → Untimely m t → (ltb latestTime t || ltb t (m .book .clock)) ≡ true
+  says-untimely t w = one-of _ _ _ _ (lt-ltb latestTime t) (lt-ltb t (m .book .clock)) w
 
-  short-says : (o l : List ℕ) → (ltb (length o) 260 || ltb (length l) 16) ≡ true → (length o < 260) ⊎ (length l < 16)
-  short-says o l e = either _ _ _ _ (ltb-true (length o) 260) (ltb-true (length l) 16) e
+  short-says : (o l : List ℕ) → (ltb (length o) frameBuffer || ltb (length l) listBuffer) ≡ true → (length o < frameBuffer) ⊎ (length l < listBuffer)
+  short-says o l e = either _ _ _ _ (ltb-true (length o) frameBuffer) (ltb-true (length l) listBuffer) e
 
-  says-short : (o l : List ℕ) → (length o < 260) ⊎ (length l < 16) → (ltb (length o) 260 || ltb (length l) 16) ≡ true
-  says-short o l w = one-of _ _ _ _ (lt-ltb (length o) 260) (lt-ltb (length l) 16) w
+  says-short : (o l : List ℕ) → (length o < frameBuffer) ⊎ (length l < listBuffer) → (ltb (length o) frameBuffer || ltb (length l) listBuffer) ≡ true
+  says-short o l w = one-of _ _ _ _ (lt-ltb (length o) frameBuffer) (lt-ltb (length l) listBuffer) w
 
 dead-says : (o : Option (Live What Note)) → isDead o ≡ true → o ≡ none
 dead-says none e = refl
@@ -174,13 +174,13 @@ mismatched-says f (some x) e = (x, refl, not-true (answering (x .what) f) e)
 says-mismatched : (f : List ℕ) (o : Option (Live What Note)) → ((e : Live What Note) × (o ≡ some e) × (answering (e .what) f ≡ false)) → isMismatched f o ≡ true
 says-mismatched f o w = rw (w .1) (rw (w .2) refl)
 
-bad-function-says : (n : ℕ) → badFunction n ≡ true → (n ≡ 0) ⊎ (127 < n)
+bad-function-says : (n : ℕ) → badFunction n ≡ true → (n ≡ 0) ⊎ (lastFunction < n)
 unfolding badFunction
-bad-function-says n e = either _ _ _ _ (eqb-true n 0) (ltb-true 127 n) e
+bad-function-says n e = either _ _ _ _ (eqb-true n 0) (ltb-true lastFunction n) e
 
-says-bad-function : (n : ℕ) → (n ≡ 0) ⊎ (127 < n) → badFunction n ≡ true
+says-bad-function : (n : ℕ) → (n ≡ 0) ⊎ (lastFunction < n) → badFunction n ≡ true
 unfolding badFunction
-says-bad-function n w = one-of _ _ _ _ (eq-eqb n 0) (lt-ltb 127 n) w
+says-bad-function n w = one-of _ _ _ _ (eq-eqb n 0) (lt-ltb lastFunction n) w
 
 decided : (m : Machine) (x : Call) → Decides 0 (rows m x) (table m x)
 unfolding rows
@@ -188,7 +188,7 @@ decided m (attach c) =
     next {n = 0} {k = 2} (omega arith) (above-says c) (says-above c) (next {n = 2} {k = 9} (omega arith) (λ e. e) (λ e. e) end)
 decided m (detach c) = next {n = 0} {k = 2} (omega arith) (stranger-says m c) (says-stranger m c) end
 decided m (request c t f o) =
-    next {n = 0} {k = 1} (omega arith) (ltb-true (length o) 260) (lt-ltb (length o) 260)
+    next {n = 0} {k = 1} (omega arith) (ltb-true (length o) frameBuffer) (lt-ltb (length o) frameBuffer)
     (next {n = 1} {k = 2} (omega arith) (stranger-says m c) (says-stranger m c)
     (next {n = 2} {k = 3} (omega arith) (untimely-says m t) (says-untimely m t)
     (next {n = 3} {k = 4} (omega arith) (misframed-says f) (says-misframed f)
