@@ -1,30 +1,33 @@
--- The end of an entry: its place is free, its clock is the call's time, and the state stays sound.
+-- The end of an entry: its place is free, the clock is at the call's time, and the state stays sound.
 -- Assumes nothing.
 use Prim.Native.Nat.{ℕ, _+_, _≤_, _<_}
-use mathlib.Core.Path.{_≡_, ap, sym, _∙_}
+use mathlib.Core.Path.{_≡_, ap, _∙_}
 use mathlib.Core.Logic.{⊎-elim}
 use mathlib.Core.Bool.{Bool, true, false}
-use mathlib.Core.Option.{some}
 use mathlib.Core.List.{List}
 use native.Mathlib.Omega.{arith}
 use native.Mathlib.Nat.{max-eq-right}
-use lib.ListN.{length, getD, set}
+use lib.ListN.{getD, set}
 use borrow.Author.Tests.{eqb-true, eqb-false, not-true}
 use Rattle.laws.specs.Numbers.{ids, places, room, listBuffer}
 use Rattle.laws.specs.Search.{best}
 use Rattle.laws.proofs.Choice.{and-left}
 use Rattle.laws.proofs.SearchLaws.{best-in}
 use Rattle.pdu.specs.Words.{whatOf, Proper}
+use Rattle.pdu.specs.declared.ProxyId.{ProxyId}
 use Rattle.rewrite.specs.Lent.{TagWords}
-use Rattle.book.specs.Book.{at}
-use Rattle.book.specs.Book.Move.{reply, expire}
-use Rattle.machine.specs.Machine.{Machine, machine, clocked, moved}
+use Rattle.book.specs.Book.Move.{reply}
+use Rattle.machine.specs.Machine.{machine, clocked, moved}
 use Rattle.table.specs.Columns.{Columns, columns, Sound}
 use Rattle.table.specs.Places.{holds, isDue, isSooner}
 use Rattle.table.specs.Changes.{reach}
-use Rattle.table.proofs.EntryLaws.{held, live-at}
-use Rattle.table.proofs.ChangeLaws.{remove-is-reply, remove-is-expire, remove-sound}
+use Rattle.table.proofs.EntryLaws.{held}
+use Rattle.table.proofs.ChangeLaws.{remove-is-reply, remove-sound}
 use Rattle.proxy.specs.State.{Kept, State, state, valueIn, machineOf, Settled, Sounds}
+
+-- the proxy id of that number
+abbrev pub named : ℕ → ProxyId
+named n = record { 0 = n }
 
 -- the state at another time; and with other ids and another top at another time
 abbrev pub timed : State → ℕ → State
@@ -52,7 +55,7 @@ pub record Living (c : Columns) (k : ℕ) : Type 0 where
   pub low : k < places
   pub live : getD (c .ids) k 0 ≡ 0 → ⊥
 
--- A place that a scan found is live, where the test asks that.
+-- a place that a scan found is live, where the test asks that
 module _ (c : Columns) (s : Sound c) (test : ℕ → Bool) (beats : ℕ → ℕ → Bool) (asks : (k : ℕ) → test k ≡ true → getD (c .ids) k 0 ≡ 0 → ⊥) where
   found-lives : (k : ℕ) → k ≡ best test beats places (c .top) → (k ≡ places → ⊥) → Living c k
   found-lives k e h =

@@ -14,10 +14,18 @@ use Rattle.laws.proofs.Choice.{true-or, or-left, or-right, past}
 use Rattle.wire.specs.Frame.{misframed}
 use Rattle.wire.proofs.FrameLaws.{Framed, framed}
 use Rattle.machine.specs.Machine.{Machine}
+use Rattle.machine.specs.Calls.{Call, done, outOf, listOf}
 use Rattle.machine.specs.Calls.Call.{reply, tick}
 use Rattle.machine.specs.Refusals.{Row, row, rows, lowest, refusal, isDead, isMismatched, entryFor}
+use Rattle.machine.specs.Outcomes.{outcome}
+use Rattle.machine.specs.declared.Answer.the-variants.{Refused}
+use Rattle.machine.proofs.RefusalLaws.{refusal-changes-nothing}
 use Rattle.machine.proofs.OutcomeLaws.{none-applies}
 use Rattle.proxy.specs.Gates.{replyGate, tickGate}
+
+-- A refusal other than 0 is the whole outcome.
+pub refused-is : (m : Machine) (x : Call) (n : ℕ) → refusal m x ≡ n → (n ≡ 0 → ⊥) → done (Refused n) m (outOf x) (listOf x) ≡ outcome m x
+refused-is m x n e h = rw (← e) (sym (refusal-changes-nothing m x (λ z. h (sym e ∙ z))))
 
 -- the lowest refusal of a list, and of what stands behind it where none of it applies
 abbrev Splits : List Row → Type 0
@@ -45,14 +53,16 @@ unfolding tickGate rows
 tick-gate m t o l = refl
 
 module _ (out list time clock : ℕ) (f : List ℕ) (n : ℕ) (e : n ≡ tickGate out list time clock) where
-  -- A reply's gate is a tick's gate, and behind it refusal 4.
+  -- a reply's gate is a tick's gate, and behind it refusal 4
   split : replyGate out list time clock f ≡ cond (eqb n 0) (cond (misframed f) 4 0) n
   unfolding replyGate tickGate lowest
   split = split-early out list time clock (row 4 (misframed f) ∷ []) ∙ rw (← e)
 
+  -- A reply's gate tells what a tick's gate tells, where that is no 0.
   pub gate-early : (n ≡ 0 → ⊥) → n ≡ replyGate out list time clock f
   gate-early h = rw (split, ne-eqb n 0 h)
 
+  -- Else it tells whether the frame is misframed.
   pub gate-late : (t : Bool) → n ≡ 0 → t ≡ misframed f → cond t 4 0 ≡ replyGate out list time clock f
   gate-late t z q = rw (split, eq-eqb n 0 z, q)
 

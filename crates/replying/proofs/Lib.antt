@@ -1,4 +1,5 @@
 pub mod GateLaws
 pub mod EndLaws
+pub mod FrameLaws
 pub mod ReplyLaws
 pub mod TickLaws

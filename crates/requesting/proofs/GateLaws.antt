@@ -1,14 +1,14 @@
 -- The refusals of a request: from the gate's tests and the outcome of the check to the refusal of the call, and what is known of a request that has none.
 -- Assumes nothing.
-use Prim.Native.Nat.{ℕ, _≤_}
-use mathlib.Core.Path.{_≡_, refl, ap, sym, _∙_}
+use Prim.Native.Nat.{ℕ, _≤_, _<_}
+use mathlib.Core.Path.{_≡_, refl, sym, _∙_}
 use mathlib.Core.Logic.{⊎-elim}
 use mathlib.Core.Bool.{Bool, true, false, not, _||_}
 use mathlib.Core.List.{List, [], _∷_, _++_}
 use native.Mathlib.Omega.{arith}
 use lib.ListN.{length}
-use lib.Dec.{eqb, ltb, leb}
-use borrow.Author.Tests.{leb-false, ltb-false}
+use lib.Dec.{ltb, leb}
+use borrow.Author.Tests.{leb-false, ltb-false, lt-ltb, le-ltb, le-leb, lt-leb}
 use Rattle.laws.specs.Numbers.{clients, latestTime, leastFrame, mostFrame, frameBuffer}
 use Rattle.laws.specs.Bits.{has}
 use Rattle.laws.proofs.Choice.{true-or, or-left, or-right}
@@ -26,17 +26,48 @@ use Rattle.proxy.specs.Gates.{requestGate}
 use Rattle.requesting.specs.Parts.{Admitted}
 
 -- A row that applies is the lowest; a row that does not is passed over; past the last row it is 0.
-pub applies : (n : ℕ) {t : Bool} (rs : List Row) → t ≡ true → n ≡ lowest (row n t ∷ rs)
+applies : (n : ℕ) {t : Bool} (rs : List Row) → t ≡ true → n ≡ lowest (row n t ∷ rs)
 unfolding lowest
 applies n rs e = rw e
 
-pub none-left : 0 ≡ lowest []
+none-left : 0 ≡ lowest []
 unfolding lowest
 none-left = refl
 
-pub passes : {n : ℕ} (k : ℕ) {t : Bool} (rs : List Row) → t ≡ false → n ≡ lowest rs → n ≡ lowest (row k t ∷ rs)
+passes : {n : ℕ} (k : ℕ) {t : Bool} (rs : List Row) → t ≡ false → n ≡ lowest rs → n ≡ lowest (row k t ∷ rs)
 unfolding lowest
 passes k rs e l = rw e l
+
+module _ (out client attached time clock : ℕ) (f : List ℕ) where
+  -- The gate's tests in their order, each behind those before it.
+  pub gate-short : out < frameBuffer → 1 ≡ requestGate out client attached time clock f
+  unfolding requestGate
+  gate-short h = applies 1 _ (lt-ltb out frameBuffer h)
+
+  module _ (roomy : frameBuffer ≤ out) where
+    pub gate-above : clients ≤ client → 2 ≡ requestGate out client attached time clock f
+    unfolding requestGate
+    gate-above h = passes 1 _ (le-ltb out frameBuffer roomy) (applies 2 _ (rw (le-leb clients client h)))
+
+    module _ (low : client < clients) where
+      pub gate-stranger : has attached client ≡ false → 2 ≡ requestGate out client attached time clock f
+      unfolding requestGate
+      gate-stranger h = passes 1 _ (le-ltb out frameBuffer roomy) (applies 2 _ (rw (lt-leb clients client low, h)))
+
+      module _ (member : has attached client ≡ true) where
+        past-client : {n : ℕ} → n ≡ lowest (row 3 (ltb latestTime time || ltb time clock) ∷ row 4 (misframed f) ∷ []) → n ≡ requestGate out client attached time clock f
+        unfolding requestGate
+        past-client e = passes 1 _ (le-ltb out frameBuffer roomy) (passes 2 _ (rw (lt-leb clients client low, member)) e)
+
+        pub gate-untimely : (ltb latestTime time || ltb time clock) ≡ true → 3 ≡ requestGate out client attached time clock f
+        gate-untimely h = past-client (applies 3 _ h)
+
+        module _ (timely : (ltb latestTime time || ltb time clock) ≡ false) where
+          pub gate-misframed : misframed f ≡ true → 4 ≡ requestGate out client attached time clock f
+          gate-misframed h = past-client (passes 3 _ timely (applies 4 _ h))
+
+          pub gate-open : misframed f ≡ false → 0 ≡ requestGate out client attached time clock f
+          gate-open h = past-client (passes 3 _ timely (passes 4 [] h none-left))
 
 -- Where a row of the first list applies, the rows behind that list have no say.
 lowest-front : (rs qs : List Row) → (lowest rs ≡ 0 → ⊥) → lowest (rs ++ qs) ≡ lowest rs
@@ -44,66 +75,67 @@ unfolding lowest
 lowest-front [] qs h = absurd (h refl)
 lowest-front (r ∷ rs) qs h = ⊎-elim (λ e. rw e) (λ e. rw e (lowest-front rs qs (rw e at h))) (true-or (r .applies))
 
-module _ (m : Machine) (c t : ℕ) (f o : List ℕ) where
-  -- no refusal from 1 to 4 applies
-  pub record Open : Type 0 where
-    pub roomy : shortFrame o ≡ false
-    pub known : isStranger m c ≡ false
-    pub timely : isUntimely m t ≡ false
-    pub framed : misframed f ≡ false
+-- no refusal from 1 to 4 applies
+pub record Open (m : Machine) (c t : ℕ) (f o : List ℕ) : Type 0 where
+  pub roomy : shortFrame o ≡ false
+  pub known : isStranger m c ≡ false
+  pub timely : isUntimely m t ≡ false
+  pub framed : misframed f ≡ false
 
-  -- the number that the gate gives
-  abbrev pub Gated : ℕ → Type 0
-  Gated n = n ≡ requestGate (length o) c (m .attached) t (m .book .clock) f
-
+module _ (m : Machine) (c t : ℕ) (f o : List ℕ) (n : ℕ) (e : n ≡ requestGate (length o) c (m .attached) t (m .book .clock) f) where
   -- A refusal of the gate is the call's.
-  pub gate-refuses : (n : ℕ) → Gated n → (n ≡ 0 → ⊥) → refusal m (request c t f o) ≡ n
+  pub gate-refuses : (n ≡ 0 → ⊥) → refusal m (request c t f o) ≡ n
   unfolding requestGate rows
-  gate-refuses n e h =
+  gate-refuses h =
       lowest-front (row 1 (shortFrame o) ∷ row 2 (isStranger m c) ∷ row 3 (isUntimely m t) ∷ row 4 (misframed f) ∷ []) _ (λ z. h (e ∙ z)) ∙ sym e
 
   -- A gate that refuses nothing leaves only 5 and 6.
-  pub gate-opens : (n : ℕ) → Gated n → n ≡ 0 → Open
+  pub gate-opens : n ≡ 0 → Open m c t f o
   unfolding requestGate
-  gate-opens n e z =
+  gate-opens z =
       let a = none-applies (shortFrame o) 1 _ (λ y. omega arith) (sym e ∙ z) in
       let b = none-applies (isStranger m c) 2 _ (λ y. omega arith) (a .1) in
       let d = none-applies (isUntimely m t) 3 _ (λ y. omega arith) (b .1) in
       let g = none-applies (misframed f) 4 _ (λ y. omega arith) (d .1) in
       record { roomy = a .0; known = b .0; timely = d .0; framed = g .0 }
 
-  module _ (p : Open) where
-    behind : (n : ℕ) → n ≡ lowest (row 5 (badFunction (functionOf f)) ∷ row 6 (badLength (classOf (functionOf f)) f) ∷ []) → refusal m (request c t f o) ≡ n
-    unfolding rows
-    behind n e = sym (passes 1 _ (p .roomy) (passes 2 _ (p .known) (passes 3 _ (p .timely) (passes 4 _ (p .framed) e))))
+-- what the outcome of the check tells of the definition's tests
+pub tested : (f : List ℕ) (x : Checked) → checkedOf f ≡ x → Tested f x
+tested f x e = rw e at (check-tests f)
 
-    tested : (x : Checked) → checkedOf f ≡ x → Tested f x
-    tested x e = rw e at (check-tests f)
+module _ {m : Machine} {c t : ℕ} {f o : List ℕ} (p : Open m c t f o) where
+  behind : (n : ℕ) → n ≡ lowest (row 5 (badFunction (functionOf f)) ∷ row 6 (badLength (classOf (functionOf f)) f) ∷ []) → refusal m (request c t f o) ≡ n
+  unfolding rows
+  behind n e = sym (passes 1 _ (p .roomy) (passes 2 _ (p .known) (passes 3 _ (p .timely) (passes 4 _ (p .framed) e))))
 
-    -- Behind the gate the check decides: 5, 6, or no refusal.
-    pub check-function : checkedOf f ≡ BadFunction → refusal m (request c t f o) ≡ 5
-    check-function e = behind 5 (applies 5 _ (tested BadFunction e))
+  -- Behind the gate the check decides: 5, 6, or no refusal.
+  pub check-function : checkedOf f ≡ BadFunction → refusal m (request c t f o) ≡ 5
+  check-function e = behind 5 (applies 5 _ (tested f BadFunction e))
 
-    pub check-length : checkedOf f ≡ BadLength → refusal m (request c t f o) ≡ 6
-    check-length e = let w = tested BadLength e in behind 6 (passes 5 _ (w .0) (applies 6 _ (w .1)))
+  pub check-length : checkedOf f ≡ BadLength → refusal m (request c t f o) ≡ 6
+  check-length e = let w = tested f BadLength e in behind 6 (passes 5 _ (w .0) (applies 6 _ (w .1)))
 
-    pub check-passes : badFunction (functionOf f) ≡ false → badLength (classOf (functionOf f)) f ≡ false → refusal m (request c t f o) ≡ 0
-    check-passes a b = behind 0 (passes 5 _ a (passes 6 [] b none-left))
+  pub check-passes : badFunction (functionOf f) ≡ false → badLength (classOf (functionOf f)) f ≡ false → refusal m (request c t f o) ≡ 0
+  check-passes a b = behind 0 (passes 5 _ a (passes 6 [] b none-left))
 
-    -- The time is not below the clock.
-    pub not-before : m .book .clock ≤ t
-    not-before = ltb-false t (m .book .clock) (or-right (ltb latestTime t) (ltb t (m .book .clock)) (p .timely))
+  -- The buffer takes every frame.
+  pub has-room : frameBuffer ≤ length o
+  has-room = ltb-false (length o) frameBuffer (p .roomy)
 
-    -- What the gate and the check have shown of a legal request.
-    pub admits : (a : Asked) → checkedOf f ≡ Legal a → Admitted c t f o a
-    unfolding misframed
-    admits a e =
-        let w = p .framed in
-        record {
-          numbered = leb-false clients c (or-left (leb clients c) (not (has (m .attached) c)) (p .known));
-          timed = ltb-false latestTime t (or-left (ltb latestTime t) (ltb t (m .book .clock)) (p .timely));
-          roomy = ltb-false (length o) frameBuffer (p .roomy);
-          least = ltb-false (length f) leastFrame (or-left (ltb (length f) leastFrame) _ w);
-          most = ltb-false mostFrame (length f) (or-left (ltb mostFrame (length f)) _ (or-right (ltb (length f) leastFrame) _ w));
-          legal = e;
-        }
+  -- The time is not below the clock.
+  pub not-before : m .book .clock ≤ t
+  not-before = ltb-false t (m .book .clock) (or-right (ltb latestTime t) (ltb t (m .book .clock)) (p .timely))
+
+  -- What the gate and the check have shown of a legal request.
+  pub admits : {a : Asked} → checkedOf f ≡ Legal a → Admitted c t f o a
+  unfolding misframed
+  admits e =
+      let w = p .framed in
+      record {
+        numbered = leb-false clients c (or-left (leb clients c) (not (has (m .attached) c)) (p .known));
+        timed = ltb-false latestTime t (or-left (ltb latestTime t) (ltb t (m .book .clock)) (p .timely));
+        roomy = has-room;
+        least = ltb-false (length f) leastFrame (or-left (ltb (length f) leastFrame) _ w);
+        most = ltb-false mostFrame (length f) (or-left (ltb mostFrame (length f)) _ (or-right (ltb (length f) leastFrame) _ w));
+        legal = e;
+      }

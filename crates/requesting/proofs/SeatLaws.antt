@@ -18,7 +18,7 @@ use Rattle.laws.proofs.SearchLaws.{best-in, best-some}
 use Rattle.laws.proofs.CircleLaws.{turn-low}
 use Rattle.wire.specs.Frame.{idOf}
 use Rattle.settings.specs.Grammar.{Value}
-use Rattle.pdu.specs.Requests.{askedOf, checkedOf}
+use Rattle.pdu.specs.Requests.{checkedOf}
 use Rattle.pdu.specs.Replies.{What}
 use Rattle.pdu.specs.Words.{wordOf, whatOf, Lawful, Proper}
 use Rattle.pdu.specs.declared.Asked.{Asked}
@@ -26,36 +26,36 @@ use Rattle.pdu.specs.declared.Asked.the-variants.{Read, SingleWrite, MultipleWr
 use Rattle.pdu.specs.declared.ProxyId.{ProxyId}
 use Rattle.pdu.specs.declared.Checked.the-variants.{Legal}
 use Rattle.pdu.proofs.RequestLaws.{RequestRoom, legal-room, legal-passed}
-use Rattle.pdu.proofs.WordLaws.{word-back, word-again}
+use Rattle.pdu.proofs.WordLaws.{word-back}
 use Rattle.rewrite.specs.Rewriting.{outcome as rewrote}
 use Rattle.rewrite.specs.Frames.{forwarded, under}
 use Rattle.rewrite.specs.Lent.{tagsOf, Sent}
 use Rattle.book.specs.Book.{entry}
-use Rattle.book.specs.Desk.{joinPlace, freePlace}
+use Rattle.book.specs.Desk.{freePlace}
 use Rattle.machine.specs.Machine.{Machine, rules}
 use Rattle.machine.specs.Calls.{done}
 use Rattle.machine.specs.Requests.{wanted, joins, joiningPlace, excepted, issuedTo, served}
 use Rattle.machine.specs.declared.Answer.{Answer}
 use Rattle.machine.specs.declared.Answer.the-variants.{Joined, Issued}
-use Rattle.table.specs.Columns.{Columns, party, tableOf, bookOf, Sound}
+use Rattle.table.specs.Columns.{Columns, party, tableOf, Sound}
 use Rattle.table.specs.Changes.{Joined as OneMore}
 use Rattle.table.specs.Places.{isFree, isOpen, isLower, freeIdFrom}
 use Rattle.table.proofs.FindLaws.{join-seat, free-place, free-id}
 use Rattle.table.proofs.EntryLaws.{held, live-at, withParties}
 use Rattle.table.proofs.ChangeLaws.{issue-is, join-is, join-sound}
 use Rattle.proxy.specs.State.{Kept, state, valueIn, machineOf}
-use Rattle.requesting.specs.Parts.{Came}
+use Rattle.requesting.specs.Parts.{Asks, Came}
 use Rattle.requesting.proofs.StepLaws.{was-joined, was-issued, was-full, issue-made}
 
 -- What a legal request asks may stand in a live entry, and comes back from its word.
-pub word-stands : (w : What) (n : ℕ) → (n ≡ wordOf w) × Proper w → Proper (whatOf n) × (wordOf (whatOf n) ≡ n)
-word-stands w n h = rw (h .0) (rw (word-back w (h .1)) (h .1, refl))
+pub word-stands : {f : List ℕ} {n : ℕ} → Asks f n → Proper (whatOf n) × (wordOf (whatOf n) ≡ n)
+word-stands {f} h = rw (h .same) (rw (word-back (wanted f) (h .proper)) (h .proper, refl))
 
 -- A request may join its like by its own settings and what it asks.
-pub may-join-own : (k : Kept) (f : List ℕ) (a : Asked) (joining : Bool) → checkedOf f ≡ Legal a
+pub may-join-own : (k : Kept) (f : List ℕ) {a : Asked} {joining : Bool} → checkedOf f ≡ Legal a
     → ((v : Value) (w : What) → v .join ≡ k .join → w .asked ≡ a → joining ≡ joins v w w) → joining ≡ joins (valueIn k) (wanted f) (wanted f)
 unfolding valueIn
-may-join-own k f a joining legal h = h (valueIn k) (wanted f) refl (sym (legal-passed f a legal .asks))
+may-join-own k f {a} legal h = h (valueIn k) (wanted f) refl (sym (legal-passed f a legal .asks))
 
 -- The registers that a legal request carries are in its frame.
 carried : (a : Asked) (f : List ℕ) → RequestRoom a f → Lawful a → Sent a f
@@ -65,97 +65,99 @@ carried (SingleWrite a) f r l = record { room = omega arith; low = omega arith }
 carried (MultipleWrite s q) f r l = record { room = omega arith; low = l .2 }
 carried Other f r l = tt
 
-pub carries : (f : List ℕ) (a : Asked) → checkedOf f ≡ Legal a → Proper (wanted f) → Sent a f
-carries f a legal p = carried a f (legal-room f a legal) (rw (legal-passed f a legal .asks) (p .lawful))
+pub carries : (f : List ℕ) {a : Asked} → checkedOf f ≡ Legal a → Proper (wanted f) → Sent a f
+carries f {a} legal p = carried a f (legal-room f a legal) (rw (legal-passed f a legal .asks) (p .lawful))
 
 -- A place that the scan for an open one found passes its test.
 found : (joining : Bool) (test : ℕ → Bool) (beats : ℕ → ℕ → Bool) (none n r : ℕ) → r ≡ cond joining (best test beats none n) none → r < none → test r ≡ true
 found true test beats none n r e l = ⊎-elim (λ z. absurd (omega arith)) (λ w. rw e (w .1)) (best-in test beats none n)
 found false test beats none n r e l = absurd (omega arith)
 
--- what the scan found for a request: the place that it joins, and the place that it would be issued into
-abbrev pub Scanned : Columns → Bool → (word t seat free : ℕ) → Type 0
-Scanned c joining word t seat free =
-    (seat ≡ cond joining (best (isOpen (c .ids) (c .asked) (c .deadlines) (c .counts) word t) (isLower (c .ids)) places (c .top)) places)
-    × (free ≡ best (isFree (c .ids)) (λ j k. false) places places)
-
 -- The lowest free place is free.
-pub free-here : (is : List ℕ) (place : ℕ) → place ≡ best (isFree is) (λ j k. false) places places → place < places → getD is place 0 ≡ 0
-free-here is place e l = eqb-true (getD is place 0) 0 (rw e (best-some (isFree is) (λ j k. false) places (rw e at l)))
+pub free-here : (is : List ℕ) {place : ℕ} → place ≡ best (isFree is) (λ j k. false) places places → place < places → getD is place 0 ≡ 0
+free-here is {place} e l = eqb-true (getD is place 0) 0 (rw e (best-some (isFree is) (λ j k. false) places (rw e at l)))
 
--- An open place is live, under an id, and has room for one more party.
-pub open-here : (c : Columns) (joining : Bool) (word t seat free : ℕ) → Scanned c joining word t seat free → seat < places
-    → (getD (c .ids) seat 0 ≡ 0 → ⊥) × (getD (c .counts) seat 0 < room)
-open-here c joining word t seat free h l =
-    let w = found joining (isOpen (c .ids) (c .asked) (c .deadlines) (c .counts) word t) (isLower (c .ids)) places (c .top) seat (h .0) l in
-    let same = eqb (getD (c .asked) seat 0) word in
-    let roomy = ltb (getD (c .counts) seat 0) room in
-    let later = ltb t (getD (c .deadlines) seat 0) in
-    let v = and-right (not (eqb (getD (c .ids) seat 0) 0)) (same && (roomy && later)) w in (
-      eqb-false (getD (c .ids) seat 0) 0 (not-true _ (and-left (not (eqb (getD (c .ids) seat 0) 0)) (same && (roomy && later)) w)),
-      ltb-true (getD (c .counts) seat 0) room (and-left roomy later (and-right same (roomy && later) v)),
-    )
+-- what is known of a legal request after the scan: the place that it joins, and the place that it would be issued into
+pub record Seated (k : Kept) (c : Columns) (t : ℕ) (f : List ℕ) (joining : Bool) (word seat free : ℕ) : Type 0 where
+  pub sound : Sound c
+  pub asks : Asks f word
+  pub may : joining ≡ joins (valueIn k) (wanted f) (wanted f)
+  pub scanned :
+      (seat ≡ cond joining (best (isOpen (c .ids) (c .asked) (c .deadlines) (c .counts) word t) (isLower (c .ids)) places (c .top)) places)
+      × (free ≡ best (isFree (c .ids)) (λ i j. false) places places)
 
-module _ (k : Kept) (c : Columns) (s : Sound c) (x t client : ℕ) (f o : List ℕ) (word : ℕ) (w : (word ≡ wordOf (wanted f)) × Proper (wanted f)) where
-  module _ (joining : Bool) (seat free : ℕ) (h : Scanned c joining word t seat free) (j : joining ≡ joins (valueIn k) (wanted f) (wanted f)) where
-    -- Both places are the machine's, whoever is attached.
-    pub open-seat : (a : ℕ) → seat ≡ joiningPlace (machineOf (state c x a t k)) f
-    open-seat a =
-        h .0
-        ∙ ap (λ (n : ℕ). cond joining (best (isOpen (c .ids) (c .asked) (c .deadlines) (c .counts) n t) (isLower (c .ids)) places (c .top)) places) (w .0)
-        ∙ join-seat (valueIn k) c x t s (wanted f) (w .1) joining j
+module _ {k : Kept} {c : Columns} {t : ℕ} {f : List ℕ} {joining : Bool} {word seat free : ℕ} (h : Seated k c t f joining word seat free) where
+  -- An open place is live, and has room for one more party.
+  pub open-here : seat < places → (getD (c .ids) seat 0 ≡ 0 → ⊥) × (getD (c .counts) seat 0 < room)
+  open-here l =
+      let live = not (eqb (getD (c .ids) seat 0) 0) in
+      let same = eqb (getD (c .asked) seat 0) word in
+      let roomy = ltb (getD (c .counts) seat 0) room in
+      let later = ltb t (getD (c .deadlines) seat 0) in
+      let w = found joining (isOpen (c .ids) (c .asked) (c .deadlines) (c .counts) word t) (isLower (c .ids)) places (c .top) seat (h .scanned .0) l in (
+        eqb-false (getD (c .ids) seat 0) 0 (not-true _ (and-left live (same && (roomy && later)) w)),
+        ltb-true (getD (c .counts) seat 0) room (and-left roomy later (and-right same (roomy && later) (and-right live (same && (roomy && later)) w))),
+      )
 
-    pub free-seat : (a : ℕ) → free ≡ freePlace rules (machineOf (state c x a t k) .book)
-    free-seat a = h .1 ∙ free-place (valueIn k) c x t s
+  -- Both places are the machine's, whatever its cursor is and whoever is attached.
+  open-seat : (x a : ℕ) → seat ≡ joiningPlace (machineOf (state c x a t k)) f
+  open-seat x a =
+      h .scanned .0
+      ∙ ap (λ (n : ℕ). cond joining (best (isOpen (c .ids) (c .asked) (c .deadlines) (c .counts) n t) (isLower (c .ids)) places (c .top)) places) (h .asks .same)
+      ∙ join-seat (valueIn k) c x t (h .sound) (wanted f) (h .asks .proper) joining (h .may)
 
-    -- One party more at the open place is the join.
-    pub joined-there : (ns cs os : List ℕ) (id : ProxyId) (original : ℕ) → seat < places → original ≡ idOf f
-        → OneMore seat (party client original) (c .counts) (c .clients) (c .originals) ns cs os → id .0 ≡ getD (c .ids) seat 0 - 1
-        → Came (Joined id) k t (withParties c ns cs os) x o (λ m. served m client f o) c x
-    joined-there ns cs os id original l eo more ei =
-        let live = live-at c seat l (open-here c joining word t seat free h l .0) in
-        let more′ : OneMore seat (party client (idOf f)) (c .counts) (c .clients) (c .originals) ns cs os = rw eo at more in
-        record {
-          outcome =
-              λ a.
-              rw (ei, join-is (valueIn k) x t c s seat (party client (idOf f)) ns cs os l more′ (held c seat) (wanted f) live)
-              (was-joined (machineOf (state c x a t k)) client f o seat (held c seat) (open-seat a) l live);
-          table = join-sound (valueIn k) x t c s seat (party client (idOf f)) ns cs os l more′;
-          cursor = λ q. q;
-        }
+  free-seat : (x a : ℕ) → free ≡ freePlace rules (machineOf (state c x a t k) .book)
+  free-seat x a = h .scanned .1 ∙ free-place (valueIn k) c x t (h .sound)
 
-    module _ (r : Answer) (o′ : List ℕ) (none : places ≤ seat) where
-      -- Where no place is open, what is issued into the free place is what the request comes to,
-      pub issued-next : (c′ : Columns) (x′ : ℕ) → free < places → Came r k t c′ x′ o′ (λ m. issuedTo m client f o) c x → Came r k t c′ x′ o′ (λ m. served m client f o) c x
-      issued-next c′ x′ l i = record {
-        outcome = λ a. was-issued (machineOf (state c x a t k)) client f o (rw (open-seat a) at none) _ (rw (free-seat a) at l) (i .outcome a);
-        table = i .table;
-        cursor = i .cursor;
-      }
-
-      -- and where no place is free either, exception 04.
-      pub full-there : places ≤ free → ((m : Machine) → done r m o′ [] ≡ excepted m deviceFailure f o) → Came r k t c x o′ (λ m. served m client f o) c x
-      full-there l e = record {
-        outcome = λ a. was-full (machineOf (state c x a t k)) client f o (rw (open-seat a) at none) _ (rw (free-seat a) at l) (e (machineOf (state c x a t k)));
-        table = s;
+  -- One party more at the open place is the join.
+  pub joined-there : {x client original : ℕ} {o ns cs os : List ℕ} (id : ProxyId) → seat < places → original ≡ idOf f
+      → OneMore seat (party client original) (c .counts) (c .clients) (c .originals) ns cs os → id .0 ≡ getD (c .ids) seat 0 - 1
+      → Came (Joined id) k t (withParties c ns cs os) x o (λ m. served m client f o) c x
+  joined-there {x} {client} {original} {o} {ns} {cs} {os} id l eo more ei =
+      let live = live-at c seat l (open-here l .0) in
+      let more′ : OneMore seat (party client (idOf f)) (c .counts) (c .clients) (c .originals) ns cs os = rw eo at more in
+      record {
+        outcome =
+            λ a.
+            rw (ei, join-is (valueIn k) x t c (h .sound) seat (party client (idOf f)) ns cs os l more′ (held c seat) (wanted f) live)
+            (was-joined (machineOf (state c x a t k)) client f o seat (held c seat) (open-seat x a) l live);
+        table = join-sound (valueIn k) x t c (h .sound) seat (party client (idOf f)) ns cs os l more′;
         cursor = λ q. q;
       }
 
-  -- A new entry at the lowest free place, the cursor behind its id, and the frame sent on are the issue.
-  pub issued-there : (c′ : Columns) (x′ place : ℕ) (id : ProxyId) (original p v : ℕ) (what : Asked) (o′ : List ℕ) → checkedOf f ≡ Legal what → Sound c′
-      → id .0 ≡ freeIdFrom (c .ids) (c .top) x → id .0 < ids → x′ ≡ turn ids (id .0 + 1) → original ≡ idOf f → place ≡ best (isFree (c .ids)) (λ i j. false) places places
-      → tableOf c′ ≡ set (tableOf c) place (some (entry (id .0) (whatOf word) client tt (t + k .timeout) (party client original ∷ [])))
-      → rewrote p v o′ ≡ under (id .0) o (forwarded (tagsOf (k .tagged) (k .tags)) what f)
-      → Came (Issued id (length f) p v) k t c′ x′ o′ (λ m. issuedTo m client f o) c x
-  unfolding valueIn
-  issued-there c′ x′ place id original p v what o′ legal sound ei li ex eo ep et sent =
-      let back : whatOf word ≡ wanted f = ap whatOf (w .0) ∙ word-back (wanted f) (w .1) in
-      record {
-        outcome =
-            λ a. rw ex
-            (issue-made (machineOf (state c x a t k)) client f o (id .0) place what p v o′ _ (ei ∙ free-id (valueIn k) c x t s) (ep ∙ free-place (valueIn k) c x t s)
-            (legal-passed f what legal .asks) sent
-            (issue-is (valueIn k) x t c s c′ place (id .0) word (t + k .timeout) client original et ∙ rw (back, eo)));
-        table = sound;
-        cursor = λ q. rw ex (turn-low ids (id .0 + 1) (omega arith));
-      }
+  module _ (client : ℕ) (o : List ℕ) {r : Answer} {x : ℕ} {o′ : List ℕ} (none : places ≤ seat) where
+    -- Where no place is open, what is issued into the free place is what the request comes to,
+    pub issued-next : {c′ : Columns} {x′ : ℕ} → free < places → Came r k t c′ x′ o′ (λ m. issuedTo m client f o) c x → Came r k t c′ x′ o′ (λ m. served m client f o) c x
+    issued-next l i = record {
+      outcome = λ a. was-issued (machineOf (state c x a t k)) client f o (rw (open-seat x a) at none) _ (rw (free-seat x a) at l) (i .outcome a);
+      table = i .table;
+      cursor = i .cursor;
+    }
+
+    -- and where no place is free either, exception 04.
+    pub full-there : places ≤ free → ((m : Machine) → done r m o′ [] ≡ excepted m deviceFailure f o) → Came r k t c x o′ (λ m. served m client f o) c x
+    full-there l e = record {
+      outcome = λ a. was-full (machineOf (state c x a t k)) client f o (rw (open-seat x a) at none) _ (rw (free-seat x a) at l) (e (machineOf (state c x a t k)));
+      table = h .sound;
+      cursor = λ q. q;
+    }
+
+-- A new entry at the lowest free place, the cursor behind its id, and the frame sent on are the issue.
+pub issued-there : (k : Kept) (c : Columns) (client : ℕ) (o : List ℕ) (id : ProxyId) {x t word place original x′ p v : ℕ} {f o′ : List ℕ} {c′ : Columns} {what : Asked}
+    → Sound c → Asks f word → checkedOf f ≡ Legal what → Sound c′
+    → id .0 ≡ freeIdFrom (c .ids) (c .top) x → id .0 < ids → x′ ≡ turn ids (id .0 + 1) → original ≡ idOf f → place ≡ best (isFree (c .ids)) (λ i j. false) places places
+    → tableOf c′ ≡ set (tableOf c) place (some (entry (id .0) (whatOf word) client tt (t + k .timeout) (party client original ∷ [])))
+    → rewrote p v o′ ≡ under (id .0) o (forwarded (tagsOf (k .tagged) (k .tags)) what f)
+    → Came (Issued id (length f) p v) k t c′ x′ o′ (λ m. issuedTo m client f o) c x
+unfolding valueIn
+issued-there k c client o id {x} {t} {word} {place} {original} {x′} {p} {v} {f} {o′} {c′} {what} s w legal sound ei li ex eo ep et sent =
+    let back : whatOf word ≡ wanted f = ap whatOf (w .same) ∙ word-back (wanted f) (w .proper) in
+    record {
+      outcome =
+          λ a. rw ex
+          (issue-made (machineOf (state c x a t k)) client f o (id .0) place what p v o′ _ (ei ∙ free-id (valueIn k) c x t s) (ep ∙ free-place (valueIn k) c x t s)
+          (legal-passed f what legal .asks) sent
+          (issue-is (valueIn k) x t c s c′ place (id .0) word (t + k .timeout) client original et ∙ rw (back, eo)));
+      table = sound;
+      cursor = λ q. rw ex (turn-low ids (id .0 + 1) (omega arith));
+    }

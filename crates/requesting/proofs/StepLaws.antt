@@ -1,23 +1,18 @@
 -- The ways in which a request ends, one law each, over the machine and plain values.
 -- Assumes nothing.
-use Prim.Native.Nat.{ℕ, _+_, _≤_, _<_, max}
+use Prim.Native.Nat.{ℕ, _+_, _≤_, _<_}
 use mathlib.Core.Path.{_≡_, refl, ap, sym, _∙_}
-use mathlib.Core.Bool.{Bool, true, false, not}
+use mathlib.Core.Bool.{false}
 use mathlib.Core.Option.{some}
 use mathlib.Core.List.{List, []}
 use native.Mathlib.Nat.{max-eq-right}
-use native.Mathlib.Omega.{arith}
 use lib.ListN.{length}
-use lib.Dec.{eqb, ltb}
 use borrow.Author.Tests.{eq-eqb, lt-ltb, le-ltb}
 use Rattle.laws.specs.Numbers.{places, deviceFailure}
-use Rattle.laws.specs.Bytes.{over}
-use Rattle.wire.specs.Frame.{idOf, unitOf, functionOf, laid, exception}
 use Rattle.pdu.specs.Requests.{askedOf, faultOf, checkedOf}
 use Rattle.pdu.specs.Replies.{What}
 use Rattle.pdu.specs.declared.Asked.{Asked}
-use Rattle.pdu.specs.declared.Checked.the-variants.{BadFunction, BadLength, Excepted as Faulty, Legal}
-use Rattle.pdu.proofs.RequestLaws.{Tested, check-tests}
+use Rattle.pdu.specs.declared.Checked.the-variants.{Excepted as Faulty, Legal}
 use Rattle.rewrite.specs.Rewriting.{Rewritten, outcome as rewrote}
 use Rattle.rewrite.specs.Frames.{forwarded, under}
 use Rattle.book.specs.Book.{Live, at, apply}
@@ -33,7 +28,7 @@ use Rattle.machine.specs.declared.Answer.the-variants.{Refused, Joined, Issued}
 use Rattle.machine.proofs.RefusalLaws.{refusal-changes-nothing}
 use Rattle.machine.proofs.OutcomeLaws.{granted-is}
 use Rattle.proxy.specs.State.{State, state, machineOf}
-use Rattle.requesting.proofs.GateLaws.{Open, check-passes, not-before}
+use Rattle.requesting.proofs.GateLaws.{Open, tested, check-passes, not-before}
 
 -- A refused request changes nothing.
 pub was-refused : (m : Machine) (c t : ℕ) (f o : List ℕ) (n : ℕ) → (n ≡ 0 → ⊥) → refusal m (request c t f o) ≡ n → done (Refused n) m o [] ≡ outcome m (request c t f o)
@@ -47,22 +42,20 @@ atTime s t = state (s .table) (s .cursor) (s .attached) t (s .settings)
 set-clock : (s : State) (t : ℕ) → s .clock ≤ t → clocked (machineOf s) t ≡ machineOf (atTime s t)
 set-clock s t h = ap (λ (n : ℕ). machineOf (atTime s n)) (max-eq-right h)
 
-module _ (s : State) (c t : ℕ) (f o : List ℕ) (p : Open (machineOf s) c t f o) where
+module _ (s : State) {c t : ℕ} {f o : List ℕ} (p : Open (machineOf s) c t f o) where
   -- A request with a fault sets the clock and gets the exception.
-  pub was-excepted : (code : ℕ) (d : Done) → checkedOf f ≡ Faulty code → d ≡ excepted (machineOf (atTime s t)) code f o → d ≡ outcome (machineOf s) (request c t f o)
+  pub was-excepted : {code : ℕ} {d : Done} → checkedOf f ≡ Faulty code → d ≡ excepted (machineOf (atTime s t)) code f o → d ≡ outcome (machineOf s) (request c t f o)
   unfolding granted accepted
-  was-excepted code d e q =
-      let w : Tested f (Faulty code) = rw e at (check-tests f) in
-      q ∙ sym (granted-is (machineOf s) (request c t f o) (check-passes (machineOf s) c t f o p (w .0) (w .1))
-      ∙ rw (w .3) (rw (w .2, set-clock s t (not-before (machineOf s) c t f o p)) refl))
+  was-excepted {code} e q =
+      let w = tested f (Faulty code) e in
+      q ∙ sym (granted-is (machineOf s) (request c t f o) (check-passes p (w .0) (w .1)) ∙ rw (w .3) (rw (w .2, set-clock s t (not-before p)) refl))
 
   -- A legal request sets the clock and is served.
-  pub was-served : (a : Asked) (d : Done) → checkedOf f ≡ Legal a → d ≡ served (machineOf (atTime s t)) c f o → d ≡ outcome (machineOf s) (request c t f o)
+  pub was-served : {a : Asked} {d : Done} → checkedOf f ≡ Legal a → d ≡ served (machineOf (atTime s t)) c f o → d ≡ outcome (machineOf s) (request c t f o)
   unfolding granted accepted
-  was-served a d e q =
-      let w : Tested f (Legal a) = rw e at (check-tests f) in
-      q ∙ sym (granted-is (machineOf s) (request c t f o) (check-passes (machineOf s) c t f o p (w .0) (w .1))
-      ∙ rw (eq-eqb (faultOf f) 0 (w .2)) (rw (set-clock s t (not-before (machineOf s) c t f o p)) refl))
+  was-served {a} e q =
+      let w = tested f (Legal a) e in
+      q ∙ sym (granted-is (machineOf s) (request c t f o) (check-passes p (w .0) (w .1)) ∙ rw (eq-eqb (faultOf f) 0 (w .2)) (rw (set-clock s t (not-before p)) refl))
 
 module _ (m : Machine) (c : ℕ) (f o : List ℕ) where
   -- A request that can join does, and no frame is written.

@@ -6,10 +6,12 @@ use mathlib.Core.List.{List, []}
 use lib.ListN.{length}
 use Rattle.laws.specs.Numbers.{ids, clients, latestTime, leastFrame, mostFrame, frameBuffer}
 use Rattle.pdu.specs.Requests.{checkedOf}
+use Rattle.pdu.specs.Words.{wordOf, Proper}
 use Rattle.pdu.specs.declared.Asked.{Asked}
 use Rattle.pdu.specs.declared.Checked.the-variants.{Legal}
 use Rattle.machine.specs.Machine.{Machine}
 use Rattle.machine.specs.Calls.{Done, done}
+use Rattle.machine.specs.Requests.{wanted}
 use Rattle.machine.specs.declared.Answer.{Answer}
 use Rattle.table.specs.Columns.{Columns, Sound}
 use Rattle.proxy.specs.State.{Kept, state, machineOf}
@@ -22,6 +24,11 @@ pub record Admitted (client time : ℕ) (f out : List ℕ) (a : Asked) : Type 0 
   pub least : leastFrame ≤ length f
   pub most : length f ≤ mostFrame
   pub legal : checkedOf f ≡ Legal a
+
+-- the word is that of what the request asks, and what it asks may stand in a live entry
+pub record Asks (f : List ℕ) (word : ℕ) : Type 0 where
+  pub same : word ≡ wordOf (wanted f)
+  pub proper : Proper (wanted f)
 
 -- the machine of such columns, with that cursor, at the time t under the settings k, came to what `step` says of the machine that it was, whoever is attached;
 -- and the columns are sound and the cursor an id

@@ -14,17 +14,17 @@ ghost use Rattle.laws.specs.Search.{best};
 ghost use Rattle.settings.specs.Grammar.{Value};
 ghost use Rattle.pdu.specs.Requests.{checkedOf};
 ghost use Rattle.pdu.specs.Replies.{What};
-ghost use Rattle.pdu.specs.Words.{wordOf, Proper};
+ghost use Rattle.rewrite.specs.Lent.{TagWords};
 ghost use Rattle.machine.specs.Machine.{Machine};
 ghost use Rattle.machine.specs.Calls.{done};
 ghost use Rattle.machine.specs.Calls.Call.{request as asks};
-ghost use Rattle.machine.specs.Requests.{wanted, joins, excepted, issuedTo, served};
+ghost use Rattle.machine.specs.Requests.{joins, excepted, issuedTo, served};
 ghost use Rattle.machine.specs.Outcomes.{outcome};
 ghost use Rattle.table.specs.Columns.{columns, Sound};
 ghost use Rattle.table.specs.Places.{isFree};
 ghost use Rattle.proxy.specs.State.{kept, state, machineOf, Settled, Sounds};
 ghost use Rattle.proxy.specs.Gates.{requestGate};
-ghost use Rattle.requesting.specs.Parts.{Admitted, Came};
+ghost use Rattle.requesting.specs.Parts.{Admitted, Asks, Came};
 
 // The byte at which a frame's unit stands.
 const UNIT_AT: usize = 6;
@@ -92,7 +92,7 @@ fn may_join(join: u32, what: Asked) -> bool
 // What a legal request asks, as one word.
 fn word_asked(frame: &[u8], what: Asked) -> u64
     requires { ⌜ (leastFrame ≤ length (now frame)) × (checkedOf (now frame) ≡ Checked.Legal what) ⌝ }
-    ensures { λ r. ⌜ (r ≡ wordOf (wanted (now (frame .entry)))) × Proper (wanted (now (frame .entry))) ⌝ }
+    ensures { λ r. ⌜ Asks (now (frame .entry)) r ⌝ }
 {
     let unit = frame[UNIT_AT];
     let function = frame[laws::HEADER_SIZE];
@@ -122,9 +122,9 @@ fn issue_request<'a>(
     place: usize,
 ) -> Answer
     requires { ⌜ Sound (columns (now ids) (now asked) (now notes) (now deadlines) (now counts) (now clients) (now originals) (now top)) ⌝ }
-    requires { ⌜ Settled (kept timeout 0 tagged (now tags)) ⌝ }
+    requires { ⌜ TagWords tagged (now tags) ⌝ }
     requires { ⌜ Admitted client time (now frame) (now out) what ⌝ }
-    requires { ⌜ (word ≡ wordOf (wanted (now frame))) × Proper (wanted (now frame)) ⌝ }
+    requires { ⌜ Asks (now frame) word ⌝ }
     requires { ⌜ (place ≡ best (isFree (now ids)) (λ j k. false) places places) × (place < places) ⌝ }
     ensures { λ r. ⌜ ((join : ℕ) → Came r (kept timeout join tagged (now (tags .entry))) time (columns (now (ids .exit)) (now (asked .exit)) (now (notes .exit)) (now (deadlines .exit)) (now (counts .exit)) (now (clients .exit)) (now (originals .exit)) (now (top .exit))) (now (cursor .exit)) (now (out .exit))
         (λ m. issuedTo m client (now (frame .entry)) (now (out .entry)))

@@ -1,3 +1,5 @@
+-- `requesting::except_caller` meets its contract: the exception frame has the caller's id, unit and function.
+-- Assumes nothing.
 use Rattle.machine.specs.Requests.{excepted}
 use borrow.Author.Needs.{needs}
 use Rattle.requesting.proofs.except_caller.Statement.{statement}
@@ -6,7 +8,8 @@ use Rattle.requesting.proofs.except_caller.Tie as tie
 returns : tie.Need-returns
 unfolding excepted
 returns c =
-    λ m. rw (c .before .before .except .ensures, c .before .before .before .before .before .before .original-of .ensures, c .before .before .before .before .before .byte-at .ensures, c .before .before .before .before .byte-at2 .ensures)
+    let written = c .before .before in
+    λ m. rw (written .except .ensures, written .before .before .before .before .original-of .ensures, written .before .before .before .byte-at .ensures, written .before .before .byte-at2 .ensures)
 
 pub except-caller-spec : {M : Type 1} → statement M
 except-caller-spec =

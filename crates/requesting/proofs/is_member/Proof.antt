@@ -1,3 +1,5 @@
+-- `requesting::is_member` meets its contract: a shift and a mask give the bit.
+-- Assumes nothing.
 use Prim.Native.Nat.{_/_, _^_}
 use lib.Bits.{and-mask}
 use borrow.Author.Needs.{needs}

@@ -1,3 +1,5 @@
+-- `requesting::may_join` meets its contract: a read by the setting, all else never.
+-- Assumes nothing.
 use mathlib.Core.Path.{sym, _∙_}
 use Rattle.laws.proofs.Choice.{never}
 use Rattle.machine.proofs.JoinLaws.{joins-read, joins-other}

@@ -1,63 +1,74 @@
+-- `requesting::serve` meets its contract: the open place is joined, else the free place issued into, else exception 04.
+-- Assumes nothing.
 use native.Mathlib.Omega.{arith}
 use denote.Ref.{now}
-use Rattle.table.specs.Columns.{columns}
+use Rattle.table.specs.Columns.{Columns, columns}
 use Rattle.table.proofs.EntryLaws.{runs-of}
-use Rattle.proxy.specs.State.{kept}
-use Rattle.requesting.proofs.SeatLaws.{may-join-own, open-here, joined-there, issued-next, full-there}
+use Rattle.proxy.specs.State.{Kept, kept}
+use Rattle.requesting.proofs.SeatLaws.{Seated, may-join-own, open-here, joined-there, issued-next, full-there}
 use borrow.Author.Needs.{needs}
 use Rattle.requesting.proofs.serve.Statement.{statement}
 use Rattle.requesting.proofs.serve.Tie as tie
 
+-- the columns and the settings as they came
+abbrev came : tie.Start → Columns
+came s =
+    columns (now (s .args .ids)) (now (s .args .asked)) (now (s .args .notes)) (now (s .args .deadlines)) (now (s .args .counts)) (now (s .args .clients))
+    (now (s .args .originals)) (now (s .args .top))
+
+abbrev settings : tie.Start → Kept
+settings s = kept (s .args .timeout) (s .args .join) (s .args .tagged) (now (s .args .tags))
+
+-- where the function began, from where the scan is done
+abbrev start : tie.After-find-seats → tie.Start
+start c = c .before .before .before .before .before .before .before .before .before .before
+
+-- what is known after the scan
+seated : (c : tie.After-find-seats) → Seated (settings (start c)) (came (start c)) (start c .args .time) (now (start c .args .frame)) (c .before .before .before .before .before .before .may-join .result) (c .before .before .before .before .before .before .before .word-asked .result) (c .find-seats .result .«open») (c .find-seats .result .free)
+seated c = record {
+  sound = start c .pre .0;
+  asks = c .before .before .before .before .before .before .before .word-asked .ensures;
+  may = may-join-own (settings (start c)) (now (start c .args .frame)) (start c .pre .1 .1 .legal) (c .before .before .before .before .before .before .may-join .ensures);
+  scanned = c .find-seats .ensures;
+}
+
 join-requires : tie.Need-join-requires
 join-requires c κs =
-    let s = c .before .before .before .before .before .before .before .before .before .before .before .before .before .before .before in
-    let a = s .args in
-    let m = columns (now (a .ids)) (now (a .asked)) (now (a .notes)) (now (a .deadlines)) (now (a .counts)) (now (a .clients)) (now (a .originals)) (now (a .top)) in
-    (runs-of m (s .pre .0), (c .before .before .before .before .if1 .taken, open-here m (c .before .before .before .before .before .before .before .before .before .before .before .may-join .result) (c .before .before .before .before .before .before .before .before .before .before .before .before .word-asked .result) (a .time) _ _ (c .before .before .before .before .before .find-seats .ensures) (c .before .before .before .before .if1 .taken) .1))
+    let low = c .before .before .before .before .if1 .taken in
+    let scan = c .before .before .before .before .before in
+    (runs-of (came (start scan)) (start scan .pre .0), (low, open-here (seated scan) low .1))
 
 id-at-requires : tie.Need-id-at-requires
 id-at-requires c κs =
-    let s = c .before .before .before .before .before .before .before .before .before .before .before .before .before .before .before .before .before in
-    let a = s .args in
-    let m = columns (now (a .ids)) (now (a .asked)) (now (a .notes)) (now (a .deadlines)) (now (a .counts)) (now (a .clients)) (now (a .originals)) (now (a .top)) in
-    let live = open-here m (c .before .before .before .before .before .before .before .before .before .before .before .before .before .may-join .result) (c .before .before .before .before .before .before .before .before .before .before .before .before .before .before .word-asked .result) (a .time) _ _ (c .before .before .before .before .before .before .before .find-seats .ensures) (c .before .before .before .before .before .before .if1 .taken) .0 in
-    (c .before .before .before .before .before .before .if1 .taken, omega (arith, live), s .pre .0 .low _)
+    let low = c .before .before .before .before .before .before .if1 .taken in
+    let scan = c .before .before .before .before .before .before .before in
+    (low, omega (arith, open-here (seated scan) low .0), start scan .pre .0 .low (scan .find-seats .result .«open»))
 
 returns : tie.Need-returns
 returns c =
-    let s = c .before .before .before .before .before .before .before .before .before .before .before .before .before .before .before .before .before .before in
-    let a = s .args in
-    let m = columns (now (a .ids)) (now (a .asked)) (now (a .notes)) (now (a .deadlines)) (now (a .counts)) (now (a .clients)) (now (a .originals)) (now (a .top)) in
-    let k = kept (a .timeout) (a .join) (a .tagged) (now (a .tags)) in
-    joined-there k m (s .pre .0) (now (a .cursor)) (a .time) (a .client) (now (a .frame)) (now (a .out)) (c .before .before .before .before .before .before .before .before .before .before .before .before .before .before .before .word-asked .result) (c .before .before .before .before .before .before .before .before .before .before .before .before .before .before .before .word-asked .ensures)
-    (c .before .before .before .before .before .before .before .before .before .before .before .before .before .before .may-join .result) (c .before .before .before .before .before .before .before .before .find-seats .result .«open») (c .before .before .before .before .before .before .before .before .find-seats .result .free) (c .before .before .before .before .before .before .before .before .find-seats .ensures) (may-join-own k (now (a .frame)) (a .what) (c .before .before .before .before .before .before .before .before .before .before .before .before .before .before .may-join .result) (s .pre .1 .1 .legal) (c .before .before .before .before .before .before .before .before .before .before .before .before .before .before .may-join .ensures))
-    _ _ _ (c .id-at .result) (c .before .before .before .before .before .before .original-of .result .0) (c .before .before .before .before .before .before .before .if1 .taken) (c .before .before .before .before .before .before .original-of .ensures) (c .before .before .join .ensures) (c .id-at .ensures)
+    let named = c .before .before .before .before .before .before in
+    joined-there (seated (c .before .before .before .before .before .before .before .before)) (c .id-at .result) (named .before .if1 .taken) (named .original-of .ensures) (c .before .before .join .ensures) (c .id-at .ensures)
 
 issue-request-requires : tie.Need-issue-request-requires
 issue-request-requires c κs =
-    let s = c .before .before .before .before .before .before .before .before .before .before .before .before .before .before .before .before .before .before .before .before .before .before in
+    let scan = c .before .before .before .before .before .before .before .before .before .before .before .before in
+    let s = start scan in
     let settled = s .pre .1 .0 in
-    (s .pre .0, (record { timeout = settled .timeout; few = settled .few; long = settled .long; ascending = settled .ascending }, (s .pre .1 .1, (c .before .before .before .before .before .before .before .before .before .before .before .before .before .before .before .before .before .before .before .word-asked .ensures, (c .before .before .before .before .before .before .before .before .before .before .before .before .find-seats .ensures .1, c .before .before .before .before .before .before .before .before .before .before .if2 .taken)))))
+    (s .pre .0, (record { places = settled .long; few = settled .few; ascending = settled .ascending }, (s .pre .1 .1, (scan .before .before .before .before .before .before .before .word-asked .ensures, (scan .find-seats .ensures .1, c .before .before .before .before .before .before .before .before .before .before .if2 .taken)))))
 
 returns-2 : tie.Need-returns-2
 returns-2 c =
-    let s = c .before .before .before .before .before .before .before .before .before .before .before .before .before .before .before .before .before .before .before .before .before .before .before .before .before in
-    let a = s .args in
-    let m = columns (now (a .ids)) (now (a .asked)) (now (a .notes)) (now (a .deadlines)) (now (a .counts)) (now (a .clients)) (now (a .originals)) (now (a .top)) in
-    let k = kept (a .timeout) (a .join) (a .tagged) (now (a .tags)) in
-    issued-next k m (s .pre .0) (now (a .cursor)) (a .time) (a .client) (now (a .frame)) (now (a .out)) (c .before .before .before .before .before .before .before .before .before .before .before .before .before .before .before .before .before .before .before .before .before .before .word-asked .result) (c .before .before .before .before .before .before .before .before .before .before .before .before .before .before .before .before .before .before .before .before .before .before .word-asked .ensures)
-    (c .before .before .before .before .before .before .before .before .before .before .before .before .before .before .before .before .before .before .before .before .before .may-join .result) (c .before .before .before .before .before .before .before .before .before .before .before .before .before .before .before .find-seats .result .«open») (c .before .before .before .before .before .before .before .before .before .before .before .before .before .before .before .find-seats .result .free) (c .before .before .before .before .before .before .before .before .before .before .before .before .before .before .before .find-seats .ensures) (may-join-own k (now (a .frame)) (a .what) (c .before .before .before .before .before .before .before .before .before .before .before .before .before .before .before .before .before .before .before .before .before .may-join .result) (s .pre .1 .1 .legal) (c .before .before .before .before .before .before .before .before .before .before .before .before .before .before .before .before .before .before .before .before .before .may-join .ensures))
-    (c .before .before .issue-request .result) _ (c .before .before .before .before .before .before .before .before .before .before .before .before .before .before .if1 .left) _ _ (c .before .before .before .before .before .before .before .before .before .before .before .before .before .if2 .taken) (c .before .before .issue-request .ensures (a .join))
+    let free = c .before .before .before .before .before .before .before .before .before .before .before .before .before in
+    let scan = free .before .before in
+    let s = start scan in
+    issued-next (seated scan) (s .args .client) (now (s .args .out)) (free .before .if1 .left) (free .if2 .taken) (c .before .before .issue-request .ensures (s .args .join))
 
 returns-3 : tie.Need-returns-3
 returns-3 c =
-    let s = c .before .before .before .before .before .before .before .before .before .before .before .before .before .before .before .before in
-    let a = s .args in
-    let m = columns (now (a .ids)) (now (a .asked)) (now (a .notes)) (now (a .deadlines)) (now (a .counts)) (now (a .clients)) (now (a .originals)) (now (a .top)) in
-    let k = kept (a .timeout) (a .join) (a .tagged) (now (a .tags)) in
-    full-there k m (s .pre .0) (now (a .cursor)) (a .time) (a .client) (now (a .frame)) (now (a .out)) (c .before .before .before .before .before .before .before .before .before .before .before .before .before .word-asked .result) (c .before .before .before .before .before .before .before .before .before .before .before .before .before .word-asked .ensures)
-    (c .before .before .before .before .before .before .before .before .before .before .before .before .may-join .result) (c .before .before .before .before .before .before .find-seats .result .«open») (c .before .before .before .before .before .before .find-seats .result .free) (c .before .before .before .before .before .before .find-seats .ensures) (may-join-own k (now (a .frame)) (a .what) (c .before .before .before .before .before .before .before .before .before .before .before .before .may-join .result) (s .pre .1 .1 .legal) (c .before .before .before .before .before .before .before .before .before .before .before .before .may-join .ensures))
-    (c .before .before .except-caller .result) _ (c .before .before .before .before .before .if1 .left) (c .before .before .before .before .if2 .left) (c .before .before .except-caller .ensures)
+    let none = c .before .before .before .before in
+    let scan = none .before .before in
+    let s = start scan in
+    full-there (seated scan) (s .args .client) (now (s .args .out)) (none .before .if1 .left) (none .if2 .left) (c .before .before .except-caller .ensures)
 
 pub serve-spec : {M : Type 1} → statement M
 serve-spec =
