@@ -98,6 +98,10 @@ pub granted-is : (m : Machine) (x : Call) → refusal m x ≡ 0 → outcome m x 
 unfolding outcome
 granted-is m x z = rw (eq-eqb (refusal m x) 0 z)
 
+-- a call that is refused with n comes to just that
+pub refused-is : (m : Machine) (x : Call) (n : ℕ) → refusal m x ≡ n → (n ≡ 0 → ⊥) → done (answer.Refused n) m (outOf x) (listOf x) ≡ outcome m x
+refused-is m x n e h = rw (← e) (sym (refusal-changes-nothing m x (λ z. h (sym e ∙ z))))
+
 -- A call says the refusal n exactly if row n of the table applies and no lower row does.
 pub says-refusal : (m : Machine) (x : Call) (n : ℕ) → (n ≡ 0 → ⊥) → (outcome m x .says ≡ answer.Refused n) ↔ (Applies (table m x) n × ((k : ℕ) → k < n → Applies (table m x) k → ⊥))
 unfolding outcome

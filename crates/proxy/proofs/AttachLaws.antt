@@ -26,18 +26,13 @@ use Rattle.machine.specs.Refusals.{rows, lowest, refusal, isStranger}
 use Rattle.machine.specs.Outcomes.{granted, outcome}
 use Rattle.machine.specs.declared.Answer.{Answer}
 use Rattle.machine.specs.declared.Answer.the-variants.{Refused, Done as Finished, Lost}
-use Rattle.machine.proofs.RefusalLaws.{refusal-changes-nothing}
-use Rattle.machine.proofs.OutcomeLaws.{granted-is}
+use Rattle.machine.proofs.OutcomeLaws.{granted-is, refused-is}
 use Rattle.table.specs.Columns.{Columns, columns, entryAt, tableOf, bookOf, Sound}
 use Rattle.table.specs.Changes.{Struck}
 use Rattle.table.proofs.EntryLaws.{withParties}
 use Rattle.table.proofs.ChangeLaws.{strike-is, strike-sound}
 use Rattle.proxy.specs.State.{State, state, machineOf, valueIn, Sounds}
 use Rattle.proxy.specs.Calls.{Does}
-
--- a call that is refused with n comes to just that
-refused : (m : Machine) (x : Call) (n : ℕ) → (n ≡ 0 → ⊥) → refusal m x ≡ n → done (Refused n) m (outOf x) (listOf x) ≡ outcome m x
-refused m x n h e = sym (rw e at (refusal-changes-nothing m x (λ z. h (sym e ∙ z))))
 
 -- who is no stranger has a client's number
 pub no-stranger : (set client : ℕ) → (leb clients client || not (has set client)) ≡ false → client < clients
@@ -47,12 +42,12 @@ module _ (b : Live-book) (set client : ℕ) where
   -- Attach above the last client is refusal 2.
   pub attach-above : clients ≤ client → done (Refused 2) (machine b set) [] [] ≡ outcome (machine b set) (attach client)
   unfolding rows lowest outOf listOf
-  attach-above h = refused (machine b set) (attach client) 2 (λ z. omega arith) (rw (le-leb clients client h))
+  attach-above h = refused-is (machine b set) (attach client) 2 (rw (le-leb clients client h)) (λ z. omega arith)
 
   -- Attach of an attached client is refusal 9.
   pub attach-again : client < clients → has set client ≡ true → done (Refused 9) (machine b set) [] [] ≡ outcome (machine b set) (attach client)
   unfolding rows lowest outOf listOf
-  attach-again h t = refused (machine b set) (attach client) 9 (λ z. omega arith) (rw (lt-leb clients client h) (rw t refl))
+  attach-again h t = refused-is (machine b set) (attach client) 9 (rw (lt-leb clients client h) (rw t refl)) (λ z. omega arith)
 
   -- Attach of another puts it into the set.
   pub attach-new : client < clients → has set client ≡ false → done Finished (machine b (with set client)) [] [] ≡ outcome (machine b set) (attach client)
@@ -87,7 +82,7 @@ module _ (s : State) (sounds : Sounds s) where
   -- Detach of a stranger is refusal 2.
   pub detach-stranger : (client : ℕ) → isStranger (machineOf s) client ≡ true → Does s (detach client) (Refused 2) s
   unfolding rows lowest outOf listOf
-  detach-stranger client t = (refused (machineOf s) (detach client) 2 (λ z. omega arith) (rw t), sounds)
+  detach-stranger client t = (refused-is (machineOf s) (detach client) 2 (rw t) (λ z. omega arith), sounds)
 
   -- Detach of an attached client strikes its parties out and takes it out of the set.
   pub detach-known : (client : ℕ) (ns cs os : List ℕ) → isStranger (machineOf s) client ≡ false

@@ -1,2 +1,3 @@
+pub mod StateLaws
 pub mod AttachLaws
 pub mod MakingLaws

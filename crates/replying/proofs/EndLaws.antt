@@ -6,7 +6,6 @@ use mathlib.Core.Logic.{⊎-elim}
 use mathlib.Core.Bool.{Bool, true, false}
 use mathlib.Core.List.{List}
 use native.Mathlib.Omega.{arith}
-use native.Mathlib.Nat.{max-eq-right}
 use lib.ListN.{getD, set}
 use borrow.Author.Tests.{eqb-true, eqb-false, not-true}
 use Rattle.laws.specs.Numbers.{ids, places, room, listBuffer}
@@ -15,40 +14,25 @@ use Rattle.laws.proofs.Choice.{and-left}
 use Rattle.laws.proofs.SearchLaws.{best-in}
 use Rattle.pdu.specs.Words.{whatOf, Proper}
 use Rattle.pdu.specs.declared.ProxyId.{ProxyId}
-use Rattle.rewrite.specs.Lent.{TagWords}
 use Rattle.book.specs.Book.Move.{reply}
-use Rattle.machine.specs.Machine.{machine, clocked, moved}
+use Rattle.machine.specs.Machine.{machine, moved}
 use Rattle.table.specs.Columns.{Columns, columns, Sound}
 use Rattle.table.specs.Places.{holds, isDue, isSooner}
 use Rattle.table.specs.Changes.{reach}
 use Rattle.table.proofs.EntryLaws.{held}
 use Rattle.table.proofs.ChangeLaws.{remove-is-reply, remove-sound}
-use Rattle.proxy.specs.State.{Kept, State, state, valueIn, machineOf, Settled, Sounds}
+use Rattle.proxy.specs.State.{State, state, valueIn, machineOf, Sounds}
+use Rattle.proxy.proofs.StateLaws.{timed}
 
 -- the proxy id of that number
 abbrev pub named : ℕ → ProxyId
 named n = record { 0 = n }
 
--- the state at another time; and with other ids and another top at another time
-abbrev pub timed : State → ℕ → State
-timed s t = state (s .table) (s .cursor) (s .attached) t (s .settings)
-
+-- the state with other ids and another top, at another time
 abbrev pub ended : State → List ℕ → ℕ → ℕ → State
 ended s is top t =
     state (columns is (s .table .asked) (s .table .notes) (s .table .deadlines) (s .table .counts) (s .table .clients) (s .table .originals) top) (s .cursor) (s .attached) t
     (s .settings)
-
--- The machine at a later time is that of the state at that time.
-pub clock-is : (s : State) (t : ℕ) → s .clock ≤ t → clocked (machineOf s) t ≡ machineOf (timed s t)
-clock-is s t h = rw (max-eq-right h)
-
--- Another time keeps the state sound.
-pub timed-sound : (s : State) (t : ℕ) → Sounds s → Sounds (timed s t)
-timed-sound s t d = record { table = d .table; cursor = d .cursor; attached = d .attached; settings = d .settings }
-
--- the settings in the state as the rewriter asks for them
-pub tag-words : (k : Kept) → Settled k → TagWords (k .tagged) (k .tags)
-tag-words k d = record { places = d .long; few = d .few; ascending = d .ascending }
 
 -- a live place
 pub record Living (c : Columns) (k : ℕ) : Type 0 where

@@ -14,18 +14,10 @@ use Rattle.laws.proofs.Choice.{true-or, or-left, or-right, past}
 use Rattle.wire.specs.Frame.{misframed}
 use Rattle.wire.proofs.FrameLaws.{Framed, framed}
 use Rattle.machine.specs.Machine.{Machine}
-use Rattle.machine.specs.Calls.{Call, done, outOf, listOf}
 use Rattle.machine.specs.Calls.Call.{reply, tick}
 use Rattle.machine.specs.Refusals.{Row, row, rows, lowest, refusal, isDead, isMismatched, entryFor}
-use Rattle.machine.specs.Outcomes.{outcome}
-use Rattle.machine.specs.declared.Answer.the-variants.{Refused}
-use Rattle.machine.proofs.RefusalLaws.{refusal-changes-nothing}
 use Rattle.machine.proofs.OutcomeLaws.{none-applies}
 use Rattle.proxy.specs.Gates.{replyGate, tickGate}
-
--- A refusal other than 0 is the whole outcome.
-pub refused-is : (m : Machine) (x : Call) (n : ℕ) → refusal m x ≡ n → (n ≡ 0 → ⊥) → done (Refused n) m (outOf x) (listOf x) ≡ outcome m x
-refused-is m x n e h = rw (← e) (sym (refusal-changes-nothing m x (λ z. h (sym e ∙ z))))
 
 -- the lowest refusal of a list, and of what stands behind it where none of it applies
 abbrev Splits : List Row → Type 0

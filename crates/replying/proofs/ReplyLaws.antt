@@ -25,7 +25,7 @@ use Rattle.machine.specs.Refusals.{refusal, entryFor}
 use Rattle.machine.specs.Replies.{pairs, answeredTo, answered}
 use Rattle.machine.specs.Outcomes.{granted, outcome}
 use Rattle.machine.specs.declared.Answer.the-variants.{Refused, Answered}
-use Rattle.machine.proofs.OutcomeLaws.{granted-is}
+use Rattle.machine.proofs.OutcomeLaws.{granted-is, refused-is}
 use Rattle.table.specs.Places.{holds}
 use Rattle.table.specs.Changes.{reach}
 use Rattle.table.proofs.ViewLaws.{at-beyond}
@@ -33,8 +33,9 @@ use Rattle.table.proofs.EntryLaws.{held, live-at}
 use Rattle.table.proofs.FindLaws.{find-place}
 use Rattle.proxy.specs.State.{State, valueIn, machineOf, Sounds}
 use Rattle.proxy.specs.Gates.{replyGate}
-use Rattle.replying.proofs.GateLaws.{refused-is, reply-gate, reply-behind, reply-timely}
-use Rattle.replying.proofs.EndLaws.{named, timed, ended, clock-is, Living, holder-lives, ended-is}
+use Rattle.proxy.proofs.StateLaws.{timed, clock-is}
+use Rattle.replying.proofs.GateLaws.{reply-gate, reply-behind, reply-timely}
+use Rattle.replying.proofs.EndLaws.{named, ended, Living, holder-lives, ended-is}
 
 -- what is said and written, by its parts
 abbrev sent : ProxyId → (size parties : ℕ) → Machine → List ℕ → Rewritten → Done

@@ -20,7 +20,7 @@ use Rattle.machine.specs.Calls.Call.{tick}
 use Rattle.machine.specs.Replies.{pairs, expiredTo, ticked}
 use Rattle.machine.specs.Outcomes.{granted, outcome}
 use Rattle.machine.specs.declared.Answer.the-variants.{Refused, TimedOut, NothingDue}
-use Rattle.machine.proofs.OutcomeLaws.{granted-is}
+use Rattle.machine.proofs.OutcomeLaws.{granted-is, refused-is}
 use Rattle.table.specs.Places.{isDue, isSooner}
 use Rattle.table.specs.Changes.{reach}
 use Rattle.table.proofs.ViewLaws.{at-beyond}
@@ -28,8 +28,9 @@ use Rattle.table.proofs.EntryLaws.{held, live-at}
 use Rattle.table.proofs.FindLaws.{due-place}
 use Rattle.proxy.specs.State.{State, valueIn, machineOf, Sounds}
 use Rattle.proxy.specs.Gates.{tickGate}
-use Rattle.replying.proofs.GateLaws.{refused-is, tick-gate, tick-timely}
-use Rattle.replying.proofs.EndLaws.{named, timed, ended, clock-is, Living, due-lives, ended-is}
+use Rattle.proxy.proofs.StateLaws.{timed, clock-is}
+use Rattle.replying.proofs.GateLaws.{tick-gate, tick-timely}
+use Rattle.replying.proofs.EndLaws.{named, ended, Living, due-lives, ended-is}
 
 -- what is said and written, by its parts
 told : {id : ProxyId} {j n n′ : ℕ} {o′ o″ l′ l″ : List ℕ} {a a′ : Machine} → id .0 ≡ j → n ≡ n′ → a ≡ a′ → o′ ≡ o″ → l′ ≡ l″

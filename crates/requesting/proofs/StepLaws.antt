@@ -5,7 +5,6 @@ use mathlib.Core.Path.{_≡_, refl, ap, sym, _∙_}
 use mathlib.Core.Bool.{false}
 use mathlib.Core.Option.{some}
 use mathlib.Core.List.{List, []}
-use native.Mathlib.Nat.{max-eq-right}
 use lib.ListN.{length}
 use borrow.Author.Tests.{eq-eqb, lt-ltb, le-ltb}
 use Rattle.laws.specs.Numbers.{places, deviceFailure}
@@ -25,37 +24,30 @@ use Rattle.machine.specs.Refusals.{refusal}
 use Rattle.machine.specs.Requests.{wanted, partyOf, joiningPlace, canJoin, exhausted, excepted, joinedTo, issuedTo, served, accepted}
 use Rattle.machine.specs.Outcomes.{granted, outcome}
 use Rattle.machine.specs.declared.Answer.the-variants.{Refused, Joined, Issued}
-use Rattle.machine.proofs.RefusalLaws.{refusal-changes-nothing}
-use Rattle.machine.proofs.OutcomeLaws.{granted-is}
+use Rattle.machine.proofs.OutcomeLaws.{granted-is, refused-is}
 use Rattle.proxy.specs.State.{State, state, machineOf}
+use Rattle.proxy.proofs.StateLaws.{timed, clock-is}
 use Rattle.requesting.proofs.GateLaws.{Open, tested, check-passes, not-before}
 
 -- A refused request changes nothing.
 pub was-refused : (m : Machine) (c t : ℕ) (f o : List ℕ) (n : ℕ) → (n ≡ 0 → ⊥) → refusal m (request c t f o) ≡ n → done (Refused n) m o [] ≡ outcome m (request c t f o)
 unfolding outOf listOf
-was-refused m c t f o n h e = ap (λ (k : ℕ). done (Refused k) m o []) (sym e) ∙ sym (refusal-changes-nothing m (request c t f o) (λ z. h (sym e ∙ z)))
-
--- the state whose clock is set
-abbrev pub atTime : State → ℕ → State
-atTime s t = state (s .table) (s .cursor) (s .attached) t (s .settings)
-
-set-clock : (s : State) (t : ℕ) → s .clock ≤ t → clocked (machineOf s) t ≡ machineOf (atTime s t)
-set-clock s t h = ap (λ (n : ℕ). machineOf (atTime s n)) (max-eq-right h)
+was-refused m c t f o n h e = refused-is m (request c t f o) n e h
 
 module _ (s : State) {c t : ℕ} {f o : List ℕ} (p : Open (machineOf s) c t f o) where
   -- A request with a fault sets the clock and gets the exception.
-  pub was-excepted : {code : ℕ} {d : Done} → checkedOf f ≡ Faulty code → d ≡ excepted (machineOf (atTime s t)) code f o → d ≡ outcome (machineOf s) (request c t f o)
+  pub was-excepted : {code : ℕ} {d : Done} → checkedOf f ≡ Faulty code → d ≡ excepted (machineOf (timed s t)) code f o → d ≡ outcome (machineOf s) (request c t f o)
   unfolding granted accepted
   was-excepted {code} e q =
       let w = tested f (Faulty code) e in
-      q ∙ sym (granted-is (machineOf s) (request c t f o) (check-passes p (w .0) (w .1)) ∙ rw (w .3) (rw (w .2, set-clock s t (not-before p)) refl))
+      q ∙ sym (granted-is (machineOf s) (request c t f o) (check-passes p (w .0) (w .1)) ∙ rw (w .3) (rw (w .2, clock-is s t (not-before p)) refl))
 
   -- A legal request sets the clock and is served.
-  pub was-served : {a : Asked} {d : Done} → checkedOf f ≡ Legal a → d ≡ served (machineOf (atTime s t)) c f o → d ≡ outcome (machineOf s) (request c t f o)
+  pub was-served : {a : Asked} {d : Done} → checkedOf f ≡ Legal a → d ≡ served (machineOf (timed s t)) c f o → d ≡ outcome (machineOf s) (request c t f o)
   unfolding granted accepted
   was-served {a} e q =
       let w = tested f (Legal a) e in
-      q ∙ sym (granted-is (machineOf s) (request c t f o) (check-passes p (w .0) (w .1)) ∙ rw (eq-eqb (faultOf f) 0 (w .2)) (rw (set-clock s t (not-before p)) refl))
+      q ∙ sym (granted-is (machineOf s) (request c t f o) (check-passes p (w .0) (w .1)) ∙ rw (eq-eqb (faultOf f) 0 (w .2)) (rw (clock-is s t (not-before p)) refl))
 
 module _ (m : Machine) (c : ℕ) (f o : List ℕ) where
   -- A request that can join does, and no frame is written.

@@ -8,8 +8,7 @@ ghost use mathlib.Core.Bool.{false};
 ghost use mathlib.Core.List.{[]};
 ghost use Prim.Native.Nat.{ℕ, _≤_, _<_};
 ghost use lib.ListN.{length};
-ghost use Rattle.laws.specs.Numbers.{clients as clientCount, places, exceptionFrame, leastFrame};
-ghost use Rattle.laws.specs.Bits.{has};
+ghost use Rattle.laws.specs.Numbers.{places, exceptionFrame, leastFrame};
 ghost use Rattle.laws.specs.Search.{best};
 ghost use Rattle.settings.specs.Grammar.{Value};
 ghost use Rattle.pdu.specs.Requests.{checkedOf};
@@ -29,14 +28,6 @@ ghost use Rattle.requesting.specs.Parts.{Admitted, Asks, Came};
 // The byte at which a frame's unit stands.
 const UNIT_AT: usize = 6;
 
-// Whether a client is in a set.
-fn is_member(set: u32, client: u32) -> bool
-    requires { ⌜ client < clientCount ⌝ }
-    ensures { λ r. ⌜ r ≡ has set client ⌝ }
-{
-    (set >> client) & 1 == 1
-}
-
 // The refusals 1 to 4, the lowest that applies; 0 where none does.
 fn gate(out: usize, client: u32, attached: u32, time: u64, clock: u64, frame: &[u8]) -> u32
     ensures { λ r. ⌜ r ≡ requestGate out client attached time clock (now (frame .entry)) ⌝ }
@@ -47,7 +38,7 @@ fn gate(out: usize, client: u32, attached: u32, time: u64, clock: u64, frame: &[
     if laws::CLIENTS <= client {
         return 2;
     }
-    if !is_member(attached, client) {
+    if !proxy::attaching::is_member(attached, client) {
         return 2;
     }
     if (laws::LATEST_TIME < time) | (time < clock) {

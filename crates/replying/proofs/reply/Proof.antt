@@ -17,7 +17,8 @@ use Rattle.table.proofs.EntryLaws.{held}
 use Rattle.proxy.specs.State.{State, state, kept, machineOf}
 use Rattle.proxy.specs.Gates.{replyGate}
 use Rattle.replying.proofs.GateLaws.{Timely, reply-timely}
-use Rattle.replying.proofs.EndLaws.{Living, has-id, may-end, asks-proper, tag-words, ended-sound}
+use Rattle.proxy.proofs.StateLaws.{tag-words}
+use Rattle.replying.proofs.EndLaws.{Living, has-id, may-end, asks-proper, ended-sound}
 use Rattle.replying.proofs.ReplyLaws.{was-refused, was-unknown, living, was-mismatched, was-answered}
 use borrow.Author.Needs.{needs}
 use Rattle.replying.proofs.reply.Statement.{statement}

@@ -8,7 +8,8 @@ use Rattle.table.specs.Columns.{columns}
 use Rattle.proxy.specs.State.{State, state, kept, machineOf}
 use Rattle.proxy.specs.Gates.{tickGate}
 use Rattle.replying.proofs.GateLaws.{Timely, tick-timely}
-use Rattle.replying.proofs.EndLaws.{Living, has-id, may-end, timed-sound, ended-sound}
+use Rattle.proxy.proofs.StateLaws.{timed-sound}
+use Rattle.replying.proofs.EndLaws.{Living, has-id, may-end, ended-sound}
 use Rattle.replying.proofs.TickLaws.{was-refused, nothing-due, living, was-timed-out}
 use borrow.Author.Needs.{needs}
 use Rattle.replying.proofs.tick.Statement.{statement}

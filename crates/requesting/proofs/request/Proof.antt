@@ -6,7 +6,8 @@ use denote.Ref.{now}
 use Rattle.table.specs.Columns.{columns}
 use Rattle.proxy.specs.State.{State, kept, state, machineOf}
 use Rattle.requesting.proofs.GateLaws.{Open, gate-refuses, gate-opens, check-function, check-length, has-room, admits}
-use Rattle.requesting.proofs.StepLaws.{atTime, was-refused, was-excepted, was-served}
+use Rattle.proxy.proofs.StateLaws.{timed}
+use Rattle.requesting.proofs.StepLaws.{was-refused, was-excepted, was-served}
 use borrow.Author.Needs.{needs}
 use Rattle.requesting.proofs.request.Statement.{statement}
 use Rattle.requesting.proofs.request.Tie as tie
@@ -66,7 +67,7 @@ returns-4 c =
     let checked = c .before .before .before .before .before .before .before in
     let gated = checked .before in
     let s = start gated in (
-      was-excepted (came s) (opened gated) (sym (checked .check-request .ensures) ∙ c .before .before .before .before .before .code .given .1) (c .before .before .except-caller .ensures (machineOf (atTime (came s) (s .args .time)))),
+      was-excepted (came s) (opened gated) (sym (checked .check-request .ensures) ∙ c .before .before .before .before .before .code .given .1) (c .before .before .except-caller .ensures (machineOf (timed (came s) (s .args .time)))),
       record { table = s .pre .table; cursor = s .pre .cursor; attached = s .pre .attached; settings = s .pre .settings },
     )
 

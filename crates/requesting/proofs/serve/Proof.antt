@@ -5,6 +5,7 @@ use denote.Ref.{now}
 use Rattle.table.specs.Columns.{Columns, columns}
 use Rattle.table.proofs.EntryLaws.{runs-of}
 use Rattle.proxy.specs.State.{Kept, kept}
+use Rattle.proxy.proofs.StateLaws.{tag-words}
 use Rattle.requesting.proofs.SeatLaws.{Seated, may-join-own, open-here, joined-there, issued-next, full-there}
 use borrow.Author.Needs.{needs}
 use Rattle.requesting.proofs.serve.Statement.{statement}
@@ -53,8 +54,7 @@ issue-request-requires : tie.Need-issue-request-requires
 issue-request-requires c κs =
     let scan = c .before .before .before .before .before .before .before .before .before .before .before .before in
     let s = start scan in
-    let settled = s .pre .1 .0 in
-    (s .pre .0, (record { places = settled .long; few = settled .few; ascending = settled .ascending }, (s .pre .1 .1, (scan .before .before .before .before .before .before .before .word-asked .ensures, (scan .find-seats .ensures .1, c .before .before .before .before .before .before .before .before .before .before .if2 .taken)))))
+    (s .pre .0, (tag-words (settings s) (s .pre .1 .0), (s .pre .1 .1, (scan .before .before .before .before .before .before .before .word-asked .ensures, (scan .find-seats .ensures .1, c .before .before .before .before .before .before .before .before .before .before .if2 .taken)))))
 
 returns-2 : tie.Need-returns-2
 returns-2 c =
