@@ -1,0 +1,23 @@
+-- `texts::making::append` meets its contract. The loop's invariant: the buffer keeps its length.
+-- Assumes nothing.
+use Prim.Native.Nat.{_-_}
+use mathlib.Core.Path.{_≡_, refl}
+use lib.ListN.{length}
+use borrow.Author.Needs.{needs}
+use Rattle.texts.proofs.making.append.Statement.{statement}
+use Rattle.texts.proofs.making.append.Tie as tie
+
+abbrev Inv-loop : tie.InvT-loop
+Inv-loop text₀ at bytes next₀ k₀ text next k = length text ≡ length text₀
+
+abbrev μ-loop : tie.MeasureT-loop
+μ-loop text₀ at bytes next₀ k₀ text next k = length bytes - k
+
+loop-holds : tie.Need-loop-holds Inv-loop μ-loop
+loop-holds c = refl
+
+pub append-spec : {M : Type 1} → statement M
+append-spec =
+    tie.close
+    (tie.spec Inv-loop μ-loop loop-holds (λ c. search needs) (λ c. search needs) (λ c. search needs) (λ c. search needs)
+    (λ c. search needs) (λ c. search needs) (λ c. search needs) (λ c. search needs) (λ c. search needs) (λ c. search needs))
