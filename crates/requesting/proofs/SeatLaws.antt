@@ -110,18 +110,17 @@ module _ {k : Kept} {c : Columns} {t : ℕ} {f : List ℕ} {joining : Bool} {wor
   free-seat x a = h .scanned .1 ∙ free-place (valueIn k) c x t (h .sound)
 
   -- One party more at the open place is the join.
-  pub joined-there : {x client original : ℕ} {o ns cs os : List ℕ} (id : ProxyId) → seat < places → original ≡ idOf f
-      → OneMore seat (party client original) (c .counts) (c .clients) (c .originals) ns cs os → id .0 ≡ getD (c .ids) seat 0 - 1
-      → Came (Joined id) k t (withParties c ns cs os) x o (λ m. served m client f o) c x
-  joined-there {x} {client} {original} {o} {ns} {cs} {os} id l eo more ei =
+  pub joined-there : {r : Answer} {x client : ℕ} {o ns cs os : List ℕ} → seat < places
+      → (r ≡ Joined (record { 0 = getD (c .ids) seat 0 - 1 })) × OneMore seat (party client (idOf f)) (c .counts) (c .clients) (c .originals) ns cs os
+      → Came r k t (withParties c ns cs os) x o (λ m. served m client f o) c x
+  joined-there {x = x} {client = client} {o = o} {ns = ns} {cs = cs} {os = os} l w =
       let live = live-at c seat l (open-here l .0) in
-      let more′ : OneMore seat (party client (idOf f)) (c .counts) (c .clients) (c .originals) ns cs os = rw eo at more in
       record {
         outcome =
             λ a.
-            rw (ei, join-is (valueIn k) x t c (h .sound) seat (party client (idOf f)) ns cs os l more′ (held c seat) (wanted f) live)
+            rw (w .0, join-is (valueIn k) x t c (h .sound) seat (party client (idOf f)) ns cs os l (w .1) (held c seat) (wanted f) live)
             (was-joined (machineOf (state c x a t k)) client f o seat (held c seat) (open-seat x a) l live);
-        table = join-sound (valueIn k) x t c (h .sound) seat (party client (idOf f)) ns cs os l more′;
+        table = join-sound (valueIn k) x t c (h .sound) seat (party client (idOf f)) ns cs os l (w .1);
         cursor = λ q. q;
       }
 

@@ -8,6 +8,8 @@ use mathlib.Core.List.{List, []}
 use lib.ListN.{length}
 use borrow.Author.Tests.{eq-eqb, lt-ltb, le-ltb}
 use Rattle.laws.specs.Numbers.{places, deviceFailure}
+use Rattle.laws.specs.Bytes.{over}
+use Rattle.wire.specs.Frame.{idOf, unitOf, functionOf, exception}
 use Rattle.pdu.specs.Requests.{askedOf, faultOf, checkedOf}
 use Rattle.pdu.specs.Replies.{What}
 use Rattle.pdu.specs.declared.Asked.{Asked}
@@ -23,7 +25,7 @@ use Rattle.machine.specs.Calls.Call.{request}
 use Rattle.machine.specs.Refusals.{refusal}
 use Rattle.machine.specs.Requests.{wanted, partyOf, joiningPlace, canJoin, exhausted, excepted, joinedTo, issuedTo, served, accepted}
 use Rattle.machine.specs.Outcomes.{granted, outcome}
-use Rattle.machine.specs.declared.Answer.the-variants.{Refused, Joined, Issued}
+use Rattle.machine.specs.declared.Answer.the-variants.{Refused, Joined, Excepted, Issued}
 use Rattle.machine.proofs.OutcomeLaws.{granted-is, refused-is}
 use Rattle.proxy.specs.State.{State, state, machineOf}
 use Rattle.proxy.proofs.StateLaws.{timed, clock-is}
@@ -33,6 +35,12 @@ use Rattle.requesting.proofs.GateLaws.{Open, tested, check-passes, not-
 pub was-refused : (m : Machine) (c t : ℕ) (f o : List ℕ) (n : ℕ) → (n ≡ 0 → ⊥) → refusal m (request c t f o) ≡ n → done (Refused n) m o [] ≡ outcome m (request c t f o)
 unfolding outOf listOf
 was-refused m c t f o n h e = refused-is m (request c t f o) n e h
+
+-- An exception written with the caller's id, unit and function is the caller's.
+pub exception-made : (m : Machine) (f o : List ℕ) (id unit function code : ℕ) (o′ : List ℕ) → id ≡ idOf f → unit ≡ unitOf f → function ≡ functionOf f
+    → o′ ≡ over (exception id unit function code) o → done (Excepted code) m o′ [] ≡ excepted m code f o
+unfolding excepted
+exception-made m f o id unit function code o′ ei eu ef e = rw (e, ei, eu, ef)
 
 module _ (s : State) {c t : ℕ} {f o : List ℕ} (p : Open (machineOf s) c t f o) where
   -- A request with a fault sets the clock and gets the exception.

@@ -6,10 +6,11 @@ use pdu::ProxyId;
 ghost use mathlib.Core.Path.{_≡_};
 ghost use mathlib.Core.Bool.{false};
 ghost use mathlib.Core.List.{[]};
-ghost use Prim.Native.Nat.{ℕ, _≤_, _<_};
-ghost use lib.ListN.{length};
-ghost use Rattle.laws.specs.Numbers.{places, exceptionFrame, leastFrame};
+ghost use Prim.Native.Nat.{ℕ, _-_, _≤_, _<_};
+ghost use lib.ListN.{length, getD};
+ghost use Rattle.laws.specs.Numbers.{ids as idCount, places, room, exceptionFrame, leastFrame};
 ghost use Rattle.laws.specs.Search.{best};
+ghost use Rattle.wire.specs.Frame.{idOf};
 ghost use Rattle.settings.specs.Grammar.{Value};
 ghost use Rattle.pdu.specs.Requests.{checkedOf};
 ghost use Rattle.pdu.specs.Replies.{What};
@@ -19,7 +20,8 @@ ghost use Rattle.machine.specs.Calls.{done};
 ghost use Rattle.machine.specs.Calls.Call.{request as asks};
 ghost use Rattle.machine.specs.Requests.{joins, excepted, issuedTo, served};
 ghost use Rattle.machine.specs.Outcomes.{outcome};
-ghost use Rattle.table.specs.Columns.{columns, Sound};
+ghost use Rattle.table.specs.Columns.{columns, party, Sound};
+ghost use Rattle.table.specs.Changes.{Runs, Joined};
 ghost use Rattle.table.specs.Places.{isFree};
 ghost use Rattle.proxy.specs.State.{kept, state, machineOf, Settled, Sounds};
 ghost use Rattle.proxy.specs.Gates.{requestGate};
@@ -88,6 +90,28 @@ fn word_asked(frame: &[u8], what: Asked) -> u64
     let unit = frame[UNIT_AT];
     let function = frame[laws::HEADER_SIZE];
     pdu::word_of(unit, function, what)
+}
+
+// Joins a request to the live request at an open place; no frame is written.
+fn join_request<'a>(
+    ids: &'a [u32; laws::PLACES],
+    counts: &'a mut [u8; laws::PLACES],
+    clients: &'a mut [u8; laws::PARTY_PLACES],
+    originals: &'a mut [u16; laws::PARTY_PLACES],
+    place: usize,
+    client: u8,
+    frame: &[u8],
+) -> Answer
+    requires { ⌜ Runs (now counts) (now clients) (now originals) ⌝ }
+    requires { ⌜ (place < places) × (getD (now counts) place 0 < room) ⌝ }
+    requires { ⌜ (0 < getD (now ids) place 0) × (getD (now ids) place 0 ≤ idCount) ⌝ }
+    ensures { λ r. ⌜ (r ≡ Answer.Joined (record { 0 = getD (now (ids .entry)) place 0 - 1 }))
+        × Joined place (party client (idOf (now (frame .entry)))) (now (counts .entry)) (now (clients .entry)) (now (originals .entry)) (now (counts .exit)) (now (clients .exit)) (now (originals .exit)) ⌝ }
+{
+    let original = pdu::original_of(frame);
+    table::changing::join(counts, clients, originals, place, client, original);
+    let id = table::changing::id_at(ids, place);
+    Answer::Joined { id }
 }
 
 // Issues a legal request into the lowest free place, and sends its frame on.
@@ -181,26 +205,20 @@ fn serve<'a>(
         (columns (now (ids .entry)) (now (asked .entry)) (now (notes .entry)) (now (deadlines .entry)) (now (counts .entry)) (now (clients .entry)) (now (originals .entry)) (now (top .entry))) (now (cursor .entry)) ⌝ }
 {
     let word = word_asked(frame, what);
-    let joining = may_join(join, what);
     let seats = table::finding::find_seats(
         ids,
         asked,
         deadlines,
         counts,
         *top as usize,
-        joining,
+        may_join(join, what),
         word,
         time,
     );
-    let open = seats.open;
-    let free = seats.free;
-    if open < laws::PLACES {
-        let original = pdu::original_of(frame);
-        table::changing::join(counts, clients, originals, open, client, original);
-        let id = table::changing::id_at(ids, open);
-        return Answer::Joined { id };
+    if seats.open < laws::PLACES {
+        return join_request(ids, counts, clients, originals, seats.open, client, frame);
     }
-    if free < laws::PLACES {
+    if seats.free < laws::PLACES {
         return issue_request(
             ids,
             asked,
@@ -220,7 +238,7 @@ fn serve<'a>(
             out,
             what,
             word,
-            free,
+            seats.free,
         );
     }
     except_caller(out, frame, laws::DEVICE_FAILURE)

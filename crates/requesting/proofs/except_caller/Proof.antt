@@ -1,15 +1,17 @@
 -- `requesting::except_caller` meets its contract: the exception frame has the caller's id, unit and function.
 -- Assumes nothing.
-use Rattle.machine.specs.Requests.{excepted}
+use denote.Ref.{now}
+use Rattle.requesting.proofs.StepLaws.{exception-made}
 use borrow.Author.Needs.{needs}
 use Rattle.requesting.proofs.except_caller.Statement.{statement}
 use Rattle.requesting.proofs.except_caller.Tie as tie
 
 returns : tie.Need-returns
-unfolding excepted
 returns c =
     let written = c .before .before in
-    λ m. rw (written .except .ensures, written .before .before .before .before .original-of .ensures, written .before .before .before .byte-at .ensures, written .before .before .byte-at2 .ensures)
+    let s = c .before .before .before .before .before .before .before .before .before in
+    λ m. exception-made m (now (s .args .frame)) (now (s .args .out)) _ _ _ (s .args .code) _
+    (written .before .before .before .before .original-of .ensures) (written .before .before .before .byte-at .ensures) (written .before .before .byte-at2 .ensures) (written .except .ensures)
 
 pub except-caller-spec : {M : Type 1} → statement M
 except-caller-spec =

@@ -25,53 +25,46 @@ abbrev start : tie.After-find-seats → tie.Start
 start c = c .before .before .before .before .before .before .before .before .before .before
 
 -- what is known after the scan
-seated : (c : tie.After-find-seats) → Seated (settings (start c)) (came (start c)) (start c .args .time) (now (start c .args .frame)) (c .before .before .before .before .before .before .may-join .result) (c .before .before .before .before .before .before .before .word-asked .result) (c .find-seats .result .«open») (c .find-seats .result .free)
+seated : (c : tie.After-find-seats) → Seated (settings (start c)) (came (start c)) (start c .args .time) (now (start c .args .frame)) (c .before .may-join .result) (c .before .before .before .before .before .before .before .word-asked .result) (c .find-seats .result .«open») (c .find-seats .result .free)
 seated c = record {
   sound = start c .pre .0;
   asks = c .before .before .before .before .before .before .before .word-asked .ensures;
-  may = may-join-own (settings (start c)) (now (start c .args .frame)) (start c .pre .1 .1 .legal) (c .before .before .before .before .before .before .may-join .ensures);
+  may = may-join-own (settings (start c)) (now (start c .args .frame)) (start c .pre .1 .1 .legal) (c .before .may-join .ensures);
   scanned = c .find-seats .ensures;
 }
 
-join-requires : tie.Need-join-requires
-join-requires c κs =
+join-request-requires : tie.Need-join-request-requires
+join-request-requires c κs =
     let low = c .before .before .before .before .if1 .taken in
-    let scan = c .before .before .before .before .before in
-    (runs-of (came (start scan)) (start scan .pre .0), (low, open-here (seated scan) low .1))
-
-id-at-requires : tie.Need-id-at-requires
-id-at-requires c κs =
-    let low = c .before .before .before .before .before .before .if1 .taken in
-    let scan = c .before .before .before .before .before .before .before in
-    (low, omega (arith, open-here (seated scan) low .0), start scan .pre .0 .low (scan .find-seats .result .«open»))
+    let scan = c .before .before .before .before .before .before in
+    let there = open-here (seated scan) low in
+    (runs-of (came (start scan)) (start scan .pre .0), ((low, there .1), (omega (arith, there .0), start scan .pre .0 .low (scan .find-seats .result .«open»))))
 
 returns : tie.Need-returns
-returns c =
-    let named = c .before .before .before .before .before .before in
-    joined-there (seated (c .before .before .before .before .before .before .before .before)) (c .id-at .result) (named .before .if1 .taken) (named .original-of .ensures) (c .before .before .join .ensures) (c .id-at .ensures)
+returns c = joined-there (seated (c .before .before .before .before .before .before .before)) (c .before .before .before .before .before .if1 .taken) (c .join-request .ensures)
 
 issue-request-requires : tie.Need-issue-request-requires
 issue-request-requires c κs =
-    let scan = c .before .before .before .before .before .before .before .before .before .before .before .before in
+    let scan = c .before .before .before .before .before .before .before .before .before .before .before .before .before .before in
     let s = start scan in
     (s .pre .0, (tag-words (settings s) (s .pre .1 .0), (s .pre .1 .1, (scan .before .before .before .before .before .before .before .word-asked .ensures, (scan .find-seats .ensures .1, c .before .before .before .before .before .before .before .before .before .before .if2 .taken)))))
 
 returns-2 : tie.Need-returns-2
 returns-2 c =
     let free = c .before .before .before .before .before .before .before .before .before .before .before .before .before in
-    let scan = free .before .before in
+    let scan = free .before .before .before .before in
     let s = start scan in
-    issued-next (seated scan) (s .args .client) (now (s .args .out)) (free .before .if1 .left) (free .if2 .taken) (c .before .before .issue-request .ensures (s .args .join))
+    issued-next (seated scan) (s .args .client) (now (s .args .out)) (free .before .before .if1 .left) (free .if2 .taken) (c .before .before .issue-request .ensures (s .args .join))
 
 returns-3 : tie.Need-returns-3
 returns-3 c =
     let none = c .before .before .before .before in
-    let scan = none .before .before in
+    let scan = none .before .before .before .before in
     let s = start scan in
-    full-there (seated scan) (s .args .client) (now (s .args .out)) (none .before .if1 .left) (none .if2 .left) (c .before .before .except-caller .ensures)
+    full-there (seated scan) (s .args .client) (now (s .args .out)) (none .before .before .if1 .left) (none .if2 .left) (c .before .before .except-caller .ensures)
 
 pub serve-spec : {M : Type 1} → statement M
 serve-spec =
     tie.close
-    (tie.spec (λ c κs. search needs) (λ c κs. search needs) (λ c κs. search needs) (λ c κs. search needs) join-requires id-at-requires
+    (tie.spec (λ c κs. search needs) (λ c κs. search needs) (λ c κs. search needs) join-request-requires
     returns issue-request-requires (λ c. search needs) returns-2 (λ c κs. search needs) (λ c. search needs) returns-3)
