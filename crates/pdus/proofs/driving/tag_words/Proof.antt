@@ -1,0 +1,14 @@
+-- `pdus::driving::tag_words` meets its contract. The two words are document 01's tags, which ascend.
+-- Assumes nothing.
+use mathlib.Core.Path.{refl}
+use native.Mathlib.Omega.{arith}
+use borrow.Author.Needs.{needs}
+use Rattle.pdus.proofs.DriverLaws.{two-tags}
+use Rattle.pdus.proofs.driving.tag_words.Statement.{statement}
+use Rattle.pdus.proofs.driving.tag_words.Tie as tie
+
+returns : tie.Need-returns
+returns c = record { places = refl; few = omega arith; ascending = two-tags }
+
+pub tag-words-spec : {M : Type 1} → statement M
+tag-words-spec = tie.close (tie.spec (λ c. search needs) (λ c. search needs) (λ c. search needs) returns)

@@ -1,0 +1,80 @@
+// A request forwarded and a reply given back, behind every check of its frame, with document 01's settings: a tag of width 16 at 1024, one of width 32 at 1026.
+ghost use Prim.Native.Nat.{_≤_};
+ghost use Rattle.rewrite.specs.Lent.{TagWords};
+use pdu::Checked;
+use pdu::ProxyId;
+use rewrite::Raw;
+
+// The id that the proxy gives each request here.
+const ISSUED: u16 = 9;
+
+const UNIT_AT: usize = 6;
+
+// What a call gives: a refusal's number; or so many bytes of the buffer, with both counts.
+pub enum Given {
+    Refused(u32),
+    Frame(usize, Raw),
+}
+
+fn tag_words() -> [u64; laws::MOST_TAGS]
+    ensures { λ r. ⌜ TagWords 2 r ⌝ }
+{
+    let mut words = [0u64; laws::MOST_TAGS];
+    words[0] = 1024;
+    words[1] = 65536 + 1026;
+    words
+}
+
+// A request, as it goes out; or the exception that the caller gets.
+pub fn send(frame: &[u8], out: &mut [u8]) -> Given {
+    if out.len() < laws::FRAME_BUFFER {
+        return Given::Refused(1);
+    }
+    if wire::is_misframed(frame) {
+        return Given::Refused(4);
+    }
+    let unit = wire::byte_at(frame, UNIT_AT);
+    let function = wire::byte_at(frame, laws::HEADER_SIZE);
+    match pdu::check_request(frame) {
+        Checked::BadFunction => Given::Refused(5),
+        Checked::BadLength => Given::Refused(6),
+        Checked::Excepted(code) => {
+            let id = wire::pair_at(frame, 0);
+            wire::except(out, id, unit, function, code);
+            let raw = Raw {
+                partial: 0,
+                value: 0,
+            };
+            Given::Frame(laws::EXCEPTION_FRAME, raw)
+        }
+        Checked::Legal(asked) => {
+            let tags = tag_words();
+            let raw = rewrite::forward(out, frame, ProxyId(ISSUED), asked, &tags, 2);
+            Given::Frame(frame.len(), raw)
+        }
+    }
+}
+
+// A reply to a legal request, as it is given back.
+pub fn bring(request: &[u8], reply: &[u8], out: &mut [u8]) -> Given {
+    if out.len() < laws::FRAME_BUFFER {
+        return Given::Refused(1);
+    }
+    if wire::is_misframed(request) {
+        return Given::Refused(4);
+    }
+    if wire::is_misframed(reply) {
+        return Given::Refused(4);
+    }
+    let unit = wire::byte_at(request, UNIT_AT);
+    let function = wire::byte_at(request, laws::HEADER_SIZE);
+    let Checked::Legal(asked) = pdu::check_request(request) else {
+        return Given::Refused(7);
+    };
+    if !pdu::answers(unit, function, asked, reply) {
+        return Given::Refused(8);
+    }
+    let tags = tag_words();
+    let raw = rewrite::give_back(out, reply, function, asked, &tags, 2);
+    Given::Frame(reply.len(), raw)
+}
