@@ -10,30 +10,14 @@ use Rattle.laws.specs.Numbers.{mostFrame}
 use Rattle.wire.specs.Frame.{misframed}
 use Rattle.wire.proofs.FrameLaws.{framed}
 use Rattle.bcd.specs.Bcd.{registers}
-use Rattle.settings.specs.TagWords.{kindOf, widthOf, kindFrom, tagOf, Ascending}
+use Rattle.settings.specs.TagWords.{kindOf, widthOf, kindNumber, kindFrom, wordOf, tagOf, Ascending}
 use Rattle.pdu.specs.Requests.{checkedOf}
 use Rattle.pdu.specs.Replies.{what, excepts, answering}
-use Rattle.pdu.specs.Words.{Lawful}
 use Rattle.pdu.specs.declared.Asked.{Asked}
-use Rattle.pdu.specs.declared.Asked.the-variants.{Read, SingleWrite, MultipleWrite, Other}
 use Rattle.pdu.specs.declared.Checked.the-variants.{Legal}
-use Rattle.pdu.proofs.RequestLaws.{RequestRoom, legal-room, legal-proper}
-use Rattle.pdu.proofs.ReplyLaws.{ReplyRoom, answering-room}
+use Rattle.pdu.proofs.RequestLaws.{legal-proper}
 use Rattle.rewrite.specs.Lent.{Sent, Brought, Framed}
-
-sent : (a : Asked) (f : List ℕ) → RequestRoom a f → Lawful a → Sent a f
-unfolding Lawful
-sent (Read s q) f r l = tt
-sent (SingleWrite a) f r l = record { room = omega arith; low = omega arith }
-sent (MultipleWrite s q) f r l = record { room = omega arith; low = l .2 }
-sent Other f r l = tt
-
-brought : (a : Asked) (f : List ℕ) → Lawful a → ReplyRoom a f → Brought a f
-unfolding Lawful
-brought (Read s q) f a r = record { room = omega (arith, r); low = a .2 }
-brought (SingleWrite s) f a r = record { room = omega (arith, r); low = omega (arith, a) }
-brought (MultipleWrite s q) f a r = tt
-brought Other f a r = tt
+use Rattle.rewrite.proofs.RoomLaws.{legal-sent, answer-brought}
 
 -- A frame that is not refused fits a buffer of the stated length.
 pub fits : (f o : List ℕ) → misframed f ≡ false → mostFrame ≤ length o → Framed f o
@@ -41,12 +25,13 @@ fits f o e l = let w = framed f e in record { least = w .least; fits = omega (ar
 
 module _ (f : List ℕ) {a : Asked} (bytes : (k : ℕ) → getD f k 0 < 256) (legal : checkedOf f ≡ Legal a) where
   pub sends : Sent a f
-  sends = sent a f (legal-room f a legal) (legal-proper f a bytes legal .lawful)
+  sends = legal-sent f legal (legal-proper f a bytes legal .lawful)
 
   pub brings : (r : List ℕ) (unit function : ℕ) → answering (what unit function a) r ≡ true → excepts function r ≡ false → Brought a r
-  brings r unit function e x = brought a r (legal-proper f a bytes legal .lawful) (answering-room (what unit function a) r e x)
+  brings r unit function e x = answer-brought (what unit function a) r (legal-proper f a bytes legal .lawful) e x
 
--- The words of document 01's two tags: width 16 at 1024, width 32 at 1026.
-pub two-tags : Ascending 0 (tagOf 1024 ∷ tagOf 66562 ∷ [])
-unfolding Ascending tagOf kindOf kindFrom widthOf registers
-two-tags = (omega arith, omega arith, (omega arith, omega arith, tt))
+-- Document 01's two tags, width 16 at 1024 and width 32 at 1026, ascend.
+pub two-tags : {a b : ℕ} → a ≡ wordOf (record { address = 1024; width = 16 }) → b ≡ wordOf (record { address = 1026; width = 32 })
+    → Ascending 0 (tagOf a ∷ tagOf b ∷ [])
+unfolding Ascending tagOf wordOf kindOf kindNumber kindFrom widthOf registers
+two-tags p q = rw p (rw q (omega arith, omega arith, (omega arith, omega arith, tt)))

@@ -1,9 +1,9 @@
 // A request forwarded and a reply given back, behind every check of its frame, with document 01's settings: a tag of width 16 at 1024, one of width 32 at 1026.
-ghost use Prim.Native.Nat.{_≤_};
 ghost use Rattle.rewrite.specs.Lent.{TagWords};
 use pdu::Checked;
 use pdu::ProxyId;
 use rewrite::Raw;
+use settings::tagwords::tag_word;
 
 // The id that the proxy gives each request here.
 const ISSUED: u16 = 9;
@@ -20,8 +20,8 @@ fn tag_words() -> [u64; laws::MOST_TAGS]
     ensures { λ r. ⌜ TagWords 2 r ⌝ }
 {
     let mut words = [0u64; laws::MOST_TAGS];
-    words[0] = 1024;
-    words[1] = 65536 + 1026;
+    words[0] = tag_word(1024, 16);
+    words[1] = tag_word(1026, 32);
     words
 }
 
@@ -55,7 +55,7 @@ pub fn send(frame: &[u8], out: &mut [u8]) -> Given {
     }
 }
 
-// A reply to a legal request, as it is given back.
+// A reply to a request, as it is given back; a request that is not legal is not live, and its reply is refused by 7.
 pub fn bring(request: &[u8], reply: &[u8], out: &mut [u8]) -> Given {
     if out.len() < laws::FRAME_BUFFER {
         return Given::Refused(1);

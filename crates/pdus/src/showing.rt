@@ -4,15 +4,15 @@
 use crate::driving::Given;
 use crate::driving::bring;
 use crate::driving::send;
-use crate::texts::append;
 use crate::texts::append_count;
 use crate::texts::append_hex;
-use crate::texts::before;
-use crate::texts::end_of;
 use crate::texts::head;
 use crate::texts::parse;
 use crate::texts::rest;
 use libc::STDOUT_FILENO;
+use parts::append;
+use parts::before;
+use parts::end_of;
 use std::num::wrapping_add_u64;
 
 // How many examples were shown, and how many of them came out otherwise than is said beside them.

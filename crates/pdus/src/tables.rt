@@ -8,6 +8,7 @@ pub fn all(t: Tally) -> Tally {
     let t = partly_inside(t);
     let t = at_bounds(t);
     let t = refused(t);
+    let t = unanswered(t);
     let t = of_map(t);
     passing(t)
 }
@@ -159,7 +160,7 @@ fn at_bounds(t: Tally) -> Tally {
     )
 }
 
-// Frames that are refused as requests, and replies that do not answer.
+// Frames that are refused as requests.
 fn refused(t: Tally) -> Tally {
     examples(
         t,
@@ -184,7 +185,15 @@ fn refused(t: Tally) -> Tally {
         ||refusal 6|\n\
         16 whose byte count is not its size less 6\
         |12 34 00 00 00 0A 01 10 00 01 00 02 04 00 0A 01\
-        ||refusal 6|\n\
+        ||refusal 6|",
+    )
+}
+
+// Replies that do not answer.
+fn unanswered(t: Tally) -> Tally {
+    examples(
+        t,
+        b"\
         a reply of another function\
         |12 34 00 00 00 06 01 03 04 00 00 01\
         |00 09 00 00 00 05 01 04 02 12 34\

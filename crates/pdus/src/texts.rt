@@ -1,40 +1,17 @@
-// Bytes to and from hexadecimal text, and the parts of a table.
+// Bytes to and from hexadecimal text, and the fields of a row.
 ghost use Prim.Native.Nat.{_≤_};
-ghost use lib.ListN.{length};
-
-// Where this byte next stands; the end where it does not.
-pub fn end_of(s: &[u8], at: usize, byte: u8) -> usize
-    requires { ⌜ at ≤ length (now s) ⌝ }
-    ensures { λ r. ⌜ (at ≤ r) × (r ≤ length (now (s .entry))) ⌝ }
-{
-    let mut end = at;
-    while end < s.len() {
-        if s[end] == byte {
-            return end;
-        }
-        end += 1;
-    }
-    end
-}
+use parts::append;
+use parts::before;
+use parts::behind;
+use parts::end_of;
 
 // What stands before the first '|', and what behind it.
 pub fn head(s: &[u8]) -> &[u8] {
-    let end = end_of(s, 0, b'|');
-    &s[0..end]
+    before(s, end_of(s, 0, b'|'))
 }
 
 pub fn rest(s: &[u8]) -> &[u8] {
-    let end = end_of(s, 0, b'|');
-    if end < s.len() {
-        let next = end + 1;
-        &s[next..]
-    } else {
-        &s[0..0]
-    }
-}
-
-pub fn before(s: &[u8], place: usize) -> &[u8] {
-    if place <= s.len() { &s[0..place] } else { s }
+    behind(s, std::num::wrapping_add_usize(end_of(s, 0, b'|'), 1))
 }
 
 // The number that a hexadecimal digit is: 0 to 9, A to F.
@@ -73,21 +50,6 @@ fn digit(n: u8) -> u8 {
     } else {
         b'A' + (low - 10)
     }
-}
-
-// Puts bytes at a place, as many as there is room for, and tells the place behind them.
-pub fn append(text: &mut [u8], at: usize, bytes: &[u8]) -> usize {
-    let mut next = at;
-    let mut k: usize = 0;
-    while k < bytes.len() {
-        if text.len() <= next {
-            return next;
-        }
-        text[next] = bytes[k];
-        next += 1;
-        k += 1;
-    }
-    next
 }
 
 // Puts a blank and the digits of each byte.

@@ -20,16 +20,16 @@ use Rattle.wire.specs.Frame.{idOf}
 use Rattle.settings.specs.Grammar.{Value}
 use Rattle.pdu.specs.Requests.{checkedOf}
 use Rattle.pdu.specs.Replies.{What}
-use Rattle.pdu.specs.Words.{wordOf, whatOf, Lawful, Proper}
+use Rattle.pdu.specs.Words.{wordOf, whatOf, Proper}
 use Rattle.pdu.specs.declared.Asked.{Asked}
-use Rattle.pdu.specs.declared.Asked.the-variants.{Read, SingleWrite, MultipleWrite, Other}
 use Rattle.pdu.specs.declared.ProxyId.{ProxyId}
 use Rattle.pdu.specs.declared.Checked.the-variants.{Legal}
-use Rattle.pdu.proofs.RequestLaws.{RequestRoom, legal-room, legal-passed}
+use Rattle.pdu.proofs.RequestLaws.{legal-passed}
 use Rattle.pdu.proofs.WordLaws.{word-back}
 use Rattle.rewrite.specs.Rewriting.{outcome as rewrote}
 use Rattle.rewrite.specs.Frames.{forwarded, under}
 use Rattle.rewrite.specs.Lent.{tagsOf, Sent}
+use Rattle.rewrite.proofs.RoomLaws.{legal-sent}
 use Rattle.book.specs.Book.{entry}
 use Rattle.book.specs.Desk.{freePlace}
 use Rattle.machine.specs.Machine.{Machine, rules}
@@ -58,15 +58,8 @@ unfolding valueIn
 may-join-own k f {a} legal h = h (valueIn k) (wanted f) refl (sym (legal-passed f a legal .asks))
 
 -- The registers that a legal request carries are in its frame.
-carried : (a : Asked) (f : List ℕ) → RequestRoom a f → Lawful a → Sent a f
-unfolding Lawful
-carried (Read s q) f r l = tt
-carried (SingleWrite a) f r l = record { room = omega arith; low = omega arith }
-carried (MultipleWrite s q) f r l = record { room = omega arith; low = l .2 }
-carried Other f r l = tt
-
 pub carries : (f : List ℕ) {a : Asked} → checkedOf f ≡ Legal a → Proper (wanted f) → Sent a f
-carries f {a} legal p = carried a f (legal-room f a legal) (rw (legal-passed f a legal .asks) (p .lawful))
+carries f {a} legal p = legal-sent f legal (rw (legal-passed f a legal .asks) (p .lawful))
 
 -- A place that the scan for an open one found passes its test.
 found : (joining : Bool) (test : ℕ → Bool) (beats : ℕ → ℕ → Bool) (none n r : ℕ) → r ≡ cond joining (best test beats none n) none → r < none → test r ≡ true

@@ -6,3 +6,4 @@ pub mod TagLaws
 pub mod TableLaws
 pub mod ReadBack
 pub mod FrameLaws
+pub mod RoomLaws

@@ -1,6 +1,9 @@
 // Document 01's settings text, and texts made from it.
 use crate::tally;
 use crate::tally::Tally;
+use parts::append;
+use parts::before;
+use parts::behind;
 
 pub fn document() -> [u8; 75] {
     *b"version=1\ntimeout=3000\njoin=1\ntags=2\naddr=1024\nwidth=16\naddr=1026\nwidth=32\n"
@@ -45,38 +48,6 @@ pub fn line_at(place: usize) -> usize {
         return 7;
     }
     if place < 75 { 8 } else { 9 }
-}
-
-// The bytes before a place, and those from it on.
-pub fn before(text: &[u8], place: usize) -> &[u8] {
-    if place <= text.len() {
-        &text[0..place]
-    } else {
-        text
-    }
-}
-
-pub fn behind(text: &[u8], place: usize) -> &[u8] {
-    if place <= text.len() {
-        &text[place..]
-    } else {
-        &text[..0]
-    }
-}
-
-// Puts bytes at a place, as many as there is room for, and tells the place behind them.
-pub fn append(text: &mut [u8], at: usize, bytes: &[u8]) -> usize {
-    let mut next = at;
-    let mut k: usize = 0;
-    while k < bytes.len() {
-        if text.len() <= next {
-            return next;
-        }
-        text[next] = bytes[k];
-        next += 1;
-        k += 1;
-    }
-    next
 }
 
 // Document 01's text with the bytes from start to end replaced by others.

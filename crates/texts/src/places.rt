@@ -1,12 +1,12 @@
 // Document 01's text cut, and with a byte more or another byte, at every place; and texts of about 256 tags.
-use crate::making::append;
-use crate::making::before;
-use crate::making::behind;
 use crate::making::document;
 use crate::making::line_at;
 use crate::making::with_bytes;
 use crate::tally::Tally;
 use crate::tally::read;
+use parts::append;
+use parts::before;
+use parts::behind;
 
 pub fn all(t: Tally) -> Tally {
     let mut tally = t;
@@ -37,8 +37,6 @@ fn longest(t: Tally) -> Tally {
     let t = listed(t, b"256", 256, b"\n", 517);
     let t = listed(t, b"256", 255, b"", 515);
     let t = listed(t, b"256", 255, b"addr=65535\nwidth=32\n", 516);
-    let t = listed(t, b"256", 255, b"addr=65535\nwidth=16\n", 0);
-    let t = listed(t, b"256", 255, b"addr=10000\nwidth=32\n", 515);
     let t = listed(t, b"255", 256, b"", 515);
     listed(t, b"257", 257, b"", 4)
 }

@@ -1,29 +1,13 @@
 // A table of texts is one byte string of rows. A row is three digits, a space, and bytes up to a '|': the lines from the first digit to the second of
 // document 01's text are replaced by the bytes, and the third digit is the line that is wrong then, 0 where none is.
 // Where a table is run for a line, '.' is its digit, '@' its key and '%' its number.
-ghost use Prim.Native.Nat.{_≤_};
-ghost use lib.ListN.{length};
-use crate::making::append;
-use crate::making::before;
-use crate::making::behind;
 use crate::making::start_of;
 use crate::making::with_bytes;
 use crate::tally::Tally;
-
-// Where the row that starts at a place ends.
-fn row_end(table: &[u8], at: usize) -> usize
-    requires { ⌜ at ≤ length (now table) ⌝ }
-    ensures { λ r. ⌜ (at ≤ r) × (r ≤ length (now (table .entry))) ⌝ }
-{
-    let mut end = at;
-    while end < table.len() {
-        if table[end] == b'|' {
-            return end;
-        }
-        end += 1;
-    }
-    end
-}
+use parts::append;
+use parts::before;
+use parts::behind;
+use parts::end_of;
 
 // The digit at a place of a row.
 fn digit_at(row: &[u8], k: usize, line: usize) -> usize {
@@ -72,7 +56,7 @@ pub fn rows(t: Tally, table: &[u8], line: usize, key: &[u8], number: &[u8]) -> T
     let mut tally = t;
     let mut at: usize = 0;
     while at < table.len() {
-        let end = row_end(table, at);
+        let end = end_of(table, at, b'|');
         tally = row(tally, &table[at..end], line, key, number);
         at = end + 1;
     }

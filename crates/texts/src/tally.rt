@@ -1,5 +1,4 @@
 // One text read, held against what is said beside it, and the count of such texts.
-use crate::making;
 use libc::STDOUT_FILENO;
 use settings::Settings;
 use std::num::wrapping_add_u64;
@@ -27,7 +26,7 @@ fn comes_back(s: Settings, text: &[u8], buffer: &mut [u8]) -> bool {
     let Wrote::Text(length) = text::writing::write_text(s, &mut buffer[0..size]) else {
         return false;
     };
-    (length == size) & check::same(making::before(buffer, size), text)
+    (length == size) & check::same(parts::before(buffer, size), text)
 }
 
 // One text more in the count; a text that differs is printed with the line that is said to be wrong.

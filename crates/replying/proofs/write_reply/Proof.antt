@@ -3,7 +3,8 @@
 use denote.Ref.{now}
 use Rattle.rewrite.specs.Lent.{tagsOf}
 use Rattle.pdu.specs.Words.{whatOf}
-use Rattle.replying.proofs.FrameLaws.{answer-brought, by-word}
+use Rattle.rewrite.proofs.RoomLaws.{answer-brought}
+use Rattle.replying.proofs.FrameLaws.{by-word}
 use borrow.Author.Needs.{needs}
 use Rattle.replying.proofs.write_reply.Statement.{statement}
 use Rattle.replying.proofs.write_reply.Tie as tie

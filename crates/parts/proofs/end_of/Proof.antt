@@ -1,10 +1,10 @@
--- `pdus::texts::end_of` meets its contract. The loop's invariant: the end lies between the start and the length.
+-- `parts::end_of` meets its contract. The loop's invariant: the end lies between the start and the length.
 -- Assumes nothing.
 use Prim.Native.Nat.{_-_, _≤_}
 use lib.ListN.{length}
 use borrow.Author.Needs.{needs}
-use Rattle.pdus.proofs.texts.end_of.Statement.{statement}
-use Rattle.pdus.proofs.texts.end_of.Tie as tie
+use Rattle.parts.proofs.end_of.Statement.{statement}
+use Rattle.parts.proofs.end_of.Tie as tie
 
 abbrev Inv-loop : tie.InvT-loop
 Inv-loop s at byte end₀ end = (at ≤ end) × (end ≤ length s)

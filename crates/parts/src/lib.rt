@@ -1,0 +1,46 @@
+// Parts of byte strings, for the programs that run tables of examples.
+ghost use Prim.Native.Nat.{_≤_};
+ghost use lib.ListN.{length};
+
+// Where this byte next stands; the end where it does not.
+pub fn end_of(s: &[u8], at: usize, byte: u8) -> usize
+    requires { ⌜ at ≤ length (now s) ⌝ }
+    ensures { λ r. ⌜ (at ≤ r) × (r ≤ length (now (s .entry))) ⌝ }
+{
+    let mut end = at;
+    while end < s.len() {
+        if s[end] == byte {
+            return end;
+        }
+        end += 1;
+    }
+    end
+}
+
+// The bytes before a place, and those from it on; a place past the end counts as the end.
+pub fn before(s: &[u8], place: usize) -> &[u8] {
+    if place <= s.len() { &s[0..place] } else { s }
+}
+
+pub fn behind(s: &[u8], place: usize) -> &[u8] {
+    if place <= s.len() {
+        &s[place..]
+    } else {
+        &s[0..0]
+    }
+}
+
+// Puts bytes at a place, as many as there is room for, and tells the place behind them.
+pub fn append(text: &mut [u8], at: usize, bytes: &[u8]) -> usize {
+    let mut next = at;
+    let mut k: usize = 0;
+    while k < bytes.len() {
+        if text.len() <= next {
+            return next;
+        }
+        text[next] = bytes[k];
+        next += 1;
+        k += 1;
+    }
+    next
+}

@@ -1,0 +1,38 @@
+-- A legal request has in its frame the registers that the rewriter asks for, and so has a reply that answers it.
+-- Assumes nothing.
+use Prim.Native.Nat.{ℕ}
+use mathlib.Core.Path.{_≡_}
+use mathlib.Core.Bool.{true, false}
+use mathlib.Core.List.{List}
+use native.Mathlib.Omega.{arith}
+use Rattle.pdu.specs.Requests.{checkedOf}
+use Rattle.pdu.specs.Replies.{What, excepts, answering}
+use Rattle.pdu.specs.Words.{Lawful}
+use Rattle.pdu.specs.declared.Asked.{Asked}
+use Rattle.pdu.specs.declared.Asked.the-variants.{Read, SingleWrite, MultipleWrite, Other}
+use Rattle.pdu.specs.declared.Checked.the-variants.{Legal}
+use Rattle.pdu.proofs.RequestLaws.{RequestRoom, legal-room}
+use Rattle.pdu.proofs.ReplyLaws.{ReplyRoom, answering-room}
+use Rattle.rewrite.specs.Lent.{Sent, Brought}
+
+sent : (a : Asked) (f : List ℕ) → RequestRoom a f → Lawful a → Sent a f
+unfolding Lawful
+sent (Read s q) f r l = tt
+sent (SingleWrite a) f r l = record { room = omega arith; low = omega arith }
+sent (MultipleWrite s q) f r l = record { room = omega arith; low = l .2 }
+sent Other f r l = tt
+
+brought : (a : Asked) (f : List ℕ) → Lawful a → ReplyRoom a f → Brought a f
+unfolding Lawful
+brought (Read s q) f a r = record { room = omega (arith, r); low = a .2 }
+brought (SingleWrite s) f a r = record { room = omega (arith, r); low = omega (arith, a) }
+brought (MultipleWrite s q) f a r = tt
+brought Other f a r = tt
+
+-- The registers that a legal request carries are in its frame.
+pub legal-sent : (f : List ℕ) {a : Asked} → checkedOf f ≡ Legal a → Lawful a → Sent a f
+legal-sent f {a} legal l = sent a f (legal-room f a legal) l
+
+-- A reply that answers and is no exception carries the registers that were asked for.
+pub answer-brought : (w : What) (f : List ℕ) → Lawful (w .asked) → answering w f ≡ true → excepts (w .function) f ≡ false → Brought (w .asked) f
+answer-brought w f l e x = brought (w .asked) f l (answering-room w f e x)
