@@ -1,0 +1,26 @@
+-- A device that these calls made has what detach's core asks for; and a device of all zeros is such a device, with nobody attached.
+-- Assumes nothing.
+use prog.Memory.{size}
+use Prim.Native.Nat.{ℕ, _≤_}
+use mathlib.Core.Path.{_≡_, refl}
+use mathlib.Core.Bool.{false}
+use Rattle.laws.specs.Numbers.{places}
+use Rattle.laws.specs.Bits.{has}
+use Rattle.table.specs.Changes.{Runs}
+use Rattle.table.proofs.EntryLaws.{runs-of}
+use Rattle.proxy.proofs.MakingLaws.{zeros-sound}
+use Rattle.zilborteka.specs.declared.Device.{Device}
+use Rattle.zilborteka.specs.Device.{stateOf, Made, zeros}
+use Rattle.zilborteka.specs.Reports.{stateSize}
+use Rattle.zilborteka.proofs.Device.Laws.{mir}
+
+pub may-detach : (d : Device) → Made d → Runs (d .counts) (d .clients) (d .originals) × (d .top ≤ places)
+may-detach d made = (runs-of (stateOf d .table) (made .table), made .table .within)
+
+-- A host that forgets to make its device fresh has a sound one, to which nobody is attached.
+pub zeros-made : Made zeros × ((client : ℕ) → has (zeros .attached) client ≡ false)
+zeros-made = zeros-sound
+
+-- The size that a host is told is that of a device in memory.
+pub state-size : size mir ≡ stateSize
+state-size = refl

@@ -1,0 +1,68 @@
+-- What the calls without a device report is what the crates below come to, and every number of it fits.
+-- Assumes nothing.
+use Prim.Native.Nat.{ℕ, _≤_, _<_}
+use mathlib.Core.Path.{_≡_, refl, ap, sym, _∙_}
+use mathlib.Core.Bool.{Bool, true, false, cond, not}
+use mathlib.Core.List.{List}
+use native.Mathlib.Omega.{arith}
+use lib.ListN.{length}
+use lib.Dec.{ltb}
+use Rattle.laws.specs.Numbers.{mostText, mostFrame}
+use Rattle.laws.specs.Bytes.{over}
+use Rattle.wire.specs.Splitting.{standingOf, firstFrame}
+use Rattle.wire.specs.declared.Split.{Split}
+use Rattle.wire.specs.declared.Split.the-variants.{Frame}
+use Rattle.wire.proofs.SplittingLaws.{starts, first-size}
+use Rattle.settings.specs.Grammar.{Value, Read, newest, textIn, valid, readText}
+use Rattle.settings.specs.Grammar.Read.{got, wrong}
+use Rattle.settings.proofs.GrammarLaws.{wrong-lines, longest}
+use Rattle.text.specs.declared.ReadText.{ReadText}
+use Rattle.text.specs.declared.Wrote.{Wrote}
+use Rattle.text.specs.declared.Wrote.the-variants.{Text, TooShort, Invalid}
+use Rattle.text.specs.Reports.{reported, Writing, writing, writtenTo}
+use Rattle.machine.specs.Numbers.{isDone}
+use Rattle.machine.specs.declared.Report.{Report}
+use Rattle.zilborteka.specs.Reports.{told, splitTold, settingsRead, readTold, textSeen, wroteTold, writeTold}
+
+-- A first frame is no longer than a frame may be.
+pub first-low : (r : List ℕ) → standingOf r ≡ Frame → length (firstFrame r) ≤ mostFrame
+first-low r e = let most = starts r e .most in rw (first-size r e) (omega arith)
+
+module _ (x : ReadText) where
+  done-of : (y : Read Value) → ((k : ℕ) → y ≡ wrong k → 1 ≤ k) → x ≡ reported y → x .line ≡ 0 → settingsRead (told 0 0 isDone 0) (x .settings) ≡ readTold y
+  unfolding reported readTold
+  done-of (got v rest) p e z = ap (λ (q : ReadText). settingsRead (told 0 0 isDone 0) (q .settings)) e
+  done-of (wrong k) p e z = let named = ap (λ (q : ReadText). q .line) e in let least = p k refl in absurd (omega arith)
+
+  wrong-of : (y : Read Value) → x ≡ reported y → (x .line ≡ 0 → ⊥) → settingsRead (told 10 (x .line) 0 0) (x .settings) ≡ readTold y
+  unfolding reported readTold
+  wrong-of (got v rest) e z = absurd (z (ap (λ (q : ReadText). q .line) e))
+  wrong-of (wrong k) e z = ap (λ (q : ReadText). settingsRead (told 10 (q .line) 0 0) (q .settings)) e
+
+  -- Line 0 is a text that was read, and any other line is wrong.
+  pub read-done : (t : List ℕ) → x ≡ reported (readText t) → x .line ≡ 0 → settingsRead (told 0 0 isDone 0) (x .settings) ≡ readTold (readText t)
+  read-done t = done-of (readText t) (λ k e. wrong-lines t k e .0)
+
+  pub read-wrong : (t : List ℕ) → x ≡ reported (readText t) → (x .line ≡ 0 → ⊥) → settingsRead (told 10 (x .line) 0 0) (x .settings) ≡ readTold (readText t)
+  read-wrong t = wrong-of (readText t)
+
+-- A case of what stands at the start of a run is told by its numbers.
+pub split-is : (n : ℕ) {s t u : Split} → s ≡ t → s ≡ u → splitTold u n ≡ splitTold t n
+split-is n e q = ap (λ x. splitTold x n) (sym q ∙ e)
+
+-- A case of what writing comes to is told by its numbers, beside the buffer.
+pub write-is : (a : List ℕ) {r : Report} {w u : Wrote} {x : Writing} → r ≡ wroteTold u → w ≡ u → writing w a ≡ x → textSeen r a ≡ writeTold x
+write-is a e q p = ap (λ r. textSeen r a) (e ∙ ap wroteTold (sym q)) ∙ ap writeTold p
+
+text-of : (t u : Bool) (m n : ℕ) (a b d : List ℕ) (w : Wrote) → writing w a ≡ cond (not t) (writing Invalid b) (cond u (writing TooShort b) (writing (Text m) d))
+    → w ≡ Text n → (t ≡ true) × (n ≡ m)
+text-of false u m n a b d w e s = let said = ap (λ (x : Writing). x .says) e in let z : _≡_ {A = ℕ} 0 1 = cc in absurd (omega arith)
+text-of true true m n a b d w e s = let said = ap (λ (x : Writing). x .says) e in let z : _≡_ {A = ℕ} 0 1 = cc in absurd (omega arith)
+text-of true false m n a b d w e s = let said = ap (λ (x : Writing). x .says) e in (refl, cc)
+
+-- The length of a written text is no more than the longest text's.
+pub written-low : (v : Value) (b a : List ℕ) (w : Wrote) (n : ℕ) → writing w a ≡ writtenTo v b → w ≡ Text n → n ≤ mostText
+unfolding writtenTo
+written-low v b a w n e s =
+    let x = text-of (valid v) (ltb (length b) (length (textIn newest v))) (length (textIn newest v)) n a b (over (textIn newest v) b) w e s in
+    rw (x .1) (longest v (x .0))

@@ -1,0 +1,13 @@
+-- `zilborteka::cores::attach` meets its contract: the call below does, and its answer is told in numbers.
+-- Assumes nothing.
+use Rattle.proxy.proofs.AttachLaws.{attach-does}
+use Rattle.zilborteka.proofs.SeenLaws.{as-seen}
+use borrow.Author.Needs.{needs}
+use Rattle.zilborteka.proofs.cores.attach.Statement.{statement}
+use Rattle.zilborteka.proofs.cores.attach.Tie as tie
+
+returns : tie.Need-returns
+returns c ids asked notes deadlines counts clients originals top cursor clock timeout join tagged tags made = as-seen _ _ _ _ _ _ _ (c .report-of .ensures) (attach-does _ made _ _ _ (c .before .attach .ensures))
+
+pub attach-spec : {M : Type 1} → statement M
+attach-spec = tie.close (tie.spec (λ c κs. search needs) (λ c. search needs) returns)

@@ -1,0 +1,13 @@
+-- `zilborteka::cores::detach` meets its contract: the call below does, and its answer is told in numbers.
+-- Assumes nothing.
+use Rattle.proxy.specs.State.{kept}
+use Rattle.zilborteka.proofs.SeenLaws.{as-seen}
+use borrow.Author.Needs.{needs}
+use Rattle.zilborteka.proofs.cores.detach.Statement.{statement}
+use Rattle.zilborteka.proofs.cores.detach.Tie as tie
+
+returns : tie.Need-returns
+returns c ids asked notes deadlines cursor clock timeout join tagged tags made = as-seen _ _ _ _ _ _ _ (c .report-of .ensures) (c .before .detach .ensures ids asked notes deadlines cursor clock (kept timeout join tagged tags) made)
+
+pub detach-spec : {M : Type 1} → statement M
+detach-spec = tie.close (tie.spec (λ c κs. search needs) (λ c κs. search needs) returns)

@@ -1,0 +1,13 @@
+-- `zilborteka::cores::link_lost` meets its contract: the call below does, and its answer is told in numbers.
+-- Assumes nothing.
+use Rattle.proxy.specs.State.{kept}
+use Rattle.zilborteka.proofs.SeenLaws.{as-seen}
+use borrow.Author.Needs.{needs}
+use Rattle.zilborteka.proofs.cores.link_lost.Statement.{statement}
+use Rattle.zilborteka.proofs.cores.link_lost.Tie as tie
+
+returns : tie.Need-returns
+returns c asked notes deadlines counts clients originals cursor clock timeout join tagged tags made = as-seen _ _ _ _ _ _ _ (c .report-of .ensures) (c .before .link-lost .ensures asked notes deadlines counts clients originals cursor clock (kept timeout join tagged tags) made)
+
+pub link-lost-spec : {M : Type 1} → statement M
+link-lost-spec = tie.close (tie.spec (λ c κs. search needs) (λ c. search needs) returns)

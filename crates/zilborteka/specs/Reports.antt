@@ -1,0 +1,67 @@
+-- What is reported of splitting, of settings read and written, of making a device fresh; and the size of a device.
+-- Assumes nothing.
+use Prim.Native.Nat.{ℕ}
+use mathlib.Core.Bool.{cond}
+use mathlib.Core.List.{List}
+use lib.Dec.{eqb}
+use Rattle.wire.specs.declared.Split.{Split}
+use Rattle.wire.specs.declared.Split.the-variants.{Frame, MoreNeeded, Refused}
+use Rattle.settings.specs.Grammar.{Value, Read}
+use Rattle.settings.specs.Grammar.Read.{got, wrong}
+use Rattle.settings.specs.Values.{settingsOf, usual}
+use Rattle.settings.specs.declared.Settings.{Settings}
+use Rattle.text.specs.declared.Wrote.{Wrote}
+use Rattle.text.specs.declared.Wrote.the-variants.{Text, TooShort, Invalid}
+use Rattle.text.specs.Reports.{Writing}
+use Rattle.machine.specs.Numbers.{isDone}
+use Rattle.machine.specs.declared.Report.{Report}
+use Rattle.zilborteka.specs.declared.deviceless.SettingsRead.{SettingsRead}
+
+-- the outcomes' numbers beside the machine's: ZB_FRAME and ZB_MORE
+abbrev pub isFrame : ℕ
+isFrame = 8
+
+abbrev pub isMore : ℕ
+isMore = 9
+
+-- a report that speaks of these four, and has 0 elsewhere
+abbrev pub told : (refusal line outcome length : ℕ) → Report
+told r k o n = record { refusal = r; line = k; outcome = o; length = n; parties = 0; partial = 0; value = 0; set = 0; id = 0; code = 0 }
+
+-- done where nothing is refused
+unfoldable pub doneOr : ℕ → Report
+doneOr n = cond (eqb n 0) (told 0 0 isDone 0) (told n 0 0 0)
+
+-- splitting, with the first frame's length
+unfoldable pub splitTold : Split → ℕ → Report
+splitTold Frame n = told 0 0 isFrame n
+splitTold MoreNeeded n = told 0 0 isMore 0
+splitTold Refused n = told 4 0 0 0
+
+-- reading: the value, or refusal 10 with the first wrong line beside the usual value
+abbrev pub settingsRead : Report → Settings → SettingsRead
+settingsRead r s = record { answer = r; settings = s }
+
+unfoldable pub readTold : Read Value → SettingsRead
+readTold (got v rest) = settingsRead (told 0 0 isDone 0) (settingsOf v)
+readTold (wrong k) = settingsRead (told 10 k 0 0) (settingsOf usual)
+
+-- writing: the report, and the buffer afterwards
+pub record TextSeen : Type 0 where
+  pub says : Report
+  pub buffer : List ℕ
+
+abbrev pub textSeen : Report → List ℕ → TextSeen
+textSeen r b = record { says = r; buffer = b }
+
+unfoldable pub wroteTold : Wrote → Report
+wroteTold (Text n) = told 0 0 isDone n
+wroteTold TooShort = told 1 0 0 0
+wroteTold Invalid = told 10 0 0 0
+
+abbrev pub writeTold : Writing → TextSeen
+writeTold w = textSeen (wroteTold (w .says)) (w .buffer)
+
+-- how many bytes a device has
+abbrev pub stateSize : ℕ
+stateSize = 5032

@@ -1,0 +1,239 @@
+// The cores of the entry points: each call over lent fields, its answer in the C host's numbers.
+use crate::reports::done_or;
+use machine::Report;
+use settings::Settings;
+ghost use mathlib.Core.List.{List, []};
+ghost use Prim.Native.Nat.{ℕ, _≤_};
+ghost use Rattle.laws.specs.Numbers.{places};
+ghost use Rattle.machine.specs.Calls.Call.{attach as attaches, detach as detaches, request as asks, reply as replies, tick as ticks, linkLost};
+ghost use Rattle.table.specs.Changes.{Runs};
+ghost use Rattle.zilborteka.specs.Device.{device, Made, Served, Freshly};
+
+// Makes the device fresh, whatever it was.
+pub fn fresh<'a>(
+    ids: &'a mut [u32; laws::PLACES],
+    asked: &'a mut [u64; laws::PLACES],
+    notes: &'a mut [u8; laws::PLACES],
+    deadlines: &'a mut [u64; laws::PLACES],
+    counts: &'a mut [u8; laws::PLACES],
+    clients: &'a mut [u8; laws::PARTY_PLACES],
+    originals: &'a mut [u16; laws::PARTY_PLACES],
+    top: &'a mut u32,
+    cursor: &'a mut u16,
+    attached: &'a mut u32,
+    clock: &'a mut u64,
+    timeout: &'a mut u32,
+    join: &'a mut u32,
+    tagged: &'a mut u32,
+    tags: &'a mut [u64; laws::MOST_TAGS],
+    from: Settings,
+) -> Report
+    ensures { λ r. ⌜ Freshly from r (device (now (ids .exit)) (now (asked .exit)) (now (notes .exit)) (now (deadlines .exit)) (now (counts .exit)) (now (clients .exit)) (now (originals .exit)) (now (top .exit)) (now (cursor .exit)) (now (attached .exit)) (now (clock .exit)) (now (timeout .exit)) (now (join .exit)) (now (tagged .exit)) (now (tags .exit))) ⌝ }
+{
+    let refused = proxy::making::fresh(
+        ids,
+        asked,
+        notes,
+        deadlines,
+        counts,
+        clients,
+        originals,
+        top,
+        cursor,
+        attached,
+        clock,
+        timeout,
+        join,
+        tagged,
+        tags,
+        from,
+    );
+    done_or(refused)
+}
+
+// Attaches a client.
+pub fn attach<'a>(attached: &'a mut u32, client: u32) -> Report
+    ensures { λ r. ⌜ ((ids asked notes deadlines counts clients originals : List ℕ) (top cursor clock timeout join tagged : ℕ) (tags : List ℕ)
+        → Made (device ids asked notes deadlines counts clients originals top cursor (now (attached .entry)) clock timeout join tagged tags)
+        → Served (device ids asked notes deadlines counts clients originals top cursor (now (attached .entry)) clock timeout join tagged tags) (attaches client) r
+        (device ids asked notes deadlines counts clients originals top cursor (now (attached .exit)) clock timeout join tagged tags) [] []) ⌝ }
+{
+    machine::report_of(proxy::attaching::attach(attached, client))
+}
+
+// Detaches a client, and strikes its parties out.
+pub fn detach<'a>(
+    counts: &'a mut [u8; laws::PLACES],
+    clients: &'a mut [u8; laws::PARTY_PLACES],
+    originals: &'a mut [u16; laws::PARTY_PLACES],
+    top: &'a mut u32,
+    attached: &'a mut u32,
+    client: u32,
+) -> Report
+    requires { ⌜ Runs (now counts) (now clients) (now originals) × (now top ≤ places) ⌝ }
+    ensures { λ r. ⌜ ((ids asked notes deadlines : List ℕ) (cursor clock timeout join tagged : ℕ) (tags : List ℕ)
+        → Made (device ids asked notes deadlines (now (counts .entry)) (now (clients .entry)) (now (originals .entry)) (now (top .entry)) cursor (now (attached .entry)) clock timeout join tagged tags)
+        → Served (device ids asked notes deadlines (now (counts .entry)) (now (clients .entry)) (now (originals .entry)) (now (top .entry)) cursor (now (attached .entry)) clock timeout join tagged tags) (detaches client) r
+        (device ids asked notes deadlines (now (counts .exit)) (now (clients .exit)) (now (originals .exit)) (now (top .exit)) cursor (now (attached .exit)) clock timeout join tagged tags) [] []) ⌝ }
+{
+    machine::report_of(proxy::attaching::detach(counts, clients, originals, top, attached, client))
+}
+
+// A client's request.
+pub fn request<'a>(
+    ids: &'a mut [u32; laws::PLACES],
+    asked: &'a mut [u64; laws::PLACES],
+    notes: &'a mut [u8; laws::PLACES],
+    deadlines: &'a mut [u64; laws::PLACES],
+    counts: &'a mut [u8; laws::PLACES],
+    clients: &'a mut [u8; laws::PARTY_PLACES],
+    originals: &'a mut [u16; laws::PARTY_PLACES],
+    top: &'a mut u32,
+    cursor: &'a mut u16,
+    attached: &'a mut u32,
+    clock: &'a mut u64,
+    timeout: &'a mut u32,
+    join: &'a mut u32,
+    tagged: &'a mut u32,
+    tags: &'a mut [u64; laws::MOST_TAGS],
+    client: u32,
+    time: u64,
+    frame: &[u8],
+    out: &mut [u8],
+) -> Report
+    requires { ⌜ Made (device (now ids) (now asked) (now notes) (now deadlines) (now counts) (now clients) (now originals) (now top) (now cursor) (now attached) (now clock) (now timeout) (now join) (now tagged) (now tags)) ⌝ }
+    ensures { λ r. ⌜ Served (device (now (ids .entry)) (now (asked .entry)) (now (notes .entry)) (now (deadlines .entry)) (now (counts .entry)) (now (clients .entry)) (now (originals .entry)) (now (top .entry)) (now (cursor .entry)) (now (attached .entry)) (now (clock .entry)) (now (timeout .entry)) (now (join .entry)) (now (tagged .entry)) (now (tags .entry))) (asks client time (now (frame .entry)) (now (out .entry))) r
+        (device (now (ids .exit)) (now (asked .exit)) (now (notes .exit)) (now (deadlines .exit)) (now (counts .exit)) (now (clients .exit)) (now (originals .exit)) (now (top .exit)) (now (cursor .exit)) (now (attached .exit)) (now (clock .exit)) (now (timeout .exit)) (now (join .exit)) (now (tagged .exit)) (now (tags .exit))) (now (out .exit)) [] ⌝ }
+{
+    machine::report_of(requesting::request(
+        ids,
+        asked,
+        notes,
+        deadlines,
+        counts,
+        clients,
+        originals,
+        top,
+        cursor,
+        attached,
+        clock,
+        timeout,
+        join,
+        tagged,
+        tags,
+        client,
+        time,
+        frame,
+        out,
+    ))
+}
+
+// The controller's reply.
+pub fn reply<'a>(
+    ids: &'a mut [u32; laws::PLACES],
+    asked: &'a mut [u64; laws::PLACES],
+    notes: &'a mut [u8; laws::PLACES],
+    deadlines: &'a mut [u64; laws::PLACES],
+    counts: &'a mut [u8; laws::PLACES],
+    clients: &'a mut [u8; laws::PARTY_PLACES],
+    originals: &'a mut [u16; laws::PARTY_PLACES],
+    top: &'a mut u32,
+    cursor: &'a mut u16,
+    attached: &'a mut u32,
+    clock: &'a mut u64,
+    timeout: &'a mut u32,
+    join: &'a mut u32,
+    tagged: &'a mut u32,
+    tags: &'a mut [u64; laws::MOST_TAGS],
+    time: u64,
+    frame: &[u8],
+    out: &mut [u8],
+    list: &mut [u16],
+) -> Report
+    requires { ⌜ Made (device (now ids) (now asked) (now notes) (now deadlines) (now counts) (now clients) (now originals) (now top) (now cursor) (now attached) (now clock) (now timeout) (now join) (now tagged) (now tags)) ⌝ }
+    ensures { λ r. ⌜ Served (device (now (ids .entry)) (now (asked .entry)) (now (notes .entry)) (now (deadlines .entry)) (now (counts .entry)) (now (clients .entry)) (now (originals .entry)) (now (top .entry)) (now (cursor .entry)) (now (attached .entry)) (now (clock .entry)) (now (timeout .entry)) (now (join .entry)) (now (tagged .entry)) (now (tags .entry))) (replies time (now (frame .entry)) (now (out .entry)) (now (list .entry))) r
+        (device (now (ids .exit)) (now (asked .exit)) (now (notes .exit)) (now (deadlines .exit)) (now (counts .exit)) (now (clients .exit)) (now (originals .exit)) (now (top .exit)) (now (cursor .exit)) (now (attached .exit)) (now (clock .exit)) (now (timeout .exit)) (now (join .exit)) (now (tagged .exit)) (now (tags .exit))) (now (out .exit)) (now (list .exit)) ⌝ }
+{
+    machine::report_of(replying::reply(
+        ids,
+        asked,
+        notes,
+        deadlines,
+        counts,
+        clients,
+        originals,
+        top,
+        cursor,
+        attached,
+        clock,
+        timeout,
+        join,
+        tagged,
+        tags,
+        time,
+        frame,
+        out,
+        list,
+    ))
+}
+
+// Time goes on.
+pub fn tick<'a>(
+    ids: &'a mut [u32; laws::PLACES],
+    asked: &'a mut [u64; laws::PLACES],
+    notes: &'a mut [u8; laws::PLACES],
+    deadlines: &'a mut [u64; laws::PLACES],
+    counts: &'a mut [u8; laws::PLACES],
+    clients: &'a mut [u8; laws::PARTY_PLACES],
+    originals: &'a mut [u16; laws::PARTY_PLACES],
+    top: &'a mut u32,
+    cursor: &'a mut u16,
+    attached: &'a mut u32,
+    clock: &'a mut u64,
+    timeout: &'a mut u32,
+    join: &'a mut u32,
+    tagged: &'a mut u32,
+    tags: &'a mut [u64; laws::MOST_TAGS],
+    time: u64,
+    out: &mut [u8],
+    list: &mut [u16],
+) -> Report
+    requires { ⌜ Made (device (now ids) (now asked) (now notes) (now deadlines) (now counts) (now clients) (now originals) (now top) (now cursor) (now attached) (now clock) (now timeout) (now join) (now tagged) (now tags)) ⌝ }
+    ensures { λ r. ⌜ Served (device (now (ids .entry)) (now (asked .entry)) (now (notes .entry)) (now (deadlines .entry)) (now (counts .entry)) (now (clients .entry)) (now (originals .entry)) (now (top .entry)) (now (cursor .entry)) (now (attached .entry)) (now (clock .entry)) (now (timeout .entry)) (now (join .entry)) (now (tagged .entry)) (now (tags .entry))) (ticks time (now (out .entry)) (now (list .entry))) r
+        (device (now (ids .exit)) (now (asked .exit)) (now (notes .exit)) (now (deadlines .exit)) (now (counts .exit)) (now (clients .exit)) (now (originals .exit)) (now (top .exit)) (now (cursor .exit)) (now (attached .exit)) (now (clock .exit)) (now (timeout .exit)) (now (join .exit)) (now (tagged .exit)) (now (tags .exit))) (now (out .exit)) (now (list .exit)) ⌝ }
+{
+    machine::report_of(replying::tick(
+        ids,
+        asked,
+        notes,
+        deadlines,
+        counts,
+        clients,
+        originals,
+        top,
+        cursor,
+        attached,
+        clock,
+        timeout,
+        join,
+        tagged,
+        tags,
+        time,
+        out,
+        list,
+    ))
+}
+
+// The link is lost.
+pub fn link_lost<'a>(
+    ids: &'a mut [u32; laws::PLACES],
+    top: &'a mut u32,
+    attached: &'a mut u32,
+) -> Report
+    ensures { λ r. ⌜ ((asked notes deadlines counts clients originals : List ℕ) (cursor clock timeout join tagged : ℕ) (tags : List ℕ)
+        → Made (device (now (ids .entry)) asked notes deadlines counts clients originals (now (top .entry)) cursor (now (attached .entry)) clock timeout join tagged tags)
+        → Served (device (now (ids .entry)) asked notes deadlines counts clients originals (now (top .entry)) cursor (now (attached .entry)) clock timeout join tagged tags) (linkLost) r
+        (device (now (ids .exit)) asked notes deadlines counts clients originals (now (top .exit)) cursor (now (attached .exit)) clock timeout join tagged tags) [] []) ⌝ }
+{
+    machine::report_of(proxy::attaching::link_lost(ids, top, attached))
+}

@@ -1,0 +1,187 @@
+// The C boundary: the device that a host lends, and the calls on it.
+mod cores;
+pub mod deviceless;
+mod reports;
+
+use machine::Report;
+use settings::Settings;
+ghost use mathlib.Core.List.{[]};
+ghost use Rattle.machine.specs.Calls.Call.{attach as attaches, detach as detaches, request as asks, reply as replies, tick as ticks, linkLost};
+ghost use Rattle.zilborteka.specs.Device.{Made, Served, Freshly};
+
+// The device's state, changed in place: C's struct zb_state.
+#[repr(C)]
+pub struct Device {
+    pub ids: [u32; laws::PLACES],
+    pub asked: [u64; laws::PLACES],
+    pub notes: [u8; laws::PLACES],
+    pub deadlines: [u64; laws::PLACES],
+    pub counts: [u8; laws::PLACES],
+    pub clients: [u8; laws::PARTY_PLACES],
+    pub originals: [u16; laws::PARTY_PLACES],
+    pub top: u32,
+    pub cursor: u16,
+    pub attached: u32,
+    pub clock: u64,
+    pub timeout: u32,
+    pub join: u32,
+    pub tagged: u32,
+    pub tags: [u64; laws::MOST_TAGS],
+}
+
+// Makes the device fresh from a settings value, whatever it was. An invalid value is refusal 10, and the device then has the usual one.
+#[no_mangle]
+pub extern "C" fn zb_fresh(st: &mut Device, from: Settings) -> Report
+    ensures { λ r. ⌜ Freshly from r (now (st .exit)) ⌝ }
+{
+    cores::fresh(
+        &mut st.ids,
+        &mut st.asked,
+        &mut st.notes,
+        &mut st.deadlines,
+        &mut st.counts,
+        &mut st.clients,
+        &mut st.originals,
+        &mut st.top,
+        &mut st.cursor,
+        &mut st.attached,
+        &mut st.clock,
+        &mut st.timeout,
+        &mut st.join,
+        &mut st.tagged,
+        &mut st.tags,
+        from,
+    )
+}
+
+// Attaches a client.
+#[no_mangle]
+pub extern "C" fn zb_attach(st: &mut Device, client: u32) -> Report
+    requires { ⌜ Made (now st) ⌝ }
+    ensures { λ r. ⌜ Served (now (st .entry)) (attaches client) r (now (st .exit)) [] [] ⌝ }
+{
+    cores::attach(&mut st.attached, client)
+}
+
+// Detaches a client, and strikes its parties out.
+#[no_mangle]
+pub extern "C" fn zb_detach(st: &mut Device, client: u32) -> Report
+    requires { ⌜ Made (now st) ⌝ }
+    ensures { λ r. ⌜ Served (now (st .entry)) (detaches client) r (now (st .exit)) [] [] ⌝ }
+{
+    cores::detach(
+        &mut st.counts,
+        &mut st.clients,
+        &mut st.originals,
+        &mut st.top,
+        &mut st.attached,
+        client,
+    )
+}
+
+// A client's request.
+#[no_mangle]
+pub extern "C" fn zb_request(
+    st: &mut Device,
+    client: u32,
+    time: u64,
+    frame: &[u8],
+    out: &mut [u8],
+) -> Report
+    requires { ⌜ Made (now st) ⌝ }
+    ensures { λ r. ⌜ Served (now (st .entry)) (asks client time (now (frame .entry)) (now (out .entry))) r (now (st .exit)) (now (out .exit)) [] ⌝ }
+{
+    cores::request(
+        &mut st.ids,
+        &mut st.asked,
+        &mut st.notes,
+        &mut st.deadlines,
+        &mut st.counts,
+        &mut st.clients,
+        &mut st.originals,
+        &mut st.top,
+        &mut st.cursor,
+        &mut st.attached,
+        &mut st.clock,
+        &mut st.timeout,
+        &mut st.join,
+        &mut st.tagged,
+        &mut st.tags,
+        client,
+        time,
+        frame,
+        out,
+    )
+}
+
+// The controller's reply.
+#[no_mangle]
+pub extern "C" fn zb_reply(
+    st: &mut Device,
+    time: u64,
+    frame: &[u8],
+    out: &mut [u8],
+    list: &mut [u16],
+) -> Report
+    requires { ⌜ Made (now st) ⌝ }
+    ensures { λ r. ⌜ Served (now (st .entry)) (replies time (now (frame .entry)) (now (out .entry)) (now (list .entry))) r (now (st .exit)) (now (out .exit)) (now (list .exit)) ⌝ }
+{
+    cores::reply(
+        &mut st.ids,
+        &mut st.asked,
+        &mut st.notes,
+        &mut st.deadlines,
+        &mut st.counts,
+        &mut st.clients,
+        &mut st.originals,
+        &mut st.top,
+        &mut st.cursor,
+        &mut st.attached,
+        &mut st.clock,
+        &mut st.timeout,
+        &mut st.join,
+        &mut st.tagged,
+        &mut st.tags,
+        time,
+        frame,
+        out,
+        list,
+    )
+}
+
+// Time goes on.
+#[no_mangle]
+pub extern "C" fn zb_tick(st: &mut Device, time: u64, out: &mut [u8], list: &mut [u16]) -> Report
+    requires { ⌜ Made (now st) ⌝ }
+    ensures { λ r. ⌜ Served (now (st .entry)) (ticks time (now (out .entry)) (now (list .entry))) r (now (st .exit)) (now (out .exit)) (now (list .exit)) ⌝ }
+{
+    cores::tick(
+        &mut st.ids,
+        &mut st.asked,
+        &mut st.notes,
+        &mut st.deadlines,
+        &mut st.counts,
+        &mut st.clients,
+        &mut st.originals,
+        &mut st.top,
+        &mut st.cursor,
+        &mut st.attached,
+        &mut st.clock,
+        &mut st.timeout,
+        &mut st.join,
+        &mut st.tagged,
+        &mut st.tags,
+        time,
+        out,
+        list,
+    )
+}
+
+// The link is lost.
+#[no_mangle]
+pub extern "C" fn zb_link_lost(st: &mut Device) -> Report
+    requires { ⌜ Made (now st) ⌝ }
+    ensures { λ r. ⌜ Served (now (st .entry)) (linkLost) r (now (st .exit)) [] [] ⌝ }
+{
+    cores::link_lost(&mut st.ids, &mut st.top, &mut st.attached)
+}
