@@ -1,0 +1,74 @@
+/* Two screens and a controller, without sockets: the whole cycle of calls, and what goes where. */
+#include "zilborteka.h"
+#include <stdio.h>
+#include <string.h>
+
+static zb_state device;
+static uint8_t out[260];
+static uint16_t list[16];
+
+static const char *const names[] = {
+    "refused", "done", "issued", "joined", "exception", "answered", "timed out", "nothing due", "frame", "more needed",
+};
+
+static void bytes(const uint8_t *frame, uint32_t length)
+{
+    for (uint32_t k = 0; k < length; k++)
+        printf(" %02X", frame[k]);
+    printf("\n");
+}
+
+/* What a call reports, and the frame that it wrote. */
+static void told(const char *call, zb_answer a)
+{
+    printf("%-28s %s", call, names[a.outcome]);
+    if (a.refusal)
+        printf(" with %u", (unsigned)a.refusal);
+    printf("%s", a.length ? ":" : "\n");
+    if (a.length)
+        bytes(out, a.length);
+}
+
+/* The host lays each party's own id over the first two bytes and sends the frame to it. */
+static void deliver(zb_answer a)
+{
+    for (uint32_t k = 0; k < a.parties; k++) {
+        out[0] = (uint8_t)(list[2 * k + 1] >> 8);
+        out[1] = (uint8_t)list[2 * k + 1];
+        printf("  to screen %u:", (unsigned)list[2 * k]);
+        bytes(out, a.length);
+    }
+}
+
+int main(void)
+{
+    static const char text[] = "version=1\ntimeout=3000\njoin=1\ntags=2\naddr=1024\nwidth=16\naddr=1026\nwidth=32\n";
+    static const uint8_t read_3[] = {0x12, 0x34, 0, 0, 0, 6, 1, 3, 4, 0, 0, 1};
+    static const uint8_t read_5[] = {0x00, 0x07, 0, 0, 0, 6, 1, 3, 4, 0, 0, 1};
+    static const uint8_t reply[] = {0, 0, 0, 0, 0, 5, 1, 3, 2, 0x12, 0x34};
+
+    zb_read settings = zb_settings_read((const uint8_t *)text, strlen(text));
+    told("settings text read", settings.answer);
+    told("fresh", zb_fresh(&device, settings.settings));
+    told("screen 3 attaches", zb_attach(&device, 3));
+    told("screen 5 attaches", zb_attach(&device, 5));
+    told("screen 3 reads 1024 at 100", zb_request(&device, 3, 100, read_3, sizeof read_3, out, sizeof out));
+    told("screen 5 reads 1024 at 101", zb_request(&device, 5, 101, read_5, sizeof read_5, out, sizeof out));
+    zb_answer a = zb_reply(&device, 150, reply, sizeof reply, out, sizeof out, list, 16);
+    told("the controller replies", a);
+    deliver(a);
+    told("the same reply again", zb_reply(&device, 151, reply, sizeof reply, out, sizeof out, list, 16));
+    told("screen 3 reads 1024 at 200", zb_request(&device, 3, 200, read_3, sizeof read_3, out, sizeof out));
+    told("tick at 3199", zb_tick(&device, 3199, out, sizeof out, list, 16));
+    for (a = zb_tick(&device, 3200, out, sizeof out, list, 16); a.outcome == ZB_TIMED_OUT;
+         a = zb_tick(&device, 3200, out, sizeof out, list, 16)) {
+        told("tick at 3200", a);
+        deliver(a);
+    }
+    told("tick at 3200", a);
+    told("screen 5 leaves", zb_detach(&device, 5));
+    a = zb_link_lost(&device);
+    told("the link is lost", a);
+    printf("  screens to disconnect, as bits: 0x%08X\n", (unsigned)a.set);
+    return 0;
+}

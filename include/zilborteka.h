@@ -1,0 +1,107 @@
+/* The C boundary of the register proxy.
+   Every call may be given any bytes, any client number and any time, and a state that these calls made.
+   No pointer is NULL, even with length 0. State, frame, out and list do not overlap. The state is aligned to
+   8 bytes, a list to 2. One state is used by one thread at a time. zb_fresh comes first. */
+#ifndef ZILBORTEKA_H
+#define ZILBORTEKA_H
+#include <stdint.h>
+#include <stddef.h>
+#include <stdbool.h>
+
+/* One device's state, which only these calls make and change; the host owns the memory and lends it for each call.
+   The fields are spelled out so that a host can place a device statically. They are not for the host to read or write. */
+#define ZB_PLACES 64
+#define ZB_PARTY_PLACES 512
+#define ZB_MOST_TAGS 256
+typedef struct zb_state {
+    uint32_t ids[ZB_PLACES];             /* a live place: its proxy id plus 1; 0: free */
+    uint64_t asked[ZB_PLACES];           /* what was asked, in one word */
+    uint8_t  notes[ZB_PLACES];           /* who issued it */
+    uint64_t deadlines[ZB_PLACES];
+    uint8_t  counts[ZB_PLACES];          /* parties of the entry */
+    uint8_t  clients[ZB_PARTY_PLACES];   /* entry number times eight plus place */
+    uint16_t originals[ZB_PARTY_PLACES]; /* the clients' own ids, in the same places */
+    uint32_t top;                        /* no place from here on is live */
+    uint16_t cursor;                     /* the next proxy id to try */
+    uint32_t attached;                   /* bit n for client n */
+    uint64_t clock;
+    uint32_t timeout;
+    uint32_t join;
+    uint32_t tagged;                     /* how many tags */
+    uint64_t tags[ZB_MOST_TAGS];         /* a word a tag */
+} zb_state;
+
+#define ZB_STATE_SIZE 5032
+_Static_assert(sizeof(zb_state) == ZB_STATE_SIZE, "zb_state has the size that the core was proved for");
+
+size_t zb_state_size(void);
+
+typedef struct {
+    uint32_t timeout;     /* 100 to 60000 ms */
+    uint32_t join;        /* 0 or 1 */
+    uint32_t tags;        /* 0 to 256: how many of the places below count */
+    uint16_t addr[256];
+    uint16_t width[256];  /* 16 or 32 */
+} zb_settings;
+
+/* What a call reports. A field that a call does not speak of is 0. */
+typedef struct {
+    uint32_t refusal;  /* 0, or the refusal number 1 to 10 */
+    uint32_t line;     /* refusal 10 on reading: the first wrong line */
+    uint32_t outcome;  /* ZB_..., 0 on a refusal */
+    uint32_t length;   /* bytes written to the frame buffer or text buffer (split: of the first frame) */
+    uint32_t parties;  /* pairs (client, original id) written to the list */
+    uint32_t partial;  /* tags left raw for partial cover */
+    uint32_t value;    /* tags left raw for their value */
+    uint32_t set;      /* link lost: the clients that were attached, bit n for client n */
+    uint32_t id;       /* issued, joined, answered, timed out: the proxy id of the entry */
+    uint32_t code;     /* exception: its code */
+} zb_answer;
+
+enum {
+    ZB_DONE = 1,        /* fresh, read, write, attach, detach, link lost: done */
+    ZB_ISSUED = 2,      /* request: the frame for the controller is written */
+    ZB_JOINED = 3,      /* request: it waits with another's read, nothing is written */
+    ZB_EXCEPTION = 4,   /* request: an exception for the caller is written */
+    ZB_ANSWERED = 5,    /* reply: the frame and its list are written */
+    ZB_TIMED_OUT = 6,   /* tick: the exception 0B and its list are written */
+    ZB_NOTHING_DUE = 7, /* tick */
+    ZB_FRAME = 8,       /* split: the first `length` bytes of the run are a frame */
+    ZB_MORE = 9         /* split: more bytes are needed */
+};
+
+typedef struct { zb_answer answer; zb_settings settings; } zb_read;
+
+/* Lengths: a frame buffer `out` has at least 260 bytes and a list at least 16 numbers, else refusal 1, whatever would be written.
+   Whatever is lent is used during the call alone. A refusal changes no state and no byte; bytes and numbers beyond those written stay.
+
+   Refusals, the lowest that applies:
+   1  a lent output buffer is shorter than stated
+   2  the client number is above 31, or not attached (attach: only above 31)
+   3  the time is above 2^63 - 1, or below the state's clock
+   4  request or reply: size not 8 to 260, protocol not 0, or length field not size - 6; split: the header is wrong
+   5  request: function 0 or 128 to 255
+   6  the PDU's length is wrong for request 03, 04, 06 or 16
+   7  the reply's id is not live
+   8  the reply's id is live but it does not answer that request; the entry stays
+   9  attach of an attached client
+   10 the settings text is wrong, with its first wrong line; or a settings value is invalid, with line 0 */
+
+zb_read   zb_settings_read(const uint8_t *text, size_t text_len);
+zb_answer zb_settings_write(zb_settings from, uint8_t *text, size_t text_len);
+zb_answer zb_fresh(zb_state *st, zb_settings from);
+zb_answer zb_attach(zb_state *st, uint32_t client);
+zb_answer zb_detach(zb_state *st, uint32_t client);
+zb_answer zb_request(zb_state *st, uint32_t client, uint64_t now,
+                     const uint8_t *frame, size_t frame_len,
+                     uint8_t *out, size_t out_len);
+zb_answer zb_reply(zb_state *st, uint64_t now,
+                   const uint8_t *frame, size_t frame_len,
+                   uint8_t *out, size_t out_len,
+                   uint16_t *list, size_t list_len);
+zb_answer zb_tick(zb_state *st, uint64_t now,
+                  uint8_t *out, size_t out_len,
+                  uint16_t *list, size_t list_len);
+zb_answer zb_link_lost(zb_state *st);
+zb_answer zb_split(const uint8_t *run, size_t run_len);
+#endif
