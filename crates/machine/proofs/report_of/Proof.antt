@@ -1,3 +1,5 @@
+-- `machine::report_of` meets its contract: each answer's case gives the numbers of its definition.
+-- Assumes nothing.
 use mathlib.Core.Path.{sym, ap, _∙_}
 use Rattle.machine.specs.Numbers.{numbers}
 use borrow.Author.Needs.{needs}

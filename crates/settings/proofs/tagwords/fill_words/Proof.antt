@@ -1,3 +1,5 @@
+-- `settings::tagwords::fill_words` meets its contract: the words of the tags stand in their places, and 0 in the places behind.
+-- Assumes nothing.
 use Prim.Native.Nat.{_-_}
 use native.Mathlib.Omega.{arith}
 use Rattle.settings.proofs.TagLaws.{Worded, worded-none, worded-more, worded-all}

@@ -1,3 +1,5 @@
+-- `settings::tagwords::kind_from` meets its contract: a number gives the kind that has it.
+-- Assumes nothing.
 use borrow.Author.Tests.{eq-eqb, ne-eqb}
 use Rattle.settings.specs.TagWords.{kindFrom}
 use Rattle.settings.proofs.tagwords.kind_from.Statement.{statement}

@@ -1,3 +1,5 @@
+-- `settings::tagwords::kind_number` meets its contract: each kind has its number.
+-- Assumes nothing.
 use Rattle.settings.specs.TagWords.{kindNumber}
 use borrow.Author.Needs.{needs}
 use Rattle.settings.proofs.tagwords.kind_number.Statement.{statement}

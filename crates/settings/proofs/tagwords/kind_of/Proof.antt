@@ -1,3 +1,5 @@
+-- `settings::tagwords::kind_of` meets its contract: a width gives its kind.
+-- Assumes nothing.
 use borrow.Author.Tests.{eq-eqb, ne-eqb}
 use Rattle.settings.specs.TagWords.{kindOf}
 use Rattle.settings.proofs.tagwords.kind_of.Statement.{statement}

@@ -1,3 +1,5 @@
+-- `settings::tagwords::settings_from` meets its contract: the tags of the words are the tags of the value, and unused places are 0.
+-- Assumes nothing.
 use Prim.Native.Nat.{_-_}
 use mathlib.Core.Path.{ap, _∙_}
 use native.Mathlib.Omega.{arith}

@@ -1,3 +1,5 @@
+-- `settings::tagwords::tag_address` meets its contract: the lowest 16 bits of a tag's word are its address.
+-- Assumes nothing.
 use Rattle.settings.specs.TagWords.{tagOf}
 use borrow.Author.Needs.{needs}
 use Rattle.settings.proofs.tagwords.tag_address.Statement.{statement}

@@ -1,3 +1,5 @@
+-- `settings::tagwords::tag_kind` meets its contract: the 8 bits above the address are the kind's number.
+-- Assumes nothing.
 use mathlib.Core.Path.{sym, _∙_}
 use Rattle.settings.proofs.TagLaws.{kind-of-word}
 use borrow.Author.Needs.{needs}

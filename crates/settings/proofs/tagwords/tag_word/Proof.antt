@@ -1,3 +1,5 @@
+-- `settings::tagwords::tag_word` meets its contract: address and kind make the word.
+-- Assumes nothing.
 use mathlib.Core.Path.{ap, _∙_}
 use Prim.Native.Nat.{ℕ, _+_, _*_}
 use Rattle.laws.specs.Numbers.{addresses}

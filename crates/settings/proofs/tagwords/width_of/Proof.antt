@@ -1,3 +1,5 @@
+-- `settings::tagwords::width_of` meets its contract: a kind gives its width.
+-- Assumes nothing.
 use Rattle.settings.specs.TagWords.{widthOf}
 use borrow.Author.Needs.{needs}
 use Rattle.settings.proofs.tagwords.width_of.Statement.{statement}

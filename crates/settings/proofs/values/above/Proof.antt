@@ -1,3 +1,5 @@
+-- `settings::values::above` meets its contract: the first address behind a tag.
+-- Assumes nothing.
 use native.Mathlib.Omega.{arith}
 use borrow.Author.Tests.{eq-eqb, ne-eqb}
 use borrow.Author.Needs.{needs}

@@ -1,3 +1,5 @@
+-- `settings::values::are_equal` meets its contract: timeout, join and the listed tags decide, tag by tag.
+-- Assumes nothing.
 use Rattle.laws.specs.Numbers.{mostTags}
 use Prim.Native.Nat.{_≤_, _-_, min}
 use native.Mathlib.Omega.{arith}

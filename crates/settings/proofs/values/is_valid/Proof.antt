@@ -1,3 +1,5 @@
+-- `settings::values::is_valid` meets its contract: the loop over the tags decides what the definition says of the value.
+-- Assumes nothing.
 use mir.Syntax.{w16}
 use mir.Val.{Fits}
 use lib.ListN.{getD}

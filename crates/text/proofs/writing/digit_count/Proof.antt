@@ -1,3 +1,5 @@
+-- `text::writing::digit_count` meets its contract: so many digits has the number in decimal.
+-- Assumes nothing.
 use native.Mathlib.Omega.{arith}
 use Rattle.text.proofs.WritingLaws.{Counted, counted-none, counted-more, counted-all, decimal-most}
 use borrow.Author.Needs.{needs}

@@ -1,3 +1,5 @@
+-- `text::writing::head_length` meets its contract: the sum of the first four lines' lengths.
+-- Assumes nothing.
 use native.Mathlib.Omega.{arith}
 use Rattle.text.proofs.WritingLaws.{length-head}
 use borrow.Author.Needs.{needs}

@@ -1,3 +1,5 @@
+-- `text::writing::line_length` meets its contract: key, '=', digits and LF.
+-- Assumes nothing.
 use native.Mathlib.Omega.{arith}
 use denote.Ref.{now}
 use Rattle.text.proofs.WritingLaws.{decimal-most, length-line}

@@ -1,3 +1,5 @@
+-- `text::writing::tag_length` meets its contract: the two lines of a tag.
+-- Assumes nothing.
 use native.Mathlib.Omega.{arith}
 use Rattle.text.proofs.WritingLaws.{length-tag}
 use borrow.Author.Needs.{needs}

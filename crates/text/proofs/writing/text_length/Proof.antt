@@ -1,3 +1,5 @@
+-- `text::writing::text_length` meets its contract: the loop over the tags adds up the text's length.
+-- Assumes nothing.
 use Prim.Native.Nat.{_-_}
 use native.Mathlib.Omega.{arith}
 use Rattle.text.proofs.WritingLaws.{Measured, measured-none, measured-more, measured-all}

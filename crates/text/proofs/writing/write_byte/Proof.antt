@@ -1,3 +1,5 @@
+-- `text::writing::write_byte` meets its contract: one byte at its place, the rest as it was.
+-- Assumes nothing.
 use denote.Ref.{now}
 use Rattle.text.proofs.WritingLaws.{laid-byte}
 use borrow.Author.Needs.{needs}

@@ -1,3 +1,5 @@
+-- `text::writing::write_bytes` meets its contract: the bytes at their places, the rest as it was.
+-- Assumes nothing.
 use native.Mathlib.Omega.{arith}
 use Prim.Native.Nat.{_-_}
 use lib.ListN.{length}

@@ -1,3 +1,5 @@
+-- `text::writing::write_decimal` meets its contract: the digits from the last to the first.
+-- Assumes nothing.
 use Prim.Native.Nat.{_+_}
 use mathlib.Core.Path.{_≡_}
 use native.Mathlib.Omega.{arith}

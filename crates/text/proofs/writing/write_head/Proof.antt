@@ -1,3 +1,5 @@
+-- `text::writing::write_head` meets its contract: the first four lines, the rest as it was.
+-- Assumes nothing.
 use native.Mathlib.Omega.{arith}
 use Rattle.text.proofs.WritingLaws.{length-head, laid-head}
 use borrow.Author.Needs.{needs}

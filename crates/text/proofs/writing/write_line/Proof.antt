@@ -1,3 +1,5 @@
+-- `text::writing::write_line` meets its contract: one line, the rest as it was.
+-- Assumes nothing.
 use native.Mathlib.Omega.{arith}
 use denote.Ref.{now}
 use Rattle.text.proofs.WritingLaws.{length-line, laid-line}

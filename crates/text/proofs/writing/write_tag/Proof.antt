@@ -1,3 +1,5 @@
+-- `text::writing::write_tag` meets its contract: the two lines of a tag, the rest as it was.
+-- Assumes nothing.
 use native.Mathlib.Omega.{arith}
 use Rattle.text.proofs.WritingLaws.{length-tag, laid-tag}
 use borrow.Author.Needs.{needs}

@@ -1,3 +1,5 @@
+-- `text::writing::write_tags` meets its contract: the lines of all tags, one tag a turn.
+-- Assumes nothing.
 use Prim.Native.Nat.{_≤_, _-_}
 use native.Mathlib.Omega.{arith}
 use denote.Ref.{now}

@@ -1,3 +1,5 @@
+-- `text::writing::write_text` meets its contract: refusal 10, refusal 1, or the one text and nothing beyond it.
+-- Assumes nothing.
 use mathlib.Core.Path.{sym, _∙_}
 use native.Mathlib.Omega.{arith}
 use borrow.Author.Tests.{not-true, not-false}
