@@ -10,3 +10,4 @@ pub mod EntryRequest
 pub mod EntryReply
 pub mod EntryTick
 pub mod EntryLinkLost
+pub mod OnlyOne

@@ -1,0 +1,41 @@
+-- Only one outcome fits: two outcomes that meet the contract of an exported function are the same report, the same lent bytes and the same machine afterwards.
+-- Assumes nothing.
+use Prim.Native.Nat.{ℕ}
+use mathlib.Core.Path.{_≡_, ap, sym, _∙_}
+use mathlib.Core.List.{List}
+use lib.ListN.{length}
+use Rattle.wire.specs.Splitting.{standingOf, firstFrame}
+use Rattle.settings.specs.declared.Settings.{Settings}
+use Rattle.settings.specs.Grammar.{readText}
+use Rattle.settings.specs.Values.{valueOf}
+use Rattle.text.specs.Reports.{writtenTo}
+use Rattle.machine.specs.Calls.{Call}
+use Rattle.machine.specs.declared.Report.{Report}
+use Rattle.proxy.specs.State.{machineOf}
+use Rattle.zilborteka.specs.declared.Device.{Device}
+use Rattle.zilborteka.specs.declared.deviceless.SettingsRead.{SettingsRead}
+use Rattle.zilborteka.specs.Seen.{Seen, seen}
+use Rattle.zilborteka.specs.Reports.{TextSeen, textSeen, splitTold, readTold, writeTold}
+use Rattle.zilborteka.specs.Device.{stateOf, Served, Freshly}
+
+-- Attach, detach, request, reply, tick, link lost: from one device, one call has one report, one machine afterwards, and one content of each lent buffer.
+pub one-outcome : (d : Device) (x : Call) {r q : Report} {e f : Device} {w v l m : List ℕ} → Served d x r e w l → Served d x q f v m
+    → (r ≡ q) × (machineOf (stateOf e) ≡ machineOf (stateOf f)) × (w ≡ v) × (l ≡ m)
+one-outcome d x s t =
+    let p = s .0 ∙ sym (t .0) in
+    (ap (λ (y : Seen). y .says) p, ap (λ (y : Seen). y .after) p, ap (λ (y : Seen). y .written) p, ap (λ (y : Seen). y .listed) p)
+
+-- Fresh: from one settings value, one report and one machine.
+pub one-fresh : (from : Settings) {r q : Report} {e f : Device} → Freshly from r e → Freshly from q f → (r ≡ q) × (machineOf (stateOf e) ≡ machineOf (stateOf f))
+one-fresh from s t = (s .0 ∙ sym (t .0), s .1 ∙ sym (t .1))
+
+-- Split and reading: one report. Writing: one report and one content of the buffer.
+pub one-split : (run : List ℕ) {r q : Report} → r ≡ splitTold (standingOf run) (length (firstFrame run)) → q ≡ splitTold (standingOf run) (length (firstFrame run)) → r ≡ q
+one-split run s t = s ∙ sym t
+
+pub one-read : (text : List ℕ) {r q : SettingsRead} → r ≡ readTold (readText text) → q ≡ readTold (readText text) → r ≡ q
+one-read text s t = s ∙ sym t
+
+pub one-write : (from : Settings) (text : List ℕ) {r q : Report} {a b : List ℕ} → textSeen r a ≡ writeTold (writtenTo (valueOf from) text) → textSeen q b ≡ writeTold (writtenTo (valueOf from) text)
+    → (r ≡ q) × (a ≡ b)
+one-write from text s t = let p = s ∙ sym t in (ap (λ (y : TextSeen). y .says) p, ap (λ (y : TextSeen). y .buffer) p)
