@@ -37,18 +37,29 @@ use Rattle.book.specs.Machine.{Accounted, after, history}
 use Rattle.book.proofs.History.{issues-differ, always-sound}
 use Rattle.book.proofs.LedgerLaws.{successor}
 use Rattle.machine.specs.Machine.{Machine, Note, made, rules, settings, clocked}
-use Rattle.machine.specs.Calls.{Call, Done}
+use Rattle.machine.specs.Calls.{Call, Done, done, outOf, listOf}
 use Rattle.machine.specs.Calls.Call.{attach, detach, request, reply, tick, linkLost}
 use Rattle.machine.specs.Refusals.{refusal}
-use Rattle.machine.specs.Requests.{wanted, joins}
+use Rattle.machine.specs.Requests.{wanted, partyOf, joins}
 use Rattle.machine.specs.Outcomes.{outcome}
 use Rattle.machine.specs.declared.Answer.the-variants as answer
-use Rattle.machine.proofs.OutcomeLaws.{clocked-at}
-use Rattle.machine.proofs.RequestLaws.{exception-04 as said-exactly}
+use Rattle.machine.proofs.RefusalLaws.{table, Applies, refused-exactly}
+use Rattle.machine.proofs.OutcomeLaws.{clocked-at, says-refusal, refused-is}
+use Rattle.machine.proofs.RequestLaws.{codeOf, no-other-exception, exception-04 as said-exactly}
+use Rattle.machine.proofs.PartyLaws.{Accepts, Stands, accepted-stands}
 use Rattle.machine.proofs.AnswerLaws.{Answers, Expires, reply-answers, tick-expires, idle-when}
 use Rattle.machine.proofs.ReadBack.{Carries, comes-back}
 use Rattle.machine.proofs.TickLaws.{ticked, ticking-ends}
 use Rattle.machine.proofs.Histories.{product, afterCalls, toldBy, ledgerOf, accounted}
+
+-- Tender 1: a call refuses by the numbers in document 01. It says the refusal n exactly if row n of the document's table applies to it and no lower row does.
+pub refuses-by-the-table : (m : Machine) (x : Call) (n : ℕ) → (n ≡ 0 → ⊥)
+    → (outcome m x .says ≡ answer.Refused n) ↔ (Applies (table m x) n × ((k : ℕ) → k < n → Applies (table m x) k → ⊥))
+refuses-by-the-table = says-refusal
+
+-- Tender 1: a refusal changes no state and no lent byte.
+pub a-refusal-changes-nothing : (m : Machine) (x : Call) (n : ℕ) → (n ≡ 0 → ⊥) → outcome m x .says ≡ answer.Refused n → outcome m x ≡ done (answer.Refused n) m (outOf x) (listOf x)
+a-refusal-changes-nothing m x n h s = sym (refused-is m x n (refused-exactly m x n h .1 (says-refusal m x n h .0 s)) h)
 
 -- Tender 3, the sum: accepted = answered by a reply + answered by timeout + dropped by a leaving + dropped by a lost link + held in the party places; each accepted
 -- request is in one group and there once; the held ones are, entry by entry and in order, the parties in the places; each answer's list is exactly those that it answers.
@@ -76,12 +87,21 @@ module _ (v : Value) (xs : List Call) where
   pub the-others-differ : (i j : ℕ) → i < j → j ≤ i + 65472 → j < length (ledgerOf v xs .issues) → getD (ledgerOf v xs .issues) i 0 ≡ getD (ledgerOf v xs .issues) j 0 → ⊥
   the-others-differ = issues-differ rules (afterCalls v xs .book) (toldBy v xs) (ledgerOf v xs) (accounted v xs)
 
+  -- Tender 3: an accepted request stands in the party places afterwards, as the latest party of a live entry that asks what it asks.
+  pub the-accepted-stand : (c t : ℕ) (f o : List ℕ) (id : ℕ)
+      → Accepts (outcome (afterCalls v xs) (request c t f o) .says) id → Stands (outcome (afterCalls v xs) (request c t f o) .after .book) id (wanted f) (partyOf c f)
+  the-accepted-stand c t f o id = accepted-stands (afterCalls v xs) c t f o good id
+
   -- Tender 3: the proxy itself gives exception 04 exactly when a legal request can join nothing and 64 are live.
   pub exception-04-exactly : (c t : ℕ) (f o : List ℕ)
       → (outcome (afterCalls v xs) (request c t f o) .says ≡ answer.Excepted 4)
       ↔ ((refusal (afterCalls v xs) (request c t f o) ≡ 0) × (legal (settings (afterCalls v xs)) f ≡ true)
       × NoneOpen rules (clocked (afterCalls v xs) t .book) (joins (settings (afterCalls v xs)) (wanted f)) × AllLive rules (clocked (afterCalls v xs) t .book))
   exception-04-exactly c t f o = said-exactly (afterCalls v xs) c t f o good
+
+  -- and no other call says an exception
+  pub no-other-call-says-one : (x : Call) → ((c t : ℕ) (f o : List ℕ) → x ≡ request c t f o → ⊥) → (n : ℕ) → outcome (afterCalls v xs) x .says ≡ answer.Excepted n → n ≡ 0
+  no-other-call-says-one x h n e = sym (ap codeOf e) ∙ no-other-exception (afterCalls v xs) x h
 
   -- Tender 2 and 3, a reply: it hands the definition's rewriting of itself to the parties of the entry under its id, which it answers; these are the requests that
   -- wait under that id, in the order in which they were accepted, and each asked what the reply was matched against.

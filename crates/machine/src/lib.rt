@@ -68,9 +68,9 @@ const TIMED_OUT: u32 = 6;
 
 const NOTHING_DUE: u32 = 7;
 
-// A report of an outcome with nothing else to say.
-fn plain(refusal: u32, outcome: u32, length: u32, set: u32, id: u32, code: u32) -> Report
-    ensures { λ r. ⌜ r ≡ report refusal outcome length 0 0 0 set id code ⌝ }
+// A report of an answer that names no entry.
+fn plain(refusal: u32, outcome: u32, length: u32, set: u32, code: u32) -> Report
+    ensures { λ r. ⌜ r ≡ report refusal outcome length 0 0 0 set 0 code ⌝ }
 {
     Report {
         refusal,
@@ -81,8 +81,33 @@ fn plain(refusal: u32, outcome: u32, length: u32, set: u32, id: u32, code: u32) 
         partial: 0,
         value: 0,
         set,
-        id,
+        id: 0,
         code,
+    }
+}
+
+// A report of an answer that names its entry.
+fn of_entry(
+    outcome: u32,
+    id: ProxyId,
+    length: u32,
+    parties: u32,
+    partial: u32,
+    value: u32,
+) -> Report
+    ensures { λ r. ⌜ r ≡ report 0 outcome length parties partial value 0 (id .0) 0 ⌝ }
+{
+    Report {
+        refusal: 0,
+        line: 0,
+        outcome,
+        length,
+        parties,
+        partial,
+        value,
+        set: 0,
+        id: id.0 as u32,
+        code: 0,
     }
 }
 
@@ -90,66 +115,27 @@ fn plain(refusal: u32, outcome: u32, length: u32, set: u32, id: u32, code: u32) 
 pub fn report_of(a: Answer) -> Report
     ensures { λ r. ⌜ r ≡ numbers a ⌝ }
 {
+    let exception = laws::EXCEPTION_FRAME as u32;
     match a {
-        Answer::Refused { number } => plain(number, 0, 0, 0, 0, 0),
-        Answer::Done => plain(0, DONE, 0, 0, 0, 0),
+        Answer::Refused { number } => plain(number, 0, 0, 0, 0),
+        Answer::Done => plain(0, DONE, 0, 0, 0),
         Answer::Issued {
             id,
             length,
             partial,
             value,
-        } => Report {
-            refusal: 0,
-            line: 0,
-            outcome: ISSUED,
-            length,
-            parties: 0,
-            partial,
-            value,
-            set: 0,
-            id: id.0 as u32,
-            code: 0,
-        },
-        Answer::Joined { id } => plain(0, JOINED, 0, 0, id.0 as u32, 0),
-        Answer::Excepted { code } => plain(
-            0,
-            EXCEPTION,
-            laws::EXCEPTION_FRAME as u32,
-            0,
-            0,
-            code as u32,
-        ),
+        } => of_entry(ISSUED, id, length, 0, partial, value),
+        Answer::Joined { id } => of_entry(JOINED, id, 0, 0, 0, 0),
+        Answer::Excepted { code } => plain(0, EXCEPTION, exception, 0, code as u32),
         Answer::Answered {
             id,
             length,
             parties,
             partial,
             value,
-        } => Report {
-            refusal: 0,
-            line: 0,
-            outcome: ANSWERED,
-            length,
-            parties,
-            partial,
-            value,
-            set: 0,
-            id: id.0 as u32,
-            code: 0,
-        },
-        Answer::TimedOut { id, parties } => Report {
-            refusal: 0,
-            line: 0,
-            outcome: TIMED_OUT,
-            length: laws::EXCEPTION_FRAME as u32,
-            parties,
-            partial: 0,
-            value: 0,
-            set: 0,
-            id: id.0 as u32,
-            code: 0,
-        },
-        Answer::NothingDue => plain(0, NOTHING_DUE, 0, 0, 0, 0),
-        Answer::Lost { set } => plain(0, DONE, 0, set, 0, 0),
+        } => of_entry(ANSWERED, id, length, parties, partial, value),
+        Answer::TimedOut { id, parties } => of_entry(TIMED_OUT, id, exception, parties, 0, 0),
+        Answer::NothingDue => plain(0, NOTHING_DUE, 0, 0, 0),
+        Answer::Lost { set } => plain(0, DONE, 0, set, 0),
     }
 }
