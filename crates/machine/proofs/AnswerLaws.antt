@@ -33,7 +33,8 @@ use Rattle.machine.specs.Outcomes.{granted, outcome}
 use Rattle.machine.specs.declared.Answer.{Answer}
 use Rattle.machine.specs.declared.Answer.the-variants as answer
 use Rattle.machine.proofs.RefusalLaws.{refusal-changes-nothing}
-use Rattle.machine.proofs.OutcomeLaws.{none-applies, granted-is, reply-finds, clocked-at}
+use Rattle.machine.proofs.LowestLaws.{none-applies}
+use Rattle.machine.proofs.OutcomeLaws.{granted-is, reply-finds, clocked-at}
 use Rattle.machine.proofs.Follows.{same-entry}
 
 -- a reply that is not refused answers the entry that it finds

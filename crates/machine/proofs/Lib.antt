@@ -1,5 +1,6 @@
 pub mod Examples
 pub mod JoinLaws
+pub mod LowestLaws
 pub mod RefusalLaws
 pub mod OutcomeLaws
 pub mod RequestLaws

@@ -25,13 +25,8 @@ use Rattle.machine.specs.Replies.{answeredTo, answered, expiredTo, ticke
 use Rattle.machine.specs.Outcomes.{granted, outcome}
 use Rattle.machine.specs.declared.Answer.{Answer}
 use Rattle.machine.specs.declared.Answer.the-variants as answer
+use Rattle.machine.proofs.LowestLaws.{none-applies}
 use Rattle.machine.proofs.RefusalLaws.{Applies, table, refused-exactly, refusal-changes-nothing}
-
--- the tests of a call that is not refused are all false
-pub none-applies : (t : Bool) (n : ℕ) (rs : List Row) → (n ≡ 0 → ⊥) → lowest (row n t ∷ rs) ≡ 0 → (t ≡ false) × (lowest rs ≡ 0)
-unfolding lowest
-none-applies true n rs h e = absurd (h e)
-none-applies false n rs h e = (refl, e)
 
 -- every outcome of a request that is not refused, as one of three cases
 pub served-cases : (P : Done → Type 0) (m : Machine) (c : ℕ) (f o : List ℕ)

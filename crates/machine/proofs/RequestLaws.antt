@@ -32,7 +32,8 @@ use Rattle.machine.specs.Outcomes.{granted, outcome}
 use Rattle.machine.specs.declared.Answer.{Answer}
 use Rattle.machine.specs.declared.Answer.the-variants as answer
 use Rattle.machine.proofs.RefusalLaws.{refusal-changes-nothing}
-use Rattle.machine.proofs.OutcomeLaws.{none-applies, granted-is, served-cases, reply-finds}
+use Rattle.machine.proofs.LowestLaws.{none-applies}
+use Rattle.machine.proofs.OutcomeLaws.{granted-is, served-cases, reply-finds}
 
 -- the code of a request's own fault is 02 or 03
 pub fault-small : (f : List ℕ) → faultOf f < 4

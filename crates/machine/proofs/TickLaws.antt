@@ -28,17 +28,14 @@ use Rattle.machine.specs.Refusals.{row, rows, lowest, refusal, shortFram
 use Rattle.machine.specs.Replies.{expiredTo}
 use Rattle.machine.specs.Outcomes.{outcome}
 use Rattle.machine.specs.declared.Answer.the-variants as answer
-use Rattle.machine.proofs.OutcomeLaws.{none-applies, clocked-at, clock-set}
+use Rattle.machine.proofs.OutcomeLaws.{clocked-at, clock-set}
+use Rattle.machine.proofs.LowestLaws.{none-applies, passes, none-left}
 use Rattle.machine.proofs.AnswerLaws.{ticked-is, idle-says, spot}
 
 expired-book : (m : Machine) (k : ℕ) (o l : List ℕ) (q : Option (Live What Note)) → expiredTo m k o l q .after .book ≡ apply rules (m .book) (expireAt k q)
 unfolding expiredTo
 expired-book m k o l none = refl
 expired-book m k o l (some e) = refl
-
-passes : (a b c : Bool) → a ≡ false → b ≡ false → c ≡ false → lowest (row 1 a ∷ row 3 (b || c) ∷ []) ≡ 0
-unfolding lowest
-passes a b c p q r = rw (p, q, r)
 
 module _ (t : ℕ) (o l : List ℕ) where
   step : Machine → Machine
@@ -55,8 +52,10 @@ module _ (t : ℕ) (o l : List ℕ) where
   still m h =
       let a = none-applies (shortFrame o || shortList l) 1 _ (λ z. omega arith) h in
       let b = none-applies (isUntimely m t) 3 _ (λ z. omega arith) (a .1) in
-      passes (shortFrame o || shortList l) (ltb latestTime t) (ltb t (step m .book .clock)) (a .0) (or-left (ltb latestTime t) (ltb t (m .book .clock)) (b .0))
-      (le-ltb t (step m .book .clock) (let e = clock-set m (tick t o l) t h refl in omega arith))
+      sym (passes 1 _ (a .0) (passes 3 [] (rw (
+        or-left (ltb latestTime t) (ltb t (m .book .clock)) (b .0),
+        le-ltb t (step m .book .clock) (let e = clock-set m (tick t o l) t h refl in omega arith),
+      ) refl) none-left))
 
   -- its book is what the book's own tick makes of it
   ticks-book : (m : Machine) → refusal m (tick t o l) ≡ 0 → clocked (step m) t .book ≡ apply rules (clocked m t .book) (choose rules (clocked m t .book) ticking)

@@ -53,8 +53,8 @@ pub struct Report {
     pub code: u32,
 }
 
-// The outcomes' numbers: ZB_DONE and so on.
-const DONE: u32 = 1;
+// The outcomes' numbers: ZB_DONE and so on. Reading and writing settings are done too.
+pub const DONE: u32 = 1;
 
 const ISSUED: u32 = 2;
 

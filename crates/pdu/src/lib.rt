@@ -10,9 +10,7 @@ ghost use Rattle.pdu.specs.Requests.{classOf, checkedBy, checkedOf};
 ghost use Rattle.pdu.specs.Replies.{what, shaped, excepts, answering};
 ghost use Rattle.pdu.specs.Words.{kept, keptIn, wordOf, whatOf, whatIn, entryOf};
 
-// Where the fields of a frame stand: the unit; behind the function the start (06: the address), the quantity, 16's byte count; in a reply to 03 and 04 its byte count.
-const UNIT_AT: usize = 6;
-
+// Where the fields of a frame stand: behind the function the start (06: the address), the quantity, 16's byte count; in a reply to 03 and 04 its byte count.
 const START_AT: usize = 8;
 
 const QUANTITY_AT: usize = 10;
@@ -188,7 +186,7 @@ fn check_multiple_write(frame: &[u8]) -> Checked
 pub fn check_request(frame: &[u8]) -> Checked
     ensures { λ r. ⌜ r ≡ checkedOf (now (frame .entry)) ⌝ }
 {
-    let function = wire::byte_at(frame, laws::HEADER_SIZE);
+    let function = wire::function_of(frame);
     if (function == 0) | (laws::LAST_FUNCTION < function) {
         return Checked::BadFunction;
     }
@@ -226,7 +224,7 @@ fn is_shaped(asked: Asked, frame: &[u8]) -> bool
 pub fn is_exception(function: u8, frame: &[u8]) -> bool
     ensures { λ r. ⌜ r ≡ excepts function (now (frame .entry)) ⌝ }
 {
-    let told = laws::wide(wire::byte_at(frame, laws::HEADER_SIZE));
+    let told = laws::wide(wire::function_of(frame));
     (told == laws::wide(function) + laws::wide(laws::EXCEPTION_BIT))
         & (pdu_size(frame) == laws::EXCEPTION_PDU)
 }
@@ -237,8 +235,7 @@ pub fn answers(unit: u8, function: u8, asked: Asked, frame: &[u8]) -> bool
 {
     let excepted = is_exception(function, frame);
     let shaped = is_shaped(asked, frame);
-    (wire::byte_at(frame, UNIT_AT) == unit)
-        & (excepted | ((wire::byte_at(frame, laws::HEADER_SIZE) == function) & shaped))
+    (wire::unit_of(frame) == unit) & (excepted | ((wire::function_of(frame) == function) & shaped))
 }
 
 // What a class keeps of what was asked, in 48 bits.

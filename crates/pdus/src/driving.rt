@@ -8,8 +8,6 @@ use settings::tagwords::tag_word;
 // The id that the proxy gives each request here.
 const ISSUED: u16 = 9;
 
-const UNIT_AT: usize = 6;
-
 // What a call gives: a refusal's number; or so many bytes of the buffer, with both counts.
 pub enum Given {
     Refused(u32),
@@ -33,8 +31,8 @@ pub fn send(frame: &[u8], out: &mut [u8]) -> Given {
     if wire::is_misframed(frame) {
         return Given::Refused(4);
     }
-    let unit = wire::byte_at(frame, UNIT_AT);
-    let function = wire::byte_at(frame, laws::HEADER_SIZE);
+    let unit = wire::unit_of(frame);
+    let function = wire::function_of(frame);
     match pdu::check_request(frame) {
         Checked::BadFunction => Given::Refused(5),
         Checked::BadLength => Given::Refused(6),
@@ -66,8 +64,8 @@ pub fn bring(request: &[u8], reply: &[u8], out: &mut [u8]) -> Given {
     if wire::is_misframed(reply) {
         return Given::Refused(4);
     }
-    let unit = wire::byte_at(request, UNIT_AT);
-    let function = wire::byte_at(request, laws::HEADER_SIZE);
+    let unit = wire::unit_of(request);
+    let function = wire::function_of(request);
     let Checked::Legal(asked) = pdu::check_request(request) else {
         return Given::Refused(7);
     };

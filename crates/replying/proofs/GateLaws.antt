@@ -4,7 +4,7 @@ use Prim.Native.Nat.{ℕ, _≤_}
 use mathlib.Core.Path.{_≡_, refl, sym, _∙_}
 use mathlib.Core.Logic.{⊎-elim}
 use mathlib.Core.Bool.{Bool, true, false, cond, _||_}
-use mathlib.Core.List.{List, [], _∷_, _++_}
+use mathlib.Core.List.{List, [], _∷_}
 use native.Mathlib.Omega.{arith}
 use lib.ListN.{length}
 use lib.Dec.{eqb, ltb}
@@ -16,21 +16,8 @@ use Rattle.wire.proofs.FrameLaws.{Framed, framed}
 use Rattle.machine.specs.Machine.{Machine}
 use Rattle.machine.specs.Calls.Call.{reply, tick}
 use Rattle.machine.specs.Refusals.{Row, row, rows, lowest, refusal, isDead, isMismatched, entryFor}
-use Rattle.machine.proofs.OutcomeLaws.{none-applies}
+use Rattle.machine.proofs.LowestLaws.{none-applies, Splits, split-none, split-more}
 use Rattle.proxy.specs.Gates.{replyGate, tickGate}
-
--- the lowest refusal of a list, and of what stands behind it where none of it applies
-abbrev Splits : List Row → Type 0
-Splits qs = (rs : List Row) → lowest (qs ++ rs) ≡ cond (eqb (lowest qs) 0) (lowest rs) (lowest qs)
-
-split-none : Splits []
-unfolding lowest
-split-none rs = refl
-
-split-more : (n : ℕ) (t : Bool) (qs : List Row) → (n ≡ 0 → ⊥) → Splits qs → Splits (row n t ∷ qs)
-unfolding lowest
-split-more n true qs h s rs = rw (ne-eqb n 0 h)
-split-more n false qs h s rs = s rs
 
 -- the rows of a tick's gate
 abbrev early : (out list time clock : ℕ) → List Row

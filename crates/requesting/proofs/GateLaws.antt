@@ -1,17 +1,16 @@
 -- The refusals of a request: from the gate's tests and the outcome of the check to the refusal of the call, and what is known of a request that has none.
 -- Assumes nothing.
 use Prim.Native.Nat.{ℕ, _≤_, _<_}
-use mathlib.Core.Path.{_≡_, refl, sym, _∙_}
-use mathlib.Core.Logic.{⊎-elim}
-use mathlib.Core.Bool.{Bool, true, false, not, _||_}
-use mathlib.Core.List.{List, [], _∷_, _++_}
+use mathlib.Core.Path.{_≡_, sym, _∙_}
+use mathlib.Core.Bool.{true, false, not, _||_}
+use mathlib.Core.List.{List, [], _∷_}
 use native.Mathlib.Omega.{arith}
 use lib.ListN.{length}
 use lib.Dec.{ltb, leb}
-use borrow.Author.Tests.{leb-false, ltb-false, lt-ltb, le-ltb, le-leb, lt-leb}
+use borrow.Author.Tests.{ne-eqb, leb-false, ltb-false, lt-ltb, le-ltb, le-leb, lt-leb}
 use Rattle.laws.specs.Numbers.{clients, latestTime, leastFrame, mostFrame, frameBuffer}
 use Rattle.laws.specs.Bits.{has}
-use Rattle.laws.proofs.Choice.{true-or, or-left, or-right}
+use Rattle.laws.proofs.Choice.{or-left, or-right}
 use Rattle.wire.specs.Frame.{misframed, functionOf}
 use Rattle.pdu.specs.Requests.{classOf, badFunction, badLength, checkedOf}
 use Rattle.pdu.specs.declared.Asked.{Asked}
@@ -20,23 +19,10 @@ use Rattle.pdu.specs.declared.Checked.the-variants.{BadFunction, BadLength, Leg
 use Rattle.pdu.proofs.RequestLaws.{Tested, check-tests}
 use Rattle.machine.specs.Machine.{Machine}
 use Rattle.machine.specs.Calls.Call.{request}
-use Rattle.machine.specs.Refusals.{Row, row, rows, lowest, refusal, shortFrame, isStranger, isUntimely}
-use Rattle.machine.proofs.OutcomeLaws.{none-applies}
+use Rattle.machine.specs.Refusals.{row, rows, lowest, refusal, shortFrame, isStranger, isUntimely}
+use Rattle.machine.proofs.LowestLaws.{applies, passes, none-left, none-applies, split-none, split-more}
 use Rattle.proxy.specs.Gates.{requestGate}
 use Rattle.requesting.specs.Parts.{Admitted}
-
--- A row that applies is the lowest; a row that does not is passed over; past the last row it is 0.
-applies : (n : ℕ) {t : Bool} (rs : List Row) → t ≡ true → n ≡ lowest (row n t ∷ rs)
-unfolding lowest
-applies n rs e = rw e
-
-none-left : 0 ≡ lowest []
-unfolding lowest
-none-left = refl
-
-passes : {n : ℕ} (k : ℕ) {t : Bool} (rs : List Row) → t ≡ false → n ≡ lowest rs → n ≡ lowest (row k t ∷ rs)
-unfolding lowest
-passes k rs e l = rw e l
 
 module _ (out client attached time clock : ℕ) (f : List ℕ) where
   -- The gate's tests in their order, each behind those before it.
@@ -69,12 +55,6 @@ module _ (out client attached time clock : ℕ) (f : List ℕ) where
           pub gate-open : misframed f ≡ false → 0 ≡ requestGate out client attached time clock f
           gate-open h = past-client (passes 3 _ timely (passes 4 [] h none-left))
 
--- Where a row of the first list applies, the rows behind that list have no say.
-lowest-front : (rs qs : List Row) → (lowest rs ≡ 0 → ⊥) → lowest (rs ++ qs) ≡ lowest rs
-unfolding lowest
-lowest-front [] qs h = absurd (h refl)
-lowest-front (r ∷ rs) qs h = ⊎-elim (λ e. rw e) (λ e. rw e (lowest-front rs qs (rw e at h))) (true-or (r .applies))
-
 -- no refusal from 1 to 4 applies
 pub record Open (m : Machine) (c t : ℕ) (f o : List ℕ) : Type 0 where
   pub roomy : shortFrame o ≡ false
@@ -87,7 +67,9 @@ module _ (m : Machine) (c t : ℕ) (f o : List ℕ) (n : ℕ) (e : n ≡ request
   pub gate-refuses : (n ≡ 0 → ⊥) → refusal m (request c t f o) ≡ n
   unfolding requestGate rows
   gate-refuses h =
-      lowest-front (row 1 (shortFrame o) ∷ row 2 (isStranger m c) ∷ row 3 (isUntimely m t) ∷ row 4 (misframed f) ∷ []) _ (λ z. h (e ∙ z)) ∙ sym e
+      split-more 1 _ _ (λ z. omega arith) (split-more 2 _ _ (λ z. omega arith) (split-more 3 _ _ (λ z. omega arith) (split-more 4 (misframed f) [] (λ z. omega arith) split-none)))
+      (row 5 (badFunction (functionOf f)) ∷ row 6 (badLength (classOf (functionOf f)) f) ∷ [])
+      ∙ rw (← e) (rw (ne-eqb n 0 h))
 
   -- A gate that refuses nothing leaves only 5 and 6.
   pub gate-opens : n ≡ 0 → Open m c t f o

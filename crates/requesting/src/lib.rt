@@ -27,9 +27,6 @@ ghost use Rattle.proxy.specs.State.{kept, state, machineOf, Settled, Sounds};
 ghost use Rattle.proxy.specs.Gates.{requestGate};
 ghost use Rattle.requesting.specs.Parts.{Admitted, Asks, Came};
 
-// The byte at which a frame's unit stands.
-const UNIT_AT: usize = 6;
-
 // The refusals 1 to 4, the lowest that applies; 0 where none does.
 fn gate(out: usize, client: u32, attached: u32, time: u64, clock: u64, frame: &[u8]) -> u32
     ensures { λ r. ⌜ r ≡ requestGate out client attached time clock (now (frame .entry)) ⌝ }
@@ -58,8 +55,8 @@ fn except_caller(out: &mut [u8], frame: &[u8], code: u8) -> Answer
     ensures { λ r. ⌜ ((m : Machine) → done r m (now (out .exit)) [] ≡ excepted m code (now (frame .entry)) (now (out .entry))) ⌝ }
 {
     let id = pdu::original_of(frame);
-    let unit = wire::byte_at(frame, UNIT_AT);
-    let function = wire::byte_at(frame, laws::HEADER_SIZE);
+    let unit = wire::unit_of(frame);
+    let function = wire::function_of(frame);
     wire::except(out, id.0, unit, function, code);
     Answer::Excepted { code }
 }
@@ -87,7 +84,7 @@ fn word_asked(frame: &[u8], what: Asked) -> u64
     requires { ⌜ (leastFrame ≤ length (now frame)) × (checkedOf (now frame) ≡ Checked.Legal what) ⌝ }
     ensures { λ r. ⌜ Asks (now (frame .entry)) r ⌝ }
 {
-    let unit = frame[UNIT_AT];
+    let unit = frame[laws::UNCOUNTED];
     let function = frame[laws::HEADER_SIZE];
     pdu::word_of(unit, function, what)
 }

@@ -4,7 +4,7 @@ ghost use Prim.Native.Nat.{_+_, _%_, _<_, _≤_};
 ghost use lib.ListN.{length, getD};
 ghost use Rattle.laws.specs.Numbers.{exceptionBit, exceptionFrame};
 ghost use Rattle.laws.specs.Bytes.{over, pairAt, putAt};
-ghost use Rattle.wire.specs.Frame.{misframed, laid, exception};
+ghost use Rattle.wire.specs.Frame.{unitOf, functionOf, misframed, laid, exception};
 ghost use Rattle.wire.specs.Splitting.{standingOf, firstFrame};
 
 // What stands at the start of a run of received bytes.
@@ -34,6 +34,19 @@ pub fn pair_at(s: &[u8], k: usize) -> u16
         return high * 256 + low;
     }
     0
+}
+
+// The unit of a frame, the first byte that its length counts, and its function; 0 past the end.
+pub fn unit_of(frame: &[u8]) -> u8
+    ensures { λ r. ⌜ r ≡ unitOf (now (frame .entry)) ⌝ }
+{
+    byte_at(frame, laws::UNCOUNTED)
+}
+
+pub fn function_of(frame: &[u8]) -> u8
+    ensures { λ r. ⌜ r ≡ functionOf (now (frame .entry)) ⌝ }
+{
+    byte_at(frame, laws::HEADER_SIZE)
 }
 
 // Puts a 16-bit number at k, the high byte first.

@@ -1,8 +1,8 @@
 // The calls that need no device: splitting a run, settings read and written, the device's size.
-use crate::reports::DONE;
 use crate::reports::FRAME;
 use crate::reports::MORE;
 use crate::reports::said;
+use machine::DONE;
 use machine::Report;
 use settings::Settings;
 use text::Wrote;

@@ -1,11 +1,10 @@
 // The reports that no machine's answer gives.
+use machine::DONE;
 use machine::Report;
 ghost use mathlib.Core.Path.{_≡_};
 ghost use Rattle.zilborteka.specs.Reports.{told, doneOr};
 
-// The outcomes' numbers: ZB_DONE, ZB_FRAME and ZB_MORE.
-pub const DONE: u32 = 1;
-
+// The outcomes' numbers beside the machine's: ZB_FRAME and ZB_MORE.
 pub const FRAME: u32 = 8;
 
 pub const MORE: u32 = 9;

@@ -10,7 +10,7 @@ unfolding answering
 returns c =
     let unit = c .before in
     let shaped = unit .before in
-    rw (c .byte-at2 .ensures, unit .byte-at .ensures, shaped .is-shaped .ensures, shaped .before .is-exception .ensures)
+    rw (c .function-of .ensures, unit .unit-of .ensures, shaped .is-shaped .ensures, shaped .before .is-exception .ensures)
 
 pub answers-spec : {M : Type 1} → statement M
 answers-spec = tie.close (tie.spec (λ c κs. search needs) (λ c κs. search needs) (λ c κs. search needs) (λ c κs. search needs) returns)

@@ -11,7 +11,7 @@ use Rattle.pdu.proofs.check_request.Tie as tie
 returns : tie.Need-returns
 returns c =
     let function = c .before in
-    sym (checked-unknown (now (function .before .before .args .frame)) (function .byte-at .ensures) (c .if1 .taken))
+    sym (checked-unknown (now (function .before .before .args .frame)) (function .function-of .ensures) (c .if1 .taken))
 
 returns-2 : tie.Need-returns-2
 returns-2 c =
@@ -20,7 +20,7 @@ returns-2 c =
     let known = class .before in
     let function = known .before in
     let f = now (function .before .before .args .frame) in
-    c .check-read .ensures ∙ sym (checked-class Reads f (function .byte-at .ensures) (known .if1 .left) (class .class-of .ensures) (arm .enum-told .given .1))
+    c .check-read .ensures ∙ sym (checked-class Reads f (function .function-of .ensures) (known .if1 .left) (class .class-of .ensures) (arm .enum-told .given .1))
 
 returns-3 : tie.Need-returns-3
 returns-3 c =
@@ -29,7 +29,7 @@ returns-3 c =
     let known = class .before in
     let function = known .before in
     let f = now (function .before .before .args .frame) in
-    c .check-single-write .ensures ∙ sym (checked-class WritesOne f (function .byte-at .ensures) (known .if1 .left) (class .class-of .ensures) (arm .enum-told2 .given .1))
+    c .check-single-write .ensures ∙ sym (checked-class WritesOne f (function .function-of .ensures) (known .if1 .left) (class .class-of .ensures) (arm .enum-told2 .given .1))
 
 returns-4 : tie.Need-returns-4
 returns-4 c =
@@ -38,7 +38,7 @@ returns-4 c =
     let known = class .before in
     let function = known .before in
     let f = now (function .before .before .args .frame) in
-    c .check-multiple-write .ensures ∙ sym (checked-class WritesMany f (function .byte-at .ensures) (known .if1 .left) (class .class-of .ensures) (arm .enum-told3 .given .1))
+    c .check-multiple-write .ensures ∙ sym (checked-class WritesMany f (function .function-of .ensures) (known .if1 .left) (class .class-of .ensures) (arm .enum-told3 .given .1))
 
 returns-5 : tie.Need-returns-5
 returns-5 c =
@@ -46,7 +46,7 @@ returns-5 c =
     let known = class .before in
     let function = known .before in
     let f = now (function .before .before .args .frame) in
-    sym (checked-class Others f (function .byte-at .ensures) (known .if1 .left) (class .class-of .ensures) (c .enum-told4 .given .1) ∙ checked-other f)
+    sym (checked-class Others f (function .function-of .ensures) (known .if1 .left) (class .class-of .ensures) (c .enum-told4 .given .1) ∙ checked-other f)
 
 pub check-request-spec : {M : Type 1} → statement M
 check-request-spec =

@@ -9,7 +9,7 @@ returns c =
     let bit = c .before in
     let function = bit .before in
     let told = function .before in
-    rw (c .pdu-size .ensures, bit .wide3 .ensures .0, function .wide2 .ensures .0, told .wide .ensures .0, told .before .byte-at .ensures)
+    rw (c .pdu-size .ensures, bit .wide3 .ensures .0, function .wide2 .ensures .0, told .wide .ensures .0, told .before .function-of .ensures)
 
 pub is-exception-spec : {M : Type 1} → statement M
 is-exception-spec =

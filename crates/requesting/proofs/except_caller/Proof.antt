@@ -11,7 +11,7 @@ returns c =
     let written = c .before .before in
     let s = c .before .before .before .before .before .before .before .before .before in
     λ m. exception-made m (now (s .args .frame)) (now (s .args .out)) _ _ _ (s .args .code) _
-    (written .before .before .before .before .original-of .ensures) (written .before .before .before .byte-at .ensures) (written .before .before .byte-at2 .ensures) (written .except .ensures)
+    (written .before .before .before .before .original-of .ensures) (written .before .before .before .unit-of .ensures) (written .before .before .function-of .ensures) (written .except .ensures)
 
 pub except-caller-spec : {M : Type 1} → statement M
 except-caller-spec =
