@@ -69,7 +69,7 @@ pub fn detach<'a>(
     if is_stranger(*attached, client) {
         return Answer::Refused { number: 2 };
     }
-    table::changing::strike(counts, clients, originals, *top, client as u8);
+    changing::strike(counts, clients, originals, *top, client as u8);
     *attached = *attached & !(1 << client);
     Answer::Done
 }

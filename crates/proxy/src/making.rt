@@ -66,7 +66,7 @@ pub fn fresh<'a>(
     ensures { λ r. ⌜ Sounds (state (columns (now (ids .exit)) (now (asked .exit)) (now (notes .exit)) (now (deadlines .exit)) (now (counts .exit)) (now (clients .exit)) (now (originals .exit)) (now (top .exit)))
         (now (cursor .exit)) (now (attached .exit)) (now (clock .exit)) (kept (now (timeout .exit)) (now (join .exit)) (now (tagged .exit)) (now (tags .exit)))) ⌝ }
 {
-    table::changing::clear(
+    changing::clear(
         ids,
         asked,
         notes,

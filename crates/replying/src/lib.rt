@@ -93,8 +93,8 @@ fn end_at<'a>(
         × (now (list .exit) ≡ over (pairs (partiesAt (now (counts .entry)) (now (clients .entry)) (now (originals .entry)) place)) (now (list .entry))) ⌝ }
     ensures { λ r. ⌜ (now (ids .exit) ≡ set (now (ids .entry)) place 0) × (now (top .exit) ≡ reach (now (ids .exit)) (now (top .entry))) ⌝ }
 {
-    let parties = table::changing::hand_out(counts, clients, originals, place, list);
-    table::changing::remove(ids, top, place);
+    let parties = changing::hand_out(counts, clients, originals, place, list);
+    changing::remove(ids, top, place);
     parties
 }
 
@@ -129,7 +129,7 @@ pub fn reply<'a>(
     if refused != 0 {
         return Answer::Refused { number: refused };
     }
-    let place = table::finding::find(ids, *top as usize, pdu::proxy_of(frame));
+    let place = finding::find(ids, *top as usize, pdu::proxy_of(frame));
     if place == laws::PLACES {
         return Answer::Refused { number: 7 };
     }
@@ -138,7 +138,7 @@ pub fn reply<'a>(
         return Answer::Refused { number: 8 };
     }
     *clock = time;
-    let id = table::changing::id_at(ids, place);
+    let id = table::id_at(ids, place);
     let parties = end_at(ids, counts, clients, originals, top, place, list);
     let raw = write_reply(out, frame, word, tags, *tagged as usize);
     let length = frame.len() as u32;
@@ -182,12 +182,12 @@ pub fn tick<'a>(
         return Answer::Refused { number: refused };
     }
     *clock = time;
-    let place = table::finding::earliest(ids, deadlines, *top as usize, time);
+    let place = finding::earliest(ids, deadlines, *top as usize, time);
     if place == laws::PLACES {
         return Answer::NothingDue;
     }
     let word = asked[place];
-    let id = table::changing::id_at(ids, place);
+    let id = table::id_at(ids, place);
     let parties = end_at(ids, counts, clients, originals, top, place, list);
     wire::except(
         out,

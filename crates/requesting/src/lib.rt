@@ -106,8 +106,8 @@ fn join_request<'a>(
         × Joined place (party client (idOf (now (frame .entry)))) (now (counts .entry)) (now (clients .entry)) (now (originals .entry)) (now (counts .exit)) (now (clients .exit)) (now (originals .exit)) ⌝ }
 {
     let original = pdu::original_of(frame);
-    table::changing::join(counts, clients, originals, place, client, original);
-    let id = table::changing::id_at(ids, place);
+    changing::join(counts, clients, originals, place, client, original);
+    let id = table::id_at(ids, place);
     Answer::Joined { id }
 }
 
@@ -142,10 +142,10 @@ fn issue_request<'a>(
         (λ m. issuedTo m client (now (frame .entry)) (now (out .entry)))
         (columns (now (ids .entry)) (now (asked .entry)) (now (notes .entry)) (now (deadlines .entry)) (now (counts .entry)) (now (clients .entry)) (now (originals .entry)) (now (top .entry))) (now (cursor .entry))) ⌝ }
 {
-    let id = table::finding::free_id(ids, *top as usize, ProxyId(*cursor));
+    let id = finding::free_id(ids, *top as usize, ProxyId(*cursor));
     let deadline = time + timeout as u64;
     let original = pdu::original_of(frame);
-    table::changing::issue(
+    changing::issue(
         ids,
         asked,
         notes,
@@ -202,7 +202,7 @@ fn serve<'a>(
         (columns (now (ids .entry)) (now (asked .entry)) (now (notes .entry)) (now (deadlines .entry)) (now (counts .entry)) (now (clients .entry)) (now (originals .entry)) (now (top .entry))) (now (cursor .entry)) ⌝ }
 {
     let word = word_asked(frame, what);
-    let seats = table::finding::find_seats(
+    let seats = finding::find_seats(
         ids,
         asked,
         deadlines,

@@ -1,5 +1,3 @@
-pub mod ScanLaws
-pub mod IdLaws
 pub mod ViewLaws
 pub mod FindLaws
 pub mod PartyLaws
