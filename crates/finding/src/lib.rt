@@ -4,9 +4,8 @@ ghost use mathlib.Core.Path.{_≡_};
 ghost use Prim.Native.Nat.{_+_, _<_, _≤_};
 ghost use mathlib.Core.Bool.{cond, false, _&&_, _||_};
 ghost use lib.Dec.{eqb};
-ghost use Rattle.laws.specs.Numbers.{ids, places};
+ghost use Rattle.laws.specs.Numbers.{places};
 ghost use Rattle.laws.specs.Search.{best};
-ghost use Rattle.laws.specs.Circle.{turn};
 ghost use Rattle.table.specs.Places.{isFree, holds, isOpen, isDue, isLower, isSooner, freeIdFrom, Topped};
 
 // The place that is live under that id, and PLACES where none is.
@@ -189,28 +188,21 @@ pub fn find_seats(
     }
 }
 
-// One id on, and past the last to 0.
-pub fn after(id: u16) -> u16
-    ensures { λ r. ⌜ r ≡ turn ids (id + 1) ⌝ }
-{
-    if id == laws::LAST_ID { 0 } else { id + 1 }
-}
-
 // The first id that is not live, from the cursor upward, past the last to 0.
 pub fn free_id(ids: &[u32; laws::PLACES], top: usize, cursor: ProxyId) -> ProxyId
     requires { ⌜ top ≤ places ⌝ }
     ensures { λ r. ⌜ r .0 ≡ freeIdFrom (now (ids .entry)) top (cursor .0) ⌝ }
 {
-    let mut id = cursor.0;
+    let mut id = cursor;
     'search: loop {
         let mut k: usize = 0;
         while k < top {
-            if ids[k] == id as u32 + 1 {
-                id = after(id);
+            if ids[k] == id.0 as u32 + 1 {
+                id = id.next();
                 continue 'search;
             }
             k += 1;
         }
-        break ProxyId(id);
+        break id;
     }
 }
