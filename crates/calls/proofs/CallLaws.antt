@@ -2,7 +2,7 @@
 -- Assumes nothing.
 use Prim.Native.Nat.{ℕ}
 use mathlib.Core.Path.{_≡_, ap, sym, subst, _∙_}
-use mathlib.Core.List.{List, map}
+use mathlib.Core.List.{List}
 use Rattle.settings.specs.declared.Settings.{Settings}
 use Rattle.settings.specs.Values.{valueOf}
 use Rattle.machine.specs.Machine.{made}
@@ -11,11 +11,11 @@ use Rattle.machine.specs.Outcomes.{outcome}
 use Rattle.machine.specs.declared.Answer.{Answer}
 use Rattle.proxy.specs.State.{State as Columned, machineOf, Sounds}
 use Rattle.proxy.specs.Gates.{adopted, makingRefusal}
-use Rattle.state.specs.Places.{numberOf, wordIn, callerOf, deadlineOf, countOf}
 use Rattle.state.specs.States.{Made, stateOf, gathered}
 use Rattle.state.specs.declared.State.{State}
 use Rattle.state.proofs.GatherLaws.{lent, machine-back, made-back, spread-is}
-use Rattle.calls.specs.Stepped.{Carried, Served, Freshly, doneOr}
+use Rattle.calls.specs.Stepped.{Carried, Served, Freshly, doneOr, AreOf}
+use Rattle.calls.specs.declared.Columns.{Columns}
 use Rattle.calls.specs.declared.Stepped.{Stepped}
 
 module _ (is ws bs ds ns cs os : List ℕ) (top cursor attached clock timeout join tagged : ℕ) (tags : List ℕ) (sounds : Sounds (lent is ws bs ds ns cs os top cursor attached clock timeout join tagged tags))
@@ -37,15 +37,20 @@ module _ (is ws bs ds ns cs os : List ℕ) (top cursor attached clock timeout jo
   pub freshly : (from : Settings) (n : ℕ) (a : Answer) → a ≡ doneOr n → n ≡ makingRefusal (valueOf from) → machineOf left ≡ made (adopted (valueOf from)) → Freshly from (record { state = s; answer = a })
   freshly from n a t r e = (t ∙ ap doneOr r, same ∙ e, kept-made)
 
-module _ (s : State) (is ws bs ds ns : List ℕ)
-    (spread : (is ≡ map numberOf (s .entries)) × (ws ≡ map wordIn (s .entries)) × (bs ≡ map callerOf (s .entries)) × (ds ≡ map deadlineOf (s .entries)) × (ns ≡ map countOf (s .entries))) where
+-- what stands in the columns that a state was spread into, with the rest of the state
+module _ (s : State) (c : Columns) (spread : AreOf (s .entries) c) where
   abbrev columned : Columned
-  columned = lent is ws bs ds ns (s .clients) (s .originals) (s .top) (s .cursor .0) (s .attached) (s .clock) (s .timeout) (s .join) (s .tagged) (s .tags)
+  columned =
+      lent (c .ids) (c .asked) (c .notes) (c .deadlines) (c .counts) (s .clients) (s .originals) (s .top) (s .cursor .0) (s .attached) (s .clock) (s .timeout) (s .join)
+      (s .tagged) (s .tags)
+
+  same-state : columned ≡ stateOf s
+  same-state = spread-is s (c .ids) (c .asked) (c .notes) (c .deadlines) (c .counts) spread
 
   -- The columns of a sound state are sound.
   pub spread-sound : Made s → Sounds columned
-  spread-sound = subst Sounds (sym (spread-is s is ws bs ds ns spread))
+  spread-sound = subst Sounds (sym same-state)
 
   -- What a call does from the columns it does from the state.
   pub served : (x : Call) (r : Stepped) (w l : List ℕ) → Carried columned x r w l → Served s x r w l
-  served x r w l = subst (λ (c : Columned). Carried c x r w l) (spread-is s is ws bs ds ns spread)
+  served x r w l = subst (λ (k : Columned). Carried k x r w l) same-state

@@ -3,7 +3,7 @@
 use Prim.Native.Nat.{ℕ}
 use mathlib.Core.Path.{_≡_}
 use mathlib.Core.Bool.{cond}
-use mathlib.Core.List.{List}
+use mathlib.Core.List.{List, map}
 use lib.Dec.{eqb}
 use Rattle.settings.specs.declared.Settings.{Settings}
 use Rattle.settings.specs.Values.{valueOf}
@@ -14,9 +14,17 @@ use Rattle.machine.specs.declared.Answer.{Answer}
 use Rattle.machine.specs.declared.Answer.the-variants.{Refused, Done}
 use Rattle.proxy.specs.State.{State as Columned, machineOf}
 use Rattle.proxy.specs.Gates.{adopted, makingRefusal}
+use Rattle.state.specs.declared.Place.{Place}
 use Rattle.state.specs.declared.State.{State}
+use Rattle.state.specs.Places.{numberOf, wordIn, callerOf, deadlineOf, countOf}
 use Rattle.state.specs.States.{stateOf, Made}
+use Rattle.calls.specs.declared.Columns.{Columns}
 use Rattle.calls.specs.declared.Stepped.{Stepped}
+
+-- these are the columns of the entries
+abbrev pub AreOf : List Place → Columns → Type 0
+AreOf es c =
+    (c .ids ≡ map numberOf es) × (c .asked ≡ map wordIn es) × (c .notes ≡ map callerOf es) × (c .deadlines ≡ map deadlineOf es) × (c .counts ≡ map countOf es)
 
 -- from the columns c a call comes to this answer, this state and these buffers, as document 01 says, and these calls made the state
 abbrev pub Carried : Columned → Call → Stepped → (written listed : List ℕ) → Type 0

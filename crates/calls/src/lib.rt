@@ -1,19 +1,53 @@
 // The calls over a state by value, for programs and tests: each spreads the state into columns, calls the core that the device's entry points call, and gathers it. Here those without a time.
 use machine::Answer;
 use settings::Settings;
+use state::Place;
 use state::State;
 ghost use mathlib.Core.Path.{_≡_};
 ghost use mathlib.Core.List.{[]};
 ghost use Rattle.machine.specs.Calls.Call.{attach as attaches, detach as detaches, linkLost};
-ghost use Rattle.table.specs.Columns.{columns};
-ghost use Rattle.proxy.specs.State.{state, kept, Sounds};
 ghost use Rattle.state.specs.States.{Made};
-ghost use Rattle.calls.specs.Stepped.{Served, Carried, Freshly, doneOr};
+ghost use Rattle.calls.specs.Stepped.{Served, Freshly, doneOr, AreOf};
 
 // What a call gives: the state afterwards and the answer.
 pub struct Stepped {
     pub state: State,
     pub answer: Answer,
+}
+
+// The columns of a state's entries.
+pub struct Columns {
+    pub ids: [u32; laws::PLACES],
+    pub asked: [u64; laws::PLACES],
+    pub notes: [u8; laws::PLACES],
+    pub deadlines: [u64; laws::PLACES],
+    pub counts: [u8; laws::PLACES],
+}
+
+// The columns that entries are spread into.
+pub fn columns_of(entries: [Place; laws::PLACES]) -> Columns
+    ensures { λ r. ⌜ AreOf entries r ⌝ }
+{
+    let mut ids = [0u32; laws::PLACES];
+    let mut asked = [0u64; laws::PLACES];
+    let mut notes = [0u8; laws::PLACES];
+    let mut deadlines = [0u64; laws::PLACES];
+    let mut counts = [0u8; laws::PLACES];
+    state::spread(
+        entries,
+        &mut ids,
+        &mut asked,
+        &mut notes,
+        &mut deadlines,
+        &mut counts,
+    );
+    Columns {
+        ids,
+        asked,
+        notes,
+        deadlines,
+        counts,
+    }
 }
 
 // Done where nothing is refused.
@@ -122,28 +156,23 @@ pub fn attach(s: State, client: u32) -> Stepped
     Stepped { state, answer }
 }
 
-// Detaches a client, and strikes its parties out, over columns by value.
-fn detached(
-    ids: [u32; laws::PLACES],
-    asked: [u64; laws::PLACES],
-    notes: [u8; laws::PLACES],
-    deadlines: [u64; laws::PLACES],
-    mut counts: [u8; laws::PLACES],
-    mut clients: [u8; laws::PARTY_PLACES],
-    mut originals: [u16; laws::PARTY_PLACES],
-    mut top: u32,
-    cursor: u16,
-    mut attached: u32,
-    clock: u64,
-    timeout: u32,
-    join: u32,
-    tagged: u32,
-    tags: [u64; laws::MOST_TAGS],
-    client: u32,
-) -> Stepped
-    requires { ⌜ Sounds (state (columns ids asked notes deadlines counts clients originals top) cursor attached clock (kept timeout join tagged tags)) ⌝ }
-    ensures { λ r. ⌜ Carried (state (columns ids asked notes deadlines counts clients originals top) cursor attached clock (kept timeout join tagged tags)) (detaches client) r [] [] ⌝ }
+// Detaches a client, and strikes its parties out.
+pub fn detach(s: State, client: u32) -> Stepped
+    requires { ⌜ Made s ⌝ }
+    ensures { λ r. ⌜ Served s (detaches client) r [] [] ⌝ }
 {
+    let entries = s.entries;
+    let c = columns_of(entries);
+    let ids = c.ids;
+    let asked = c.asked;
+    let notes = c.notes;
+    let deadlines = c.deadlines;
+    let mut counts = c.counts;
+    let mut clients = s.clients;
+    let mut originals = s.originals;
+    let tags = s.tags;
+    let mut top = s.top;
+    let mut attached = s.attached;
     let answer = proxy::attaching::detach(
         &mut counts,
         &mut clients,
@@ -161,96 +190,12 @@ fn detached(
         clients,
         originals,
         top,
-        cursor,
-        attached,
-        clock,
-        timeout,
-        join,
-        tagged,
-        tags,
-    );
-    Stepped { state, answer }
-}
-
-// Detaches a client, and strikes its parties out.
-pub fn detach(s: State, client: u32) -> Stepped
-    requires { ⌜ Made s ⌝ }
-    ensures { λ r. ⌜ Served s (detaches client) r [] [] ⌝ }
-{
-    let mut ids = [0u32; laws::PLACES];
-    let mut asked = [0u64; laws::PLACES];
-    let mut notes = [0u8; laws::PLACES];
-    let mut deadlines = [0u64; laws::PLACES];
-    let mut counts = [0u8; laws::PLACES];
-    let entries = s.entries;
-    state::spread(
-        entries,
-        &mut ids,
-        &mut asked,
-        &mut notes,
-        &mut deadlines,
-        &mut counts,
-    );
-    let clients = s.clients;
-    let originals = s.originals;
-    let tags = s.tags;
-    detached(
-        ids,
-        asked,
-        notes,
-        deadlines,
-        counts,
-        clients,
-        originals,
-        s.top,
         s.cursor.0,
-        s.attached,
+        attached,
         s.clock,
         s.timeout,
         s.join,
         s.tagged,
-        tags,
-        client,
-    )
-}
-
-// The link is lost, over columns by value.
-fn lost(
-    mut ids: [u32; laws::PLACES],
-    asked: [u64; laws::PLACES],
-    notes: [u8; laws::PLACES],
-    deadlines: [u64; laws::PLACES],
-    counts: [u8; laws::PLACES],
-    clients: [u8; laws::PARTY_PLACES],
-    originals: [u16; laws::PARTY_PLACES],
-    mut top: u32,
-    cursor: u16,
-    mut attached: u32,
-    clock: u64,
-    timeout: u32,
-    join: u32,
-    tagged: u32,
-    tags: [u64; laws::MOST_TAGS],
-) -> Stepped
-    requires { ⌜ Sounds (state (columns ids asked notes deadlines counts clients originals top) cursor attached clock (kept timeout join tagged tags)) ⌝ }
-    ensures { λ r. ⌜ Carried (state (columns ids asked notes deadlines counts clients originals top) cursor attached clock (kept timeout join tagged tags)) linkLost r [] [] ⌝ }
-{
-    let answer = proxy::attaching::link_lost(&mut ids, &mut top, &mut attached);
-    let state = state::gather(
-        ids,
-        asked,
-        notes,
-        deadlines,
-        counts,
-        clients,
-        originals,
-        top,
-        cursor,
-        attached,
-        clock,
-        timeout,
-        join,
-        tagged,
         tags,
     );
     Stepped { state, answer }
@@ -261,24 +206,20 @@ pub fn link_lost(s: State) -> Stepped
     requires { ⌜ Made s ⌝ }
     ensures { λ r. ⌜ Served s linkLost r [] [] ⌝ }
 {
-    let mut ids = [0u32; laws::PLACES];
-    let mut asked = [0u64; laws::PLACES];
-    let mut notes = [0u8; laws::PLACES];
-    let mut deadlines = [0u64; laws::PLACES];
-    let mut counts = [0u8; laws::PLACES];
     let entries = s.entries;
-    state::spread(
-        entries,
-        &mut ids,
-        &mut asked,
-        &mut notes,
-        &mut deadlines,
-        &mut counts,
-    );
+    let c = columns_of(entries);
+    let mut ids = c.ids;
+    let asked = c.asked;
+    let notes = c.notes;
+    let deadlines = c.deadlines;
+    let counts = c.counts;
     let clients = s.clients;
     let originals = s.originals;
     let tags = s.tags;
-    lost(
+    let mut top = s.top;
+    let mut attached = s.attached;
+    let answer = proxy::attaching::link_lost(&mut ids, &mut top, &mut attached);
+    let state = state::gather(
         ids,
         asked,
         notes,
@@ -286,13 +227,14 @@ pub fn link_lost(s: State) -> Stepped
         counts,
         clients,
         originals,
-        s.top,
+        top,
         s.cursor.0,
-        s.attached,
+        attached,
         s.clock,
         s.timeout,
         s.join,
         s.tagged,
         tags,
-    )
+    );
+    Stepped { state, answer }
 }

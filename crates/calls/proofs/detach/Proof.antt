@@ -1,19 +1,25 @@
--- `calls::detach` meets its contract: what is done from the spread columns is done from the state.
+-- `calls::detach` meets its contract: the core detaches over the columns that the state is spread into, and they are gathered.
 -- Assumes nothing.
-use Rattle.calls.proofs.CallLaws.{spread-sound, served}
+use Rattle.proxy.specs.State.{kept}
+use Rattle.calls.proofs.CallLaws.{spread-sound, served, carried}
 use borrow.Author.Needs.{needs}
 use Rattle.calls.proofs.detach.Statement.{statement}
 use Rattle.calls.proofs.detach.Tie as tie
 
-detached-requires : tie.Need-detached-requires
-detached-requires c κs =
-    let s = c .before .before .before .before .before .before .before .before .before .before in
-    spread-sound (s .args .s) _ _ _ _ _ (c .before .before .before .spread .ensures) (s .pre)
+detach-requires : tie.Need-detach-requires
+detach-requires c κs =
+    let s = c .before .before .before .before .before .before .before .before .before .before .before .before .before .before .before in
+    let sounds = spread-sound (s .args .s) _ (c .before .before .before .before .before .before .before .before .before .before .before .before .before .columns-of .ensures) (s .pre) in
+    search needs
 
 returns : tie.Need-returns
 returns c =
-    let s = c .before .before .before .before .before .before .before .before .before .before .before in
-    served (s .args .s) _ _ _ _ _ (c .before .before .before .before .spread .ensures) _ (c .detached .result) _ _ (c .detached .ensures)
+    let s = c .before .before .before .before .before .before .before .before .before .before .before .before .before .before .before .before .before in
+    let v = s .args .s in
+    let columns = c .before .before .before .before .before .before .before .before .before .before .before .before .before .before .before .columns-of in
+    let does = c .before .detach .ensures _ _ _ _ _ _ (kept (v .timeout) (v .join) (v .tagged) (v .tags)) (spread-sound v _ (columns .ensures) (s .pre)) in
+    served v (columns .result) (columns .ensures) _ (record { state = c .gather .result; answer = c .before .detach .result }) _ _
+    (carried _ _ _ _ _ _ _ _ _ _ _ _ _ _ _ (does .1) _ (c .gather .ensures) _ _ _ _ _ (does .0))
 
 pub detach-spec : {M : Type 1} → statement M
-detach-spec = tie.close (tie.spec (λ c κs. search needs) detached-requires returns)
+detach-spec = tie.close (tie.spec (λ c κs. search needs) detach-requires (λ c κs. search needs) returns)

@@ -1,19 +1,19 @@
--- `calls::link_lost` meets its contract: what is done from the spread columns is done from the state.
+-- `calls::link_lost` meets its contract: the core empties the column of ids, and the columns are gathered.
 -- Assumes nothing.
-use Rattle.calls.proofs.CallLaws.{spread-sound, served}
+use Rattle.proxy.specs.State.{kept}
+use Rattle.calls.proofs.CallLaws.{spread-sound, served, carried}
 use borrow.Author.Needs.{needs}
 use Rattle.calls.proofs.link_lost.Statement.{statement}
 use Rattle.calls.proofs.link_lost.Tie as tie
 
-lost-requires : tie.Need-lost-requires
-lost-requires c κs =
-    let s = c .before .before .before .before .before .before .before .before .before .before in
-    spread-sound (s .args .s) _ _ _ _ _ (c .before .before .before .spread .ensures) (s .pre)
-
 returns : tie.Need-returns
 returns c =
-    let s = c .before .before .before .before .before .before .before .before .before .before .before in
-    served (s .args .s) _ _ _ _ _ (c .before .before .before .before .spread .ensures) _ (c .lost .result) _ _ (c .lost .ensures)
+    let s = c .before .before .before .before .before .before .before .before .before .before .before .before .before .before .before in
+    let v = s .args .s in
+    let columns = c .before .before .before .before .before .before .before .before .before .before .before .before .before .columns-of in
+    let does = c .before .link-lost .ensures _ _ _ _ _ _ _ _ (kept (v .timeout) (v .join) (v .tagged) (v .tags)) (spread-sound v _ (columns .ensures) (s .pre)) in
+    served v (columns .result) (columns .ensures) _ (record { state = c .gather .result; answer = c .before .link-lost .result }) _ _
+    (carried _ _ _ _ _ _ _ _ _ _ _ _ _ _ _ (does .1) _ (c .gather .ensures) _ _ _ _ _ (does .0))
 
 pub link-lost-spec : {M : Type 1} → statement M
-link-lost-spec = tie.close (tie.spec (λ c κs. search needs) lost-requires returns)
+link-lost-spec = tie.close (tie.spec (λ c κs. search needs) (λ c κs. search needs) (λ c κs. search needs) returns)
