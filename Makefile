@@ -18,4 +18,5 @@ host: archive
 	tests/host/run host examples/host.c
 
 host-test: host
+	tests/host/run host-examples tests/host/examples.c $(AGAINST_MODEL)
 	ARGS=$(SEED) tests/host/run host-generated tests/host/generated.c tests/host/ledger.c tests/host/making.c $(AGAINST_MODEL)
