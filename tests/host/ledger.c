@@ -159,6 +159,8 @@ static void check_issued_id(uint16_t id)
             pair_differs("ledger: a free id was skipped");
         reached(REACHED_SKIPPED);
     }
+    if (next == 65535 && id == 0)
+        reached(REACHED_SKIPPED_BEFORE_WRAP);
     if (next == 65535 && id >= 1 && id < 64)
         reached(REACHED_SKIPPED_AT_WRAP);
     if (ledger.issues && id < ledger.last_id)

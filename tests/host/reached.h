@@ -17,6 +17,7 @@ extern const char *const call_names[CALLS];
     X(JOINED_AT_64, "a read joins while 64 are live") \
     X(WRAP, "the cursor passes 65,535") \
     X(SKIPPED, "an id is skipped because it is live") \
+    X(SKIPPED_BEFORE_WRAP, "65,535 is skipped and 0 is issued") \
     X(SKIPPED_AT_WRAP, "65,535 and 0 are skipped in one search") \
     X(EXCEPTION_02, "exception 02") \
     X(EXCEPTION_03, "exception 03") \
