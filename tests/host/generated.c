@@ -10,44 +10,46 @@
 #include <stdio.h>
 #include <stdlib.h>
 
-/* Pairs of neighbours and 65,535; with or without 0 behind it. */
-enum pins { NO_PINS, PINS, PINS_WITH_0 };
+/* LATE: the clock begins near 2^63 - 1. PINS: some ids are never replied to, so that the cursor meets them again:
+   pairs of neighbours and 65,535, with or without 0 behind it. */
+enum special { PLAIN, LATE, PINS, PINS_WITH_0 };
 
 /* A session from a fresh state on: how often each call comes, and what it is given. */
 typedef struct {
     const char *name;
     uint32_t calls;
     enum settings_kind settings;
-    uint32_t weight[CALLS]; /* in the order of enum call; fresh comes once, at the beginning */
+    uint32_t weight[CALLS]; /* in the order of enum call; fresh comes at the beginning too */
     uint32_t pool;          /* how many different reads are asked; 0: anything */
     uint32_t wrong;         /* one input in so many is spoilt */
     uint32_t step;          /* a call comes less than this many ms after the one before */
-    enum pins pins;         /* some ids are never replied to, so that the cursor meets them again */
-    bool late;              /* the clock begins near 2^63 - 1 */
+    enum special special;
 } session;
 
 static const session sessions[] = {
     /*                                                      f  att det  req  rep tick lost split rd wr */
-    {"mixed",      60000, SETTINGS_OF_THE_DOCUMENT, {0, 60, 50, 500, 330, 150, 2, 30, 4, 4}, 0, 8, 60, NO_PINS, false},
-    {"any",        60000, SETTINGS_ANY,             {0, 60, 40, 500, 330, 150, 1, 20, 4, 4}, 0, 8, 20, NO_PINS, false},
-    {"crowd",      70000, SETTINGS_OF_THE_DOCUMENT, {0, 90, 70, 700, 60, 30, 1, 0, 0, 0}, 3, 40, 40, NO_PINS, false},
-    {"crowds",     70000, SETTINGS_BARE,            {0, 90, 80, 700, 25, 80, 1, 0, 0, 0}, 9, 40, 3, NO_PINS, false},
-    {"full",       60000, SETTINGS_DENSE,           {0, 60, 30, 800, 180, 10, 1, 5, 0, 0}, 0, 20, 4, NO_PINS, false},
-    {"full join",  60000, SETTINGS_OF_THE_DOCUMENT, {0, 90, 80, 700, 60, 20, 1, 0, 0, 0}, 90, 30, 6, NO_PINS, false},
-    {"edges",      50000, SETTINGS_EDGES,           {0, 60, 10, 500, 400, 50, 1, 10, 2, 2}, 0, 20, 10, NO_PINS, false},
-    {"top",        50000, SETTINGS_TOP,             {0, 60, 10, 500, 400, 50, 1, 10, 2, 2}, 0, 20, 10, NO_PINS, false},
-    {"dense",      50000, SETTINGS_DENSE,           {0, 60, 10, 500, 450, 50, 1, 10, 2, 2}, 0, 30, 10, NO_PINS, false},
-    {"leaving",    50000, SETTINGS_OF_THE_DOCUMENT, {0, 200, 150, 500, 100, 60, 30, 0, 0, 0}, 6, 20, 100, NO_PINS, false},
-    {"late",       30000, SETTINGS_OF_THE_DOCUMENT, {0, 60, 30, 500, 330, 150, 1, 0, 0, 0}, 5, 15, 9, NO_PINS, true},
-    {"noise",      30000, SETTINGS_ANY,             {0, 60, 10, 500, 400, 50, 1, 300, 20, 20}, 0, 2, 10, NO_PINS, false},
-    {"texts",      15000, SETTINGS_INVALID,         {0, 40, 10, 100, 80, 10, 1, 50, 300, 200}, 0, 4, 10, NO_PINS, false},
-    {"wrap",      290000, SETTINGS_NO_JOIN,         {0, 5, 1, 510, 500, 1, 0, 0, 0, 0}, 0, 200, 0, PINS_WITH_0, false},
-    {"wrap join", 290000, SETTINGS_OF_THE_DOCUMENT, {0, 10, 5, 520, 500, 1, 0, 0, 0, 0}, 400, 200, 0, PINS, false},
+    {"mixed",      60000, SETTINGS_OF_THE_DOCUMENT, {0, 60, 50, 500, 330, 150, 2, 30, 4, 4}, 0, 8, 60, PLAIN},
+    {"any",        60000, SETTINGS_ANY,             {0, 60, 40, 500, 330, 150, 1, 20, 4, 4}, 0, 8, 20, PLAIN},
+    {"crowd",      70000, SETTINGS_OF_THE_DOCUMENT, {0, 90, 70, 700, 60, 30, 1, 0, 0, 0}, 3, 40, 40, PLAIN},
+    {"crowds",     70000, SETTINGS_BARE,            {0, 90, 80, 700, 25, 80, 1, 0, 0, 0}, 9, 40, 3, PLAIN},
+    {"full",       60000, SETTINGS_DENSE,           {0, 60, 30, 800, 180, 10, 1, 5, 0, 0}, 0, 20, 4, PLAIN},
+    {"full join",  60000, SETTINGS_OF_THE_DOCUMENT, {0, 90, 80, 700, 60, 20, 1, 0, 0, 0}, 90, 30, 6, PLAIN},
+    {"edges",      50000, SETTINGS_EDGES,           {0, 60, 10, 500, 400, 50, 1, 10, 2, 2}, 0, 20, 10, PLAIN},
+    {"top",        50000, SETTINGS_TOP,             {0, 60, 10, 500, 400, 50, 1, 10, 2, 2}, 0, 20, 10, PLAIN},
+    {"dense",      50000, SETTINGS_DENSE,           {0, 60, 10, 500, 450, 50, 1, 10, 2, 2}, 0, 30, 10, PLAIN},
+    {"leaving",    50000, SETTINGS_OF_THE_DOCUMENT, {0, 200, 150, 500, 100, 60, 30, 0, 0, 0}, 6, 20, 100, PLAIN},
+    {"late",       30000, SETTINGS_OF_THE_DOCUMENT, {0, 60, 30, 500, 330, 150, 1, 0, 0, 0}, 5, 15, 9, LATE},
+    {"noise",      30000, SETTINGS_ANY,             {0, 60, 10, 500, 400, 50, 1, 300, 20, 20}, 0, 2, 10, PLAIN},
+    {"restarts",   30000, SETTINGS_ANY,             {20, 90, 10, 400, 200, 60, 1, 0, 0, 0}, 0, 20, 60, PLAIN},
+    {"refused",    15000, SETTINGS_INVALID,         {20, 90, 10, 400, 200, 60, 1, 0, 0, 0}, 0, 20, 60, PLAIN},
+    {"texts",      15000, SETTINGS_INVALID,         {0, 40, 10, 100, 80, 10, 1, 50, 300, 200}, 0, 4, 10, PLAIN},
+    {"wrap",      290000, SETTINGS_NO_JOIN,         {0, 5, 1, 510, 500, 1, 0, 0, 0, 0}, 0, 200, 0, PINS_WITH_0},
+    {"wrap join", 290000, SETTINGS_OF_THE_DOCUMENT, {0, 10, 5, 520, 500, 1, 0, 0, 0, 0}, 400, 200, 0, PINS},
 };
 
 /* What a session that joins does while the cursor passes 65,535: entries of equal reads on both sides of it. */
 static const session at_the_wrap = {
-    "at the wrap", 0, SETTINGS_OF_THE_DOCUMENT, {0, 90, 90, 700, 20, 1, 0, 0, 0, 0}, 3, 200, 0, PINS, false,
+    "at the wrap", 0, SETTINGS_OF_THE_DOCUMENT, {0, 90, 90, 700, 20, 1, 0, 0, 0, 0}, 3, 200, 0, PINS,
 };
 
 enum { BALANCE_EVERY = 64, PINNED_EVERY = 4096, LIVE_WITH_PINS = 50 };
@@ -87,8 +89,8 @@ static uint64_t some_time(const session *s)
 {
     uint64_t now = ledger.clock + (s->step ? below(s->step) : 0);
     if (one_in(s->wrong * 4)) {
-        const uint64_t times[] = {LAST_TIME + 1, UINT64_MAX, dice() | (LAST_TIME + 1), ledger.clock - 1, ledger.clock / 2,
-                                  0};
+        const uint64_t times[] = {LAST_TIME + 1,    UINT64_MAX,       LAST_TIME + below(60000),
+                                  ledger.clock - 1, ledger.clock / 2, 0};
         return times[below(6)];
     }
     if (s->step && one_in(300))
@@ -99,9 +101,9 @@ static uint64_t some_time(const session *s)
 /* Ids that a session never replies to. */
 static bool is_pinned(const session *s, uint16_t id)
 {
-    if (s->pins == NO_PINS)
+    if (s->special < PINS)
         return false;
-    return id % PINNED_EVERY == 7 || id % PINNED_EVERY == 8 || id == 65535 || (id == 0 && s->pins == PINS_WITH_0);
+    return id % PINNED_EVERY == 7 || id % PINNED_EVERY == 8 || id == 65535 || (id == 0 && s->special == PINS_WITH_0);
 }
 
 static void do_request(const session *s)
@@ -176,11 +178,28 @@ static void do_write(void)
     pair_settings_write(&s, one_in(4) ? below(MOST_TEXT) : lengths[below(7)]);
 }
 
+static void begin_session(const session *s)
+{
+    settings = make_settings(s->settings);
+    if (pair_fresh(&settings).refusal) {
+        /* the fresh state is then the one for timeout 3000, join 1 and no tags */
+        settings = (zb_settings){.timeout = 3000, .join = 1};
+    }
+    ledger_fresh(settings.timeout, settings.join);
+    if (s->special == LATE) {
+        uint64_t now = LAST_TIME - 100000;
+        ledger_tick(now, pair_tick(now, 260, 16));
+    }
+}
+
 static void do_call(const session *s, enum call call)
 {
     static uint8_t run[4 * MOST_FRAME];
     uint32_t client = some_client(s->wrong);
     switch (call) {
+    case CALL_FRESH:
+        begin_session(s);
+        break;
     case CALL_ATTACH:
         ledger_attach(client, pair_attach(client));
         break;
@@ -219,28 +238,15 @@ static enum call some_call(const session *s)
     int call = 0;
     while (at >= s->weight[call])
         at -= s->weight[call++];
-    if (s->pins && call == CALL_REQUEST && ledger.lives > LIVE_WITH_PINS)
+    if (s->special >= PINS && call == CALL_REQUEST && ledger.lives > LIVE_WITH_PINS)
         return CALL_REPLY;
     return (enum call)call;
 }
 
-static void begin_session(const session *s)
-{
-    settings = make_settings(s->settings);
-    if (pair_fresh(&settings).refusal) {
-        /* the fresh state is then the one for timeout 3000, join 1 and no tags */
-        settings = (zb_settings){.timeout = 3000, .join = 1};
-    }
-    ledger_fresh(settings.timeout, settings.join);
-    if (s->late) {
-        uint64_t now = LAST_TIME - 100000;
-        ledger_tick(now, pair_tick(now, 260, 16));
-    }
-}
-
 static bool is_at_the_wrap(const session *s)
 {
-    return s->pins && settings.join && ledger.issues > 1000 && (ledger.last_id > 65500 || ledger.last_id < 60);
+    bool is_near = ledger.last_id > 65500 || ledger.last_id < 60;
+    return s->special >= PINS && settings.join && ledger.issues > 1000 && is_near;
 }
 
 static void run_session(const session *s)

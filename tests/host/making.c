@@ -92,12 +92,6 @@ zb_settings spoil_settings(zb_settings s)
     return s;
 }
 
-bool settings_are_valid(const zb_settings *s)
-{
-    uint8_t text[MOST_TEXT];
-    return model_settings_write(*s, text, sizeof text).refusal == 0;
-}
-
 static size_t spoil_text(uint8_t *text, size_t size)
 {
     static const char likely[] = "0123456789=\n av1";

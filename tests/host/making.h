@@ -5,13 +5,12 @@
 #include "zilborteka.h"
 
 enum settings_kind {
-    SETTINGS_OF_THE_DOCUMENT, SETTINGS_BARE, SETTINGS_NO_JOIN, SETTINGS_DENSE, SETTINGS_EDGES, SETTINGS_TOP, SETTINGS_ANY,
-    SETTINGS_INVALID
+    SETTINGS_OF_THE_DOCUMENT, SETTINGS_BARE, SETTINGS_NO_JOIN, SETTINGS_DENSE, SETTINGS_EDGES, SETTINGS_TOP,
+    SETTINGS_ANY, SETTINGS_INVALID /* the last: with one change, mostly invalid */
 };
 
 zb_settings make_settings(enum settings_kind kind);
 zb_settings spoil_settings(zb_settings s);
-bool settings_are_valid(const zb_settings *s);
 /* A settings text, right or wrong; returns its length. */
 size_t make_text(uint8_t *text);
 /* A request; `pool` is how many different reads are asked, 0: anything. `wrong`: one in so many is spoilt. */
