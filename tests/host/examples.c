@@ -1,0 +1,594 @@
+/* Shows document 01's examples from C, each refusal of each call by a case written by hand, and that the header's
+   structs lie as the archive has them. Every call also goes to the model, with guard bytes around what is lent. */
+#include "pair.h"
+#include <stddef.h>
+#include <stdio.h>
+#include <stdlib.h>
+#include <string.h>
+
+static unsigned checks, wrong;
+
+#define EXPECT(condition) expect(condition, #condition, __LINE__)
+
+static void expect(bool good, const char *what, int line)
+{
+    checks++;
+    if (good)
+        return;
+    wrong++;
+    printf("DIFFERENCE: line %d: %s\n", line, what);
+}
+
+/* Bytes written as two hexadecimal digits each, with spaces between. */
+static size_t bytes_of(const char *hex, uint8_t *bytes)
+{
+    size_t size = 0;
+    char *end;
+    for (unsigned long byte = strtoul(hex, &end, 16); end != hex; byte = strtoul(hex, &end, 16)) {
+        bytes[size++] = (uint8_t)byte;
+        hex = end;
+    }
+    return size;
+}
+
+static zb_answer request(uint32_t client, uint64_t now, const char *hex)
+{
+    uint8_t frame[MOST_FRAME];
+    size_t size = bytes_of(hex, frame);
+    return pair_request(client, now, frame, size, 260);
+}
+
+static zb_answer reply(uint64_t now, const char *hex)
+{
+    uint8_t frame[MOST_FRAME];
+    size_t size = bytes_of(hex, frame);
+    return pair_reply(now, frame, size, 260, 16);
+}
+
+static zb_answer tick(uint64_t now)
+{
+    return pair_tick(now, 260, 16);
+}
+
+static zb_answer split(const char *hex)
+{
+    uint8_t run[MOST_FRAME];
+    size_t size = bytes_of(hex, run);
+    return pair_split(run, size);
+}
+
+static bool wrote(zb_answer a, const char *hex)
+{
+    uint8_t frame[MOST_FRAME];
+    size_t size = bytes_of(hex, frame);
+    return a.length == size && memcmp(pair_out(), frame, size) == 0;
+}
+
+static bool listed(zb_answer a, uint32_t parties, const uint16_t *pairs)
+{
+    return a.parties == parties && memcmp(pair_list(), pairs, 4 * parties) == 0;
+}
+
+static bool is_refusal(zb_answer a, uint32_t number)
+{
+    const zb_answer whole = {.refusal = number};
+    return memcmp(&a, &whole, sizeof a) == 0;
+}
+
+static bool raw(zb_answer a, uint32_t partial, uint32_t value)
+{
+    return a.partial == partial && a.value == value;
+}
+
+static bool is_exception(zb_answer a, uint32_t code, const char *hex)
+{
+    return a.outcome == ZB_EXCEPTION && a.code == code && a.id == 0 && raw(a, 0, 0) && wrote(a, hex);
+}
+
+static bool is_issued(zb_answer a, uint32_t id)
+{
+    return a.outcome == ZB_ISSUED && a.id == id && a.parties == 0 && a.code == 0;
+}
+
+static const char text_of_the_document[] =
+    "version=1\ntimeout=3000\njoin=1\ntags=2\naddr=1024\nwidth=16\naddr=1026\nwidth=32\n";
+
+static zb_settings settings_of_the_document(void)
+{
+    return zb_settings_read((const uint8_t *)text_of_the_document, strlen(text_of_the_document)).settings;
+}
+
+/* A fresh state with the document's settings and clients 3 and 5. */
+static void begin(void)
+{
+    zb_settings s = settings_of_the_document();
+    EXPECT(pair_fresh(&s).outcome == ZB_DONE);
+    EXPECT(pair_attach(3).outcome == ZB_DONE);
+    EXPECT(pair_attach(5).outcome == ZB_DONE);
+}
+
+/* The header's structs */
+
+static void sizes_and_offsets(void)
+{
+    EXPECT(zb_state_size() == 5032 && sizeof(zb_state) == 5032 && ZB_STATE_SIZE == 5032 && _Alignof(zb_state) == 8);
+    EXPECT(offsetof(zb_state, ids) == 0 && sizeof((zb_state *)0)->ids == 256);
+    EXPECT(offsetof(zb_state, asked) == 256 && sizeof((zb_state *)0)->asked == 512);
+    EXPECT(offsetof(zb_state, notes) == 768 && sizeof((zb_state *)0)->notes == 64);
+    EXPECT(offsetof(zb_state, deadlines) == 832 && sizeof((zb_state *)0)->deadlines == 512);
+    EXPECT(offsetof(zb_state, counts) == 1344 && sizeof((zb_state *)0)->counts == 64);
+    EXPECT(offsetof(zb_state, clients) == 1408 && sizeof((zb_state *)0)->clients == 512);
+    EXPECT(offsetof(zb_state, originals) == 1920 && sizeof((zb_state *)0)->originals == 1024);
+    EXPECT(offsetof(zb_state, top) == 2944 && sizeof((zb_state *)0)->top == 4);
+    EXPECT(offsetof(zb_state, cursor) == 2948 && sizeof((zb_state *)0)->cursor == 2);
+    EXPECT(offsetof(zb_state, attached) == 2952 && sizeof((zb_state *)0)->attached == 4);
+    EXPECT(offsetof(zb_state, clock) == 2960 && sizeof((zb_state *)0)->clock == 8);
+    EXPECT(offsetof(zb_state, timeout) == 2968 && sizeof((zb_state *)0)->timeout == 4);
+    EXPECT(offsetof(zb_state, join) == 2972 && sizeof((zb_state *)0)->join == 4);
+    EXPECT(offsetof(zb_state, tagged) == 2976 && sizeof((zb_state *)0)->tagged == 4);
+    EXPECT(offsetof(zb_state, tags) == 2984 && sizeof((zb_state *)0)->tags == 2048);
+    EXPECT(sizeof(zb_settings) == 1036 && _Alignof(zb_settings) == 4);
+    EXPECT(offsetof(zb_settings, timeout) == 0 && offsetof(zb_settings, join) == 4 && offsetof(zb_settings, tags) == 8);
+    EXPECT(offsetof(zb_settings, addr) == 12 && offsetof(zb_settings, width) == 524);
+    EXPECT(sizeof(zb_answer) == 40 && offsetof(zb_answer, refusal) == 0 && offsetof(zb_answer, line) == 4);
+    EXPECT(offsetof(zb_answer, outcome) == 8 && offsetof(zb_answer, length) == 12);
+    EXPECT(offsetof(zb_answer, parties) == 16);
+    EXPECT(offsetof(zb_answer, partial) == 20 && offsetof(zb_answer, value) == 24 && offsetof(zb_answer, set) == 28);
+    EXPECT(offsetof(zb_answer, id) == 32 && offsetof(zb_answer, code) == 36);
+    EXPECT(sizeof(zb_read) == 1076 && offsetof(zb_read, answer) == 0 && offsetof(zb_read, settings) == 40);
+}
+
+/* The archive puts each field where the header has it: seen through the header after a few calls. */
+static void fields_are_where_the_header_says(void)
+{
+    static zb_state device;
+    static const uint8_t read[] = {0x12, 0x34, 0, 0, 0, 6, 1, 3, 4, 0, 0, 1};
+    uint8_t out[260];
+    memset(&device, 0xA5, sizeof device);
+    zb_fresh(&device, settings_of_the_document());
+    EXPECT(device.timeout == 3000 && device.join == 1 && device.tagged == 2);
+    EXPECT((device.tags[0] & 0xFFFF) == 1024 && (device.tags[1] & 0xFFFF) == 1026);
+    EXPECT(device.attached == 0 && device.clock == 0 && device.cursor == 0 && device.top == 0);
+    zb_attach(&device, 3);
+    zb_attach(&device, 31);
+    EXPECT(device.attached == 0x80000008);
+    zb_request(&device, 3, 100, read, sizeof read, out, sizeof out);
+    zb_request(&device, 31, 101, read, sizeof read, out, sizeof out);
+    EXPECT(device.ids[0] == 1 && device.ids[1] == 0 && device.cursor == 1 && device.top == 1);
+    EXPECT(device.clock == 101 && device.deadlines[0] == 3100 && device.counts[0] == 2);
+    EXPECT(device.clients[0] == 3 && device.clients[1] == 31);
+    EXPECT(device.originals[0] == 0x1234 && device.originals[1] == 0x1234);
+    EXPECT(device.asked[0] != 0 && device.asked[1] == 0);
+}
+
+/* A host that forgets zb_fresh on static memory has a device without clients, and no more. */
+static void device_of_zeros(void)
+{
+    static zb_state device, zeros;
+    static const uint8_t read[] = {0, 0, 0, 0, 0, 6, 1, 3, 4, 0, 0, 1};
+    uint8_t out[260];
+    uint16_t list[16];
+    for (uint32_t client = 0; client < 32; client++) {
+        EXPECT(is_refusal(zb_detach(&device, client), 2));
+        EXPECT(is_refusal(zb_request(&device, client, 0, read, sizeof read, out, sizeof out), 2));
+    }
+    EXPECT(is_refusal(zb_reply(&device, 0, read, sizeof read, out, sizeof out, list, 16), 7));
+    EXPECT(zb_tick(&device, 0, out, sizeof out, list, 16).outcome == ZB_NOTHING_DUE);
+    EXPECT(zb_link_lost(&device).set == 0);
+    EXPECT(memcmp(&device, &zeros, sizeof device) == 0);
+    EXPECT(zb_attach(&device, 0).outcome == ZB_DONE && device.attached == 1);
+}
+
+/* The examples P1 to P12 */
+
+static void p1_to_p8(void)
+{
+    begin();
+    zb_answer a = request(3, 0, "00 01 00 00 00 06 01 03 04 00 00 01");
+    a = reply(0, "00 00 00 00 00 05 01 03 02 12 34");
+    EXPECT(a.outcome == ZB_ANSWERED && wrote(a, "00 00 00 00 00 05 01 03 02 04 D2") && raw(a, 0, 0)); /* P1 */
+    request(3, 0, "00 01 00 00 00 06 01 03 04 02 00 02");
+    a = reply(0, "00 01 00 00 00 07 01 03 04 12 34 56 78");
+    EXPECT(wrote(a, "00 00 00 00 00 07 01 03 04 69 B2 03 62") && raw(a, 0, 0)); /* P2 */
+    a = request(3, 0, "00 01 00 00 00 0B 01 10 04 02 00 02 04 61 4E 00 BC");
+    EXPECT(is_issued(a, 2) && wrote(a, "00 02 00 00 00 0B 01 10 04 02 00 02 04 56 78 12 34") && raw(a, 0, 0)); /* P3 */
+    a = request(3, 0, "00 01 00 00 00 06 01 06 04 00 27 0F");
+    EXPECT(is_issued(a, 3) && wrote(a, "00 03 00 00 00 06 01 06 04 00 99 99") && raw(a, 0, 0)); /* P4 */
+    a = request(3, 0, "00 01 00 00 00 06 01 06 04 00 27 10");
+    EXPECT(is_issued(a, 4) && wrote(a, "00 04 00 00 00 06 01 06 04 00 27 10") && raw(a, 0, 1)); /* P5 */
+    request(3, 0, "00 01 00 00 00 06 01 04 04 00 00 01");
+    a = reply(0, "00 05 00 00 00 05 01 04 02 00 AB");
+    EXPECT(wrote(a, "00 00 00 00 00 05 01 04 02 00 AB") && raw(a, 0, 1)); /* P6 */
+    a = request(3, 0, "00 01 00 00 00 0B 01 10 04 02 00 02 04 E0 FF 05 F5");
+    EXPECT(is_issued(a, 6) && wrote(a, "00 06 00 00 00 0B 01 10 04 02 00 02 04 99 99 99 99") && raw(a, 0, 0)); /* P7 */
+    a = request(3, 0, "00 01 00 00 00 0B 01 10 04 02 00 02 04 E1 00 05 F5");
+    EXPECT(is_issued(a, 7) && wrote(a, "00 07 00 00 00 0B 01 10 04 02 00 02 04 E1 00 05 F5") && raw(a, 0, 1)); /* P8 */
+}
+
+static void p9_and_p10(void)
+{
+    begin();
+    zb_answer a = request(3, 0, "12 34 00 00 00 06 01 03 04 00 00 01");
+    EXPECT(is_issued(a, 0) && wrote(a, "00 00 00 00 00 06 01 03 04 00 00 01") && raw(a, 0, 0));
+    a = request(5, 0, "00 07 00 00 00 06 01 03 04 00 00 01");
+    EXPECT(a.outcome == ZB_JOINED && a.id == 0 && a.length == 0 && raw(a, 0, 0));
+}
+
+static void p9_to_p12(void)
+{
+    static const uint16_t pairs[] = {3, 0x1234, 5, 7};
+    p9_and_p10();
+    zb_answer a = reply(0, "00 00 00 00 00 05 01 03 02 12 34");
+    EXPECT(a.outcome == ZB_ANSWERED && wrote(a, "00 00 00 00 00 05 01 03 02 04 D2") && listed(a, 2, pairs));
+    p9_and_p10();
+    a = tick(3000);
+    EXPECT(a.outcome == ZB_TIMED_OUT && wrote(a, "00 00 00 00 00 03 01 83 0B") && listed(a, 2, pairs) && raw(a, 0, 0));
+    p9_and_p10();
+    EXPECT(tick(2999).outcome == ZB_NOTHING_DUE);
+    EXPECT(tick(3000).outcome == ZB_TIMED_OUT);
+    EXPECT(tick(3000).outcome == ZB_NOTHING_DUE);
+}
+
+/* The examples without a mark */
+
+static void quantities_and_starts(void)
+{
+    begin();
+    EXPECT(is_issued(request(3, 0, "00 01 00 00 00 06 01 03 00 00 00 7D"), 0));
+    zb_answer a = request(3, 0, "AB CD 00 00 00 06 01 03 00 00 00 7E");
+    EXPECT(is_exception(a, 3, "AB CD 00 00 00 03 01 83 03"));
+    EXPECT(is_exception(request(3, 0, "00 01 00 00 00 06 09 04 00 00 00 00"), 3, "00 01 00 00 00 03 09 84 03"));
+    EXPECT(is_issued(request(3, 0, "00 01 00 00 00 06 01 03 FF FF 00 01"), 1));
+    EXPECT(is_exception(request(3, 0, "00 01 00 00 00 06 01 03 FF FF 00 02"), 2, "00 01 00 00 00 03 01 83 02"));
+    EXPECT(is_exception(request(3, 0, "00 01 00 00 00 07 01 10 00 00 00 00 00"), 3, "00 01 00 00 00 03 01 90 03"));
+    a = request(3, 0, "00 01 00 00 00 0B 01 10 FF FF 00 02 04 00 00 00 00");
+    EXPECT(is_exception(a, 2, "00 01 00 00 00 03 01 90 02"));
+    a = request(3, 0, "00 01 00 00 00 0A 01 10 00 00 00 02 03 00 00 00");
+    EXPECT(is_exception(a, 3, "00 01 00 00 00 03 01 90 03"));
+    a = request(3, 0, "00 01 00 00 00 06 01 03 04 03 00 01");
+    EXPECT(is_issued(a, 2) && raw(a, 0, 0));
+    a = reply(0, "00 02 00 00 00 05 01 03 02 12 34");
+    EXPECT(wrote(a, "00 00 00 00 00 05 01 03 02 12 34") && raw(a, 1, 0));
+}
+
+/* 16 with quantity 123 passes, with 124 gets exception 03: its frame would be longer than 260 bytes with the data. */
+static void longest_write(void)
+{
+    uint8_t frame[259] = {0, 1, 0, 0, 0, 253, 1, 16, 0, 0, 0, 123, 246};
+    begin();
+    zb_answer a = pair_request(3, 0, frame, 259, 260);
+    EXPECT(is_issued(a, 0) && a.length == 259);
+    frame[11] = 124;
+    a = pair_request(3, 0, frame, 259, 260);
+    EXPECT(is_exception(a, 3, "00 01 00 00 00 03 01 90 03"));
+}
+
+static void eighth_and_ninth_party(void)
+{
+    static const uint16_t pairs[] = {3, 1, 3, 2, 3, 3, 3, 4, 3, 5, 3, 6, 3, 7, 3, 8};
+    uint8_t read[] = {0, 1, 0, 0, 0, 6, 1, 3, 4, 0, 0, 1};
+    begin();
+    EXPECT(is_issued(pair_request(3, 0, read, 12, 260), 0));
+    for (read[1] = 2; read[1] <= 8; read[1]++) {
+        zb_answer a = pair_request(3, 0, read, 12, 260);
+        EXPECT(a.outcome == ZB_JOINED && a.id == 0);
+    }
+    EXPECT(is_issued(pair_request(3, 0, read, 12, 260), 1));
+    EXPECT(listed(reply(0, "00 00 00 00 00 05 01 03 02 12 34"), 8, pairs));
+}
+
+static void sixty_fifth_request(void)
+{
+    uint8_t write[] = {0, 9, 0, 0, 0, 6, 1, 6, 0, 0, 0, 1};
+    begin();
+    for (uint32_t n = 0; n < 64; n++)
+        EXPECT(is_issued(pair_request(3, n, write, 12, 260), n));
+    EXPECT(is_exception(pair_request(5, 64, write, 12, 260), 4, "00 09 00 00 00 03 01 86 04"));
+    EXPECT(tick(3000).id == 0);
+    EXPECT(is_issued(pair_request(5, 3000, write, 12, 260), 64));
+}
+
+/* 10,000 written by 06 goes out raw; its echo is digits and comes back as 2,710. A width-32 tag is partial for 06. */
+static void single_writes(void)
+{
+    begin();
+    request(3, 0, "00 01 00 00 00 06 01 06 04 00 27 10");
+    zb_answer a = reply(0, "00 00 00 00 00 06 01 06 04 00 27 10");
+    EXPECT(wrote(a, "00 00 00 00 00 06 01 06 04 00 0A 96") && raw(a, 0, 0));
+    a = request(3, 0, "00 01 00 00 00 06 01 06 04 02 27 10");
+    EXPECT(wrote(a, "00 01 00 00 00 06 01 06 04 02 27 10") && raw(a, 1, 0));
+    a = request(3, 0, "00 01 00 00 00 06 01 06 04 03 27 10");
+    EXPECT(wrote(a, "00 02 00 00 00 06 01 06 04 03 27 10") && raw(a, 1, 0));
+    a = reply(0, "00 02 00 00 00 06 01 06 04 03 27 10");
+    EXPECT(wrote(a, "00 00 00 00 00 06 01 06 04 03 27 10") && raw(a, 1, 0));
+    a = request(3, 0, "00 01 00 00 00 0D 01 10 04 00 00 03 06 27 10 00 00 00 01");
+    EXPECT(wrote(a, "00 03 00 00 00 0D 01 10 04 00 00 03 06 27 10 00 00 00 01") && raw(a, 1, 1));
+}
+
+/* The mistakes that document 01 rules out */
+
+static void cursor_and_clock_stay_after_a_lost_link(void)
+{
+    begin();
+    request(3, 10, "12 34 00 00 00 06 01 03 04 00 00 01");
+    zb_answer a = pair_link_lost();
+    EXPECT(a.outcome == ZB_DONE && a.set == 0x28);
+    EXPECT(is_refusal(request(3, 10, "12 34 00 00 00 06 01 03 04 00 00 01"), 2));
+    EXPECT(is_refusal(reply(10, "00 00 00 00 00 05 01 03 02 12 34"), 7));
+    EXPECT(is_refusal(tick(9), 3));
+    EXPECT(pair_attach(3).outcome == ZB_DONE);
+    EXPECT(is_issued(request(3, 10, "12 34 00 00 00 06 01 03 04 00 00 01"), 1));
+    EXPECT(pair_link_lost().set == 8 && pair_link_lost().set == 0);
+}
+
+static void struck_room_and_successor(void)
+{
+    static const uint16_t pairs[] = {5, 1, 5, 2};
+    begin();
+    request(3, 0, "12 34 00 00 00 06 01 03 04 00 00 01");
+    request(5, 0, "00 01 00 00 00 06 01 03 04 00 00 01");
+    for (int n = 0; n < 6; n++)
+        request(3, 0, "12 34 00 00 00 06 01 03 04 00 00 01");
+    EXPECT(pair_detach(3).outcome == ZB_DONE);
+    EXPECT(pair_attach(3).outcome == ZB_DONE);
+    EXPECT(request(5, 0, "00 02 00 00 00 06 01 03 04 00 00 01").outcome == ZB_JOINED);
+    EXPECT(listed(reply(0, "00 00 00 00 00 05 01 03 02 12 34"), 2, pairs));
+}
+
+static void left_by_all(void)
+{
+    static const uint16_t pairs[] = {5, 7};
+    begin();
+    request(3, 0, "12 34 00 00 00 06 01 03 04 00 00 01");
+    request(3, 0, "12 34 00 00 00 06 01 03 04 00 00 02");
+    request(3, 0, "12 34 00 00 00 06 01 03 04 00 00 03");
+    pair_detach(3);
+    zb_answer a = request(5, 0, "00 07 00 00 00 06 01 03 04 00 00 01");
+    EXPECT(a.outcome == ZB_JOINED && a.id == 0);
+    EXPECT(listed(reply(0, "00 00 00 00 00 05 01 03 02 12 34"), 1, pairs));
+    a = reply(0, "00 01 00 00 00 07 01 03 04 12 34 56 78");
+    EXPECT(a.outcome == ZB_ANSWERED && a.parties == 0 && wrote(a, "00 00 00 00 00 07 01 03 04 04 D2 56 78"));
+    a = tick(3000);
+    EXPECT(a.outcome == ZB_TIMED_OUT && a.id == 2 && a.parties == 0 && wrote(a, "00 00 00 00 00 03 01 83 0B"));
+}
+
+static void due_is_not_joined(void)
+{
+    begin();
+    request(3, 0, "12 34 00 00 00 06 01 03 04 00 00 01");
+    EXPECT(request(5, 2999, "00 07 00 00 00 06 01 03 04 00 00 01").outcome == ZB_JOINED);
+    EXPECT(is_issued(request(5, 3000, "00 07 00 00 00 06 01 03 04 00 00 01"), 1));
+    EXPECT(reply(3001, "00 00 00 00 00 05 01 03 02 12 34").parties == 2);
+}
+
+static void mismatched_reply_leaves_the_entry(void)
+{
+    begin();
+    request(3, 0, "12 34 00 00 00 06 01 03 04 00 00 01");
+    EXPECT(is_refusal(reply(0, "00 00 00 00 00 05 02 03 02 12 34"), 8));
+    EXPECT(is_refusal(reply(0, "00 00 00 00 00 05 01 04 02 12 34"), 8));
+    EXPECT(is_refusal(reply(0, "00 00 00 00 00 05 01 03 04 12 34"), 8));
+    EXPECT(is_refusal(reply(0, "00 00 00 00 00 07 01 03 04 12 34 56 78"), 8));
+    EXPECT(is_refusal(reply(0, "00 00 00 00 00 02 01 83"), 8));
+    EXPECT(is_refusal(reply(0, "00 00 00 00 00 04 01 83 02 00"), 8));
+    zb_answer a = reply(0, "00 00 00 00 00 03 01 83 02");
+    EXPECT(a.outcome == ZB_ANSWERED && wrote(a, "00 00 00 00 00 03 01 83 02") && a.parties == 1 && a.code == 0);
+    EXPECT(is_refusal(reply(0, "00 00 00 00 00 03 01 83 02"), 7));
+}
+
+/* Refusals */
+
+static void refusals_of_attach_and_detach(void)
+{
+    begin();
+    EXPECT(is_refusal(pair_attach(32), 2) && is_refusal(pair_attach(259), 2) && is_refusal(pair_attach(UINT32_MAX), 2));
+    EXPECT(is_refusal(pair_attach(3), 9));
+    EXPECT(pair_attach(0).outcome == ZB_DONE && pair_attach(31).outcome == ZB_DONE);
+    EXPECT(is_refusal(pair_detach(32), 2) && is_refusal(pair_detach(259), 2) && is_refusal(pair_detach(UINT32_MAX), 2));
+    EXPECT(is_refusal(pair_detach(4), 2));
+    EXPECT(pair_detach(3).outcome == ZB_DONE);
+    EXPECT(is_refusal(pair_detach(3), 2));
+}
+
+static void refusals_of_request_before_the_frame(void)
+{
+    static const uint8_t read[] = {0, 1, 0, 0, 0, 6, 1, 3, 4, 0, 0, 1};
+    begin();
+    EXPECT(is_refusal(pair_request(3, 0, read, 12, 259), 1) && is_refusal(pair_request(3, 0, read, 12, 0), 1));
+    EXPECT(is_refusal(pair_request(4, 0, read, 12, 260), 2) && is_refusal(pair_request(32, 0, read, 12, 260), 2));
+    EXPECT(is_refusal(pair_request(259, 0, read, 12, 260), 2));
+    EXPECT(is_refusal(pair_request(UINT32_MAX, 0, read, 12, 260), 2));
+    EXPECT(is_refusal(pair_request(3, (uint64_t)1 << 63, read, 12, 260), 3));
+    EXPECT(is_refusal(pair_request(3, UINT64_MAX, read, 12, 260), 3));
+    EXPECT(tick(10).outcome == ZB_NOTHING_DUE);
+    EXPECT(is_refusal(pair_request(3, 9, read, 12, 260), 3));
+    EXPECT(pair_request(3, 10, read, 12, 320).outcome == ZB_ISSUED);
+    EXPECT(pair_request(3, ((uint64_t)1 << 63) - 1, read, 12, 260).outcome == ZB_ISSUED);
+}
+
+static void refusals_of_request_by_the_frame(void)
+{
+    uint8_t longest[261] = {0, 1, 0, 0, 0, 255, 1, 43};
+    begin();
+    EXPECT(is_refusal(request(3, 0, ""), 4) && is_refusal(request(3, 0, "00 01 00 00 00 01 01"), 4));
+    EXPECT(is_refusal(pair_request(3, 0, longest, 261, 260), 4));
+    EXPECT(is_refusal(request(3, 0, "00 01 00 01 00 06 01 03 04 00 00 01"), 4));
+    EXPECT(is_refusal(request(3, 0, "00 01 01 00 00 06 01 03 04 00 00 01"), 4));
+    EXPECT(is_refusal(request(3, 0, "00 01 00 00 00 05 01 03 04 00 00 01"), 4));
+    EXPECT(is_refusal(request(3, 0, "00 01 00 00 01 06 01 03 04 00 00 01"), 4));
+    EXPECT(is_refusal(request(3, 0, "00 01 00 00 00 02 01 00"), 5));
+    EXPECT(is_refusal(request(3, 0, "00 01 00 00 00 02 01 80"), 5));
+    EXPECT(is_refusal(request(3, 0, "00 01 00 00 00 06 01 83 04 00 00 01"), 5));
+    EXPECT(is_refusal(request(3, 0, "00 01 00 00 00 02 01 FF"), 5));
+    EXPECT(is_refusal(request(3, 0, "00 01 00 00 00 05 01 03 04 00 00"), 6));
+    EXPECT(is_refusal(request(3, 0, "00 01 00 00 00 07 01 04 04 00 00 01 00"), 6));
+    EXPECT(is_refusal(request(3, 0, "00 01 00 00 00 02 01 06"), 6));
+    EXPECT(is_refusal(request(3, 0, "00 01 00 00 00 06 01 10 04 00 00 01"), 6));
+    EXPECT(is_refusal(request(3, 0, "00 01 00 00 00 09 01 10 04 00 00 01 03 00 01"), 6));
+    longest[5] = 254;
+    EXPECT(is_issued(pair_request(3, 0, longest, 260, 260), 0));
+    EXPECT(is_issued(request(3, 0, "00 01 00 00 00 02 01 7F"), 1));
+}
+
+/* Of several refusals that apply the lowest is given. */
+static void lowest_refusal_of_request(void)
+{
+    static const uint8_t bad[] = {0, 1, 0, 1, 0, 6, 1, 0, 4, 0, 0, 1};
+    begin();
+    tick(10);
+    EXPECT(is_refusal(pair_request(99, 5, bad, 12, 259), 1));
+    EXPECT(is_refusal(pair_request(99, 5, bad, 12, 260), 2));
+    EXPECT(is_refusal(pair_request(3, 5, bad, 12, 260), 3));
+    EXPECT(is_refusal(pair_request(3, 10, bad, 12, 260), 4));
+    EXPECT(is_refusal(request(3, 10, "00 01 00 00 00 03 01 00 00"), 5));
+    EXPECT(is_refusal(request(3, 10, "00 01 00 00 00 03 01 03 00"), 6));
+}
+
+static void refusals_of_reply_and_tick(void)
+{
+    static const uint8_t good[] = {0, 0, 0, 0, 0, 5, 1, 3, 2, 0x12, 0x34};
+    begin();
+    request(3, 10, "12 34 00 00 00 06 01 03 04 00 00 01");
+    EXPECT(is_refusal(pair_reply(10, good, 11, 259, 16), 1) && is_refusal(pair_reply(10, good, 11, 260, 15), 1));
+    EXPECT(is_refusal(pair_reply(9, good, 11, 260, 16), 3) && is_refusal(pair_reply(UINT64_MAX, good, 11, 260, 16), 3));
+    EXPECT(is_refusal(pair_reply(10, good, 7, 260, 16), 4) && is_refusal(pair_reply(10, good, 10, 260, 16), 4));
+    EXPECT(is_refusal(reply(10, "00 00 00 01 00 05 01 03 02 12 34"), 4));
+    EXPECT(is_refusal(reply(10, "00 01 00 00 00 05 01 03 02 12 34"), 7));
+    EXPECT(is_refusal(reply(10, "00 00 00 00 00 05 01 05 02 12 34"), 8));
+    EXPECT(is_refusal(pair_reply(9, good, 7, 0, 0), 1) && is_refusal(pair_reply(9, good, 7, 260, 16), 3));
+    EXPECT(is_refusal(pair_tick(5000, 259, 16), 1) && is_refusal(pair_tick(5000, 260, 15), 1));
+    EXPECT(is_refusal(pair_tick(9, 0, 0), 1));
+    EXPECT(is_refusal(tick(9), 3) && is_refusal(tick((uint64_t)1 << 63), 3));
+    EXPECT(pair_reply(10, good, 11, 260, 16).outcome == ZB_ANSWERED);
+}
+
+static void splitting(void)
+{
+    EXPECT(split("").outcome == ZB_MORE && split("00 01 00 09 00").outcome == ZB_MORE);
+    EXPECT(is_refusal(split("00 01 00 01 00 06"), 4) && is_refusal(split("00 01 00 00 00 01"), 4));
+    EXPECT(is_refusal(split("00 01 00 00 00 FF"), 4) && is_refusal(split("00 01 00 00 01 02"), 4));
+    EXPECT(split("00 01 00 00 00 02").outcome == ZB_MORE && split("00 01 00 00 00 FE 01").outcome == ZB_MORE);
+    zb_answer a = split("00 01 00 00 00 02 01 07 00 02 00");
+    EXPECT(a.outcome == ZB_FRAME && a.length == 8 && a.refusal == 0);
+}
+
+/* Settings */
+
+static zb_answer read_text(const char *text)
+{
+    return pair_settings_read((const uint8_t *)text, strlen(text));
+}
+
+static bool is_wrong_at(zb_answer a, uint32_t line)
+{
+    const zb_answer whole = {.refusal = 10, .line = line};
+    return memcmp(&a, &whole, sizeof a) == 0;
+}
+
+static void texts(void)
+{
+    static const struct { const char *text; uint32_t line; } rows[] = {
+        {"", 1}, {"version=2\n", 1}, {"version=1", 1}, {"version=01\n", 1}, {" version=1\n", 1}, {"version=1\n", 2},
+        {"version=1\ntimeout=99\n", 2}, {"version=1\ntimeout=60001\n", 2}, {"version=1\r\ntimeout=100\n", 1},
+        {"version=1\ntimeout=0100\n", 2}, {"version=1\ntimeout=100\njoin=2\n", 3},
+        {"version=1\ntimeout=100\njoin=\n", 3},
+        {"version=1\ntimeout=100\njoin=0\ntags=257\n", 4}, {"version=1\ntimeout=100\njoin=0\ntags=0", 4},
+        {"version=1\ntimeout=100\njoin=0\ntags=0\n", 0}, {"version=1\ntimeout=60000\njoin=1\ntags=0\n", 0},
+        {"version=1\ntimeout=100\njoin=0\ntags=0\n\n", 5}, {"version=1\ntimeout=100\njoin=0\ntags=0\nx", 5},
+        {"version=1\ntimeout=100\njoin=0\ntags=1\n", 5}, {"version=1\ntimeout=100\njoin=0\ntags=1\naddr=65536\n", 5},
+        {"version=1\ntimeout=100\njoin=0\ntags=1\naddr=65535\nwidth=32\n", 6},
+        {"version=1\ntimeout=100\njoin=0\ntags=1\naddr=65535\nwidth=16\n", 0},
+        {"version=1\ntimeout=100\njoin=0\ntags=1\naddr=65534\nwidth=32\n", 0},
+        {"version=1\ntimeout=100\njoin=0\ntags=1\naddr=0\nwidth=24\n", 6},
+        {"version=1\ntimeout=100\njoin=0\ntags=2\naddr=5\nwidth=32\naddr=6\nwidth=16\n", 7},
+        {"version=1\ntimeout=100\njoin=0\ntags=2\naddr=5\nwidth=32\naddr=7\nwidth=16\n", 0},
+        {"version=1\ntimeout=100\njoin=0\ntags=3\naddr=5\nwidth=32\naddr=7\nwidth=16\n", 9},
+        {"version=1\ntimeout=4294967396\njoin=0\ntags=0\n", 2}, {"version=1\njoin=0\ntimeout=100\ntags=0\n", 2},
+    };
+    for (size_t n = 0; n < sizeof rows / sizeof *rows; n++) {
+        zb_answer a = read_text(rows[n].text);
+        bool good = rows[n].line ? is_wrong_at(a, rows[n].line) : a.outcome == ZB_DONE && a.refusal == 0 && a.line == 0;
+        expect(good, rows[n].text, __LINE__);
+    }
+}
+
+static void text_of_75_bytes(void)
+{
+    const uint8_t *text = (const uint8_t *)text_of_the_document;
+    uint8_t written[76] = {0};
+    EXPECT(strlen(text_of_the_document) == 75);
+    zb_read r = zb_settings_read(text, 75);
+    EXPECT(r.answer.outcome == ZB_DONE && r.settings.timeout == 3000 && r.settings.join == 1 && r.settings.tags == 2);
+    EXPECT(r.settings.addr[0] == 1024 && r.settings.width[0] == 16);
+    EXPECT(r.settings.addr[1] == 1026 && r.settings.width[1] == 32 && r.settings.addr[2] == 0);
+    EXPECT(pair_settings_write(&r.settings, 75).length == 75);
+    EXPECT(is_refusal(pair_settings_write(&r.settings, 74), 1));
+    EXPECT(zb_settings_write(r.settings, written, 75).length == 75 && memcmp(written, text, 76) == 0);
+    r = zb_settings_read(text, 74);
+    EXPECT(is_wrong_at(r.answer, 8) && r.settings.timeout == 3000 && r.settings.join == 1 && r.settings.tags == 0);
+}
+
+/* 256 tags with five digits each: the longest text. */
+static void longest_text(void)
+{
+    static uint8_t text[5161];
+    zb_settings s = {.timeout = 60000, .join = 1, .tags = 256};
+    for (uint32_t t = 0; t < 256; t++) {
+        s.addr[t] = (uint16_t)(10000 + 2 * t);
+        s.width[t] = 32;
+    }
+    EXPECT(pair_settings_write(&s, 5160).length == 5160);
+    EXPECT(is_refusal(pair_settings_write(&s, 5159), 1));
+    EXPECT(zb_settings_write(s, text, 5160).length == 5160);
+    EXPECT(pair_settings_read(text, 5160).outcome == ZB_DONE);
+    EXPECT(is_wrong_at(pair_settings_read(text, 5161), 517));
+    EXPECT(is_wrong_at(pair_settings_read(text, 5159), 516));
+    zb_read r = zb_settings_read(text, 5160);
+    EXPECT(memcmp(&r.settings, &s, sizeof s) == 0);
+}
+
+static void invalid_settings(void)
+{
+    zb_settings good = settings_of_the_document(), bad[9];
+    for (int n = 0; n < 9; n++)
+        bad[n] = good;
+    bad[0].timeout = 99;
+    bad[1].timeout = 60001;
+    bad[2].join = 2;
+    bad[3].tags = 257;
+    bad[4].tags = 3; /* its third place is all zeros */
+    bad[5].width[0] = 24;
+    bad[6].addr[1] = 1024;
+    bad[7].addr[1] = 65535;
+    bad[8].tags = UINT32_MAX;
+    for (int n = 0; n < 9; n++) {
+        EXPECT(is_refusal(pair_settings_write(&bad[n], 5160), 10) && is_refusal(pair_settings_write(&bad[n], 0), 10));
+        EXPECT(is_refusal(pair_fresh(&bad[n]), 10));
+        /* the fresh state beside the refusal: nobody attached, timeout 3000, joining on, no tags */
+        EXPECT(is_refusal(pair_detach(3), 2) && pair_attach(3).outcome == ZB_DONE);
+        EXPECT(is_issued(request(3, 0, "00 01 00 00 00 06 01 03 04 00 00 01"), 0));
+        EXPECT(request(3, 0, "00 01 00 00 00 06 01 03 04 00 00 01").outcome == ZB_JOINED);
+        EXPECT(wrote(request(3, 0, "00 01 00 00 00 06 01 06 04 00 27 0F"), "00 01 00 00 00 06 01 06 04 00 27 0F"));
+        EXPECT(tick(2999).outcome == ZB_NOTHING_DUE && tick(3000).outcome == ZB_TIMED_OUT);
+    }
+    good.addr[200] = 1; /* an unused place never makes a value invalid */
+    EXPECT(pair_fresh(&good).outcome == ZB_DONE && pair_settings_write(&good, 75).length == 75);
+}
+
+int main(void)
+{
+    static void (*const all[])(void) = {
+        sizes_and_offsets, fields_are_where_the_header_says, device_of_zeros, p1_to_p8, p9_to_p12,
+        quantities_and_starts, longest_write, eighth_and_ninth_party, sixty_fifth_request, single_writes,
+        cursor_and_clock_stay_after_a_lost_link, struck_room_and_successor, left_by_all, due_is_not_joined,
+        mismatched_reply_leaves_the_entry, refusals_of_attach_and_detach,
+        refusals_of_request_before_the_frame, refusals_of_request_by_the_frame, lowest_refusal_of_request,
+        refusals_of_reply_and_tick, splitting, texts, text_of_75_bytes, longest_text, invalid_settings,
+    };
+    pair_open(0);
+    for (size_t n = 0; n < sizeof all / sizeof *all; n++)
+        all[n]();
+    printf("examples: %u checks in %llu calls against the model, %u differences\n", checks,
+           (unsigned long long)pair_calls(), wrong);
+    return wrong != 0;
+}

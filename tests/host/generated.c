@@ -1,0 +1,284 @@
+/* Shows that the archive and a model in plain C, written from document 01 alone, agree on over a million generated
+   calls, in every field, byte and number, and that the ledger of demand 3 adds up; then prints what was reached.
+   Arguments: the seed, and how many times the sessions are gone through. */
+#include "dice.h"
+#include "ledger.h"
+#include "making.h"
+#include "model.h"
+#include "pair.h"
+#include "reached.h"
+#include <stdio.h>
+#include <stdlib.h>
+
+/* LATE: the clock begins near 2^63 - 1. PINS: some ids are never replied to, so that the cursor meets them again:
+   pairs of neighbours and 65,535, with or without 0 behind it. */
+enum special { PLAIN, LATE, PINS, PINS_WITH_0 };
+
+/* A session from a fresh state on: how often each call comes, and what it is given. */
+typedef struct {
+    const char *name;
+    uint32_t calls;
+    enum settings_kind settings;
+    uint32_t weight[CALLS]; /* in the order of enum call; fresh comes at the beginning too */
+    uint32_t pool;          /* how many different reads are asked; 0: anything */
+    uint32_t wrong;         /* one input in so many is spoilt */
+    uint32_t step;          /* a call comes less than this many ms after the one before */
+    enum special special;
+} session;
+
+static const session sessions[] = {
+    /*                                                      f  att det  req  rep tick lost split rd wr */
+    {"mixed",      60000, SETTINGS_OF_THE_DOCUMENT, {0, 60, 50, 500, 330, 150, 2, 30, 4, 4}, 0, 8, 60, PLAIN},
+    {"any",        60000, SETTINGS_ANY,             {0, 60, 40, 500, 330, 150, 1, 20, 4, 4}, 0, 8, 20, PLAIN},
+    {"crowd",      70000, SETTINGS_OF_THE_DOCUMENT, {0, 90, 70, 700, 60, 30, 1, 0, 0, 0}, 3, 40, 40, PLAIN},
+    {"crowds",     70000, SETTINGS_BARE,            {0, 90, 80, 700, 25, 80, 1, 0, 0, 0}, 9, 40, 3, PLAIN},
+    {"full",       60000, SETTINGS_DENSE,           {0, 60, 30, 800, 180, 10, 1, 5, 0, 0}, 0, 20, 4, PLAIN},
+    {"full join",  60000, SETTINGS_OF_THE_DOCUMENT, {0, 90, 80, 700, 60, 20, 1, 0, 0, 0}, 90, 30, 6, PLAIN},
+    {"edges",      50000, SETTINGS_EDGES,           {0, 60, 10, 500, 400, 50, 1, 10, 2, 2}, 0, 20, 10, PLAIN},
+    {"top",        50000, SETTINGS_TOP,             {0, 60, 10, 500, 400, 50, 1, 10, 2, 2}, 0, 20, 10, PLAIN},
+    {"dense",      50000, SETTINGS_DENSE,           {0, 60, 10, 500, 450, 50, 1, 10, 2, 2}, 0, 30, 10, PLAIN},
+    {"leaving",    50000, SETTINGS_OF_THE_DOCUMENT, {0, 200, 150, 500, 100, 60, 30, 0, 0, 0}, 6, 20, 100, PLAIN},
+    {"late",       30000, SETTINGS_OF_THE_DOCUMENT, {0, 60, 30, 500, 330, 150, 1, 0, 0, 0}, 5, 15, 9, LATE},
+    {"noise",      30000, SETTINGS_ANY,             {0, 60, 10, 500, 400, 50, 1, 300, 20, 20}, 0, 2, 10, PLAIN},
+    {"restarts",   30000, SETTINGS_ANY,             {20, 90, 10, 400, 200, 60, 1, 0, 0, 0}, 0, 20, 60, PLAIN},
+    {"refused",    15000, SETTINGS_INVALID,         {20, 90, 10, 400, 200, 60, 1, 0, 0, 0}, 0, 20, 60, PLAIN},
+    {"texts",      15000, SETTINGS_INVALID,         {0, 40, 10, 100, 80, 10, 1, 50, 300, 200}, 0, 4, 10, PLAIN},
+    {"wrap",      290000, SETTINGS_NO_JOIN,         {0, 5, 1, 510, 500, 1, 0, 0, 0, 0}, 0, 200, 0, PINS_WITH_0},
+    {"wrap join", 290000, SETTINGS_OF_THE_DOCUMENT, {0, 10, 5, 520, 500, 1, 0, 0, 0, 0}, 400, 200, 0, PINS},
+};
+
+/* What a session that joins does while the cursor passes 65,535: entries of equal reads on both sides of it. */
+static const session at_the_wrap = {
+    "at the wrap", 0, SETTINGS_OF_THE_DOCUMENT, {0, 90, 90, 700, 20, 1, 0, 0, 0, 0}, 3, 200, 0, PINS,
+};
+
+enum { BALANCE_EVERY = 64, PINNED_EVERY = 4096, LIVE_WITH_PINS = 50 };
+
+static const uint64_t LAST_TIME = ((uint64_t)1 << 63) - 1;
+static zb_settings settings;
+
+static size_t some_out_len(uint32_t wrong)
+{
+    static const size_t lengths[] = {259, 0, 9, 12, 258};
+    return one_in(wrong * 4) ? lengths[below(5)] : one_in(4) ? 260 + below(MOST_FRAME - 260 + 1) : 260;
+}
+
+static size_t some_list_len(uint32_t wrong)
+{
+    static const size_t lengths[] = {15, 0, 2, 14};
+    return one_in(wrong * 4) ? lengths[below(4)] : one_in(4) ? 16 + below(MOST_LIST - 16 + 1) : 16;
+}
+
+static uint32_t some_client(uint32_t wrong)
+{
+    static const uint32_t clients[] = {32, 33, 63, 64, 259, 65539, UINT32_MAX, 0x80000003};
+    return one_in(wrong * 4) ? clients[below(8)] : below(32);
+}
+
+static uint32_t attached_client(uint32_t wrong)
+{
+    uint32_t client = below(32);
+    if (one_in(wrong * 2) || ledger.attached == 0)
+        return some_client(wrong);
+    while (!(ledger.attached >> client & 1))
+        client = (client + 1) % 32;
+    return client;
+}
+
+static uint64_t some_time(const session *s)
+{
+    uint64_t now = ledger.clock + (s->step ? below(s->step) : 0);
+    if (one_in(s->wrong * 4)) {
+        const uint64_t times[] = {LAST_TIME + 1,    UINT64_MAX,       LAST_TIME + below(60000),
+                                  ledger.clock - 1, ledger.clock / 2, 0};
+        return times[below(6)];
+    }
+    if (s->step && one_in(300))
+        now += ledger.timeout;
+    return now > LAST_TIME ? LAST_TIME : now;
+}
+
+/* Ids that a session never replies to. */
+static bool is_pinned(const session *s, uint16_t id)
+{
+    if (s->special < PINS)
+        return false;
+    return id % PINNED_EVERY == 7 || id % PINNED_EVERY == 8 || id == 65535 || (id == 0 && s->special == PINS_WITH_0);
+}
+
+static void do_request(const session *s)
+{
+    uint8_t frame[MOST_FRAME];
+    size_t size = make_request(frame, &settings, s->pool, s->wrong);
+    uint32_t client = attached_client(s->wrong);
+    uint64_t now = some_time(s);
+    ledger_request(client, now, frame, size, pair_request(client, now, frame, size, some_out_len(s->wrong)));
+}
+
+/* A live entry that may be replied to. */
+static const ledger_entry *some_entry(const session *s)
+{
+    uint32_t from = ledger.lives ? below(ledger.lives) : 0;
+    for (uint32_t n = 0; n < ledger.lives; n++) {
+        const ledger_entry *e = &ledger.live[(from + n) % ledger.lives];
+        if (!is_pinned(s, e->id))
+            return e;
+    }
+    return NULL;
+}
+
+static void do_reply(const session *s)
+{
+    uint8_t frame[MOST_FRAME];
+    const ledger_entry *e = some_entry(s);
+    bool stray = !e || one_in(s->wrong * 2);
+    size_t size = stray ? make_request(frame, &settings, 0, 2) : make_reply(frame, e, s->wrong);
+    if (size >= 2 && is_pinned(s, (uint16_t)(frame[0] << 8 | frame[1])))
+        return;
+    uint64_t now = some_time(s);
+    size_t out_len = some_out_len(s->wrong);
+    ledger_reply(now, frame, pair_reply(now, frame, size, out_len, some_list_len(s->wrong)));
+}
+
+static void do_tick(const session *s)
+{
+    uint64_t now = some_time(s);
+    size_t out_len = some_out_len(s->wrong);
+    zb_answer a = pair_tick(now, out_len, some_list_len(s->wrong));
+    ledger_tick(now, a);
+    if (a.outcome != ZB_TIMED_OUT || !one_in(2))
+        return;
+    do {
+        a = pair_tick(now, 260, 16);
+        ledger_tick(now, a);
+    } while (a.outcome == ZB_TIMED_OUT);
+    reached(REACHED_DRAINED);
+}
+
+static void do_read(void)
+{
+    static uint8_t text[MOST_TEXT];
+    size_t size = make_text(text);
+    zb_answer a = pair_settings_read(text, size);
+    if (a.outcome == ZB_DONE && size > 4000)
+        reached(REACHED_TEXT_256);
+    if (a.line > 12)
+        reached(REACHED_TEXT_WRONG_DEEP);
+}
+
+/* Also with a buffer that holds the text exactly, or lacks one byte. */
+static void do_write(void)
+{
+    static uint8_t text[MOST_TEXT];
+    zb_settings s = make_settings(one_in(4) ? (enum settings_kind)below(6) : SETTINGS_ANY);
+    if (one_in(3))
+        s = spoil_settings(s);
+    size_t exact = model_settings_write(s, text, sizeof text).length;
+    const size_t lengths[] = {MOST_TEXT, 5160, exact, exact ? exact - 1 : 0, 75, 74, 0};
+    pair_settings_write(&s, one_in(4) ? below(MOST_TEXT) : lengths[below(7)]);
+}
+
+static void begin_session(const session *s)
+{
+    settings = make_settings(s->settings);
+    if (pair_fresh(&settings).refusal) {
+        /* the fresh state is then the one for timeout 3000, join 1 and no tags */
+        settings = (zb_settings){.timeout = 3000, .join = 1};
+    }
+    ledger_fresh(settings.timeout, settings.join);
+    if (s->special == LATE) {
+        uint64_t now = LAST_TIME - 100000;
+        ledger_tick(now, pair_tick(now, 260, 16));
+    }
+}
+
+static void do_call(const session *s, enum call call)
+{
+    static uint8_t run[4 * MOST_FRAME];
+    uint32_t client = some_client(s->wrong);
+    switch (call) {
+    case CALL_FRESH:
+        begin_session(s);
+        break;
+    case CALL_ATTACH:
+        ledger_attach(client, pair_attach(client));
+        break;
+    case CALL_DETACH:
+        ledger_detach(client, pair_detach(client));
+        break;
+    case CALL_REQUEST:
+        do_request(s);
+        break;
+    case CALL_REPLY:
+        do_reply(s);
+        break;
+    case CALL_TICK:
+        do_tick(s);
+        break;
+    case CALL_LINK_LOST:
+        ledger_link_lost(pair_link_lost());
+        break;
+    case CALL_SPLIT:
+        pair_split(run, make_run(run, &settings));
+        break;
+    case CALL_READ:
+        do_read();
+        break;
+    default:
+        do_write();
+    }
+}
+
+static enum call some_call(const session *s)
+{
+    uint32_t sum = 0;
+    for (int c = 0; c < CALLS; c++)
+        sum += s->weight[c];
+    uint32_t at = below(sum);
+    int call = 0;
+    while (at >= s->weight[call])
+        at -= s->weight[call++];
+    if (s->special >= PINS && call == CALL_REQUEST && ledger.lives > LIVE_WITH_PINS)
+        return CALL_REPLY;
+    return (enum call)call;
+}
+
+static bool is_at_the_wrap(const session *s)
+{
+    bool is_near = ledger.last_id > 65500 || ledger.last_id < 60;
+    return s->special >= PINS && settings.join && ledger.issues > 1000 && is_near;
+}
+
+static void run_session(const session *s)
+{
+    uint64_t until = pair_calls() + s->calls;
+    begin_session(s);
+    for (uint32_t n = 0; pair_calls() < until; n++) {
+        const session *as = is_at_the_wrap(s) ? &at_the_wrap : s;
+        do_call(as, some_call(as));
+        if (n % BALANCE_EVERY == 0)
+            ledger_balance();
+    }
+    ledger_balance();
+}
+
+int main(int argc, char **argv)
+{
+    uint64_t seed = argc > 1 ? strtoull(argv[1], NULL, 0) : 1;
+    uint64_t times = argc > 2 ? strtoull(argv[2], NULL, 0) : 1;
+    uint64_t most_calls = 0;
+    for (size_t n = 0; n < sizeof sessions / sizeof *sessions; n++)
+        most_calls += sessions[n].calls + 100;
+    printf("seed %llu\n", (unsigned long long)seed);
+    dice_seed(seed);
+    pair_open(seed);
+    ledger_open(most_calls);
+    for (uint64_t time = 0; time < times; time++)
+        for (size_t n = 0; n < sizeof sessions / sizeof *sessions; n++)
+            run_session(&sessions[n]);
+    ledger_print();
+    bool whole = reached_print();
+    printf("%s\n", whole ? "everything on the list was reached" : "NOT ALL WAS REACHED");
+    printf("host tests: %llu calls, 0 differences\n", (unsigned long long)pair_calls());
+    return whole ? 0 : 1;
+}

@@ -1,0 +1,421 @@
+/* The ledger of demand 3, kept from calls and outcomes alone: where every accepted request went.
+   It knows nothing of the model's inside, so that the model cannot be wrong in the same way unnoticed. */
+#include "ledger.h"
+#include "pair.h"
+#include "reached.h"
+#include <stdio.h>
+#include <stdlib.h>
+#include <string.h>
+
+enum group { NEVER, HELD, BY_REPLY, BY_TIMEOUT, BY_LEAVING, BY_LOST_LINK };
+enum { OTHERS_BETWEEN = 65472 };
+
+ledger_book ledger;
+static uint8_t *group_of;          /* for each serial its group */
+static uint32_t last_issue[65536]; /* for each proxy id the number of its last issue, from 1 */
+static uint64_t all_accepted, all_reply, all_timeout, all_leaving, all_lost, all_held;
+
+void ledger_open(uint64_t most_calls)
+{
+    group_of = calloc(most_calls + 1, 1);
+    if (!group_of) {
+        printf("no memory for the ledger\n");
+        exit(1);
+    }
+}
+
+static uint64_t held(void)
+{
+    uint64_t sum = 0;
+    for (uint32_t n = 0; n < ledger.lives; n++)
+        sum += ledger.live[n].parties;
+    return sum;
+}
+
+static void add_to_sums(void)
+{
+    all_accepted += ledger.accepted;
+    all_reply += ledger.by_reply;
+    all_timeout += ledger.by_timeout;
+    all_leaving += ledger.by_leaving;
+    all_lost += ledger.by_lost_link;
+    all_held += held();
+}
+
+void ledger_fresh(uint32_t timeout, uint32_t join)
+{
+    add_to_sums();
+    memset(group_of, NEVER, ledger.accepted);
+    memset(&ledger, 0, sizeof ledger);
+    memset(last_issue, 0, sizeof last_issue);
+    ledger.timeout = timeout;
+    ledger.join = join;
+    ledger.last_id = 65535;
+}
+
+static void move(uint32_t serial, enum group from, enum group to)
+{
+    if (group_of[serial] != from)
+        pair_differs("ledger: a request would be in two groups");
+    group_of[serial] = (uint8_t)to;
+}
+
+static ledger_entry *live(uint32_t id)
+{
+    for (uint32_t n = 0; n < ledger.lives; n++)
+        if (ledger.live[n].id == id)
+            return &ledger.live[n];
+    return NULL;
+}
+
+static bool is_due(const ledger_entry *e, uint64_t now)
+{
+    return e->issued_at + ledger.timeout <= now;
+}
+
+void ledger_attach(uint32_t client, zb_answer a)
+{
+    if (a.outcome == ZB_DONE)
+        ledger.attached |= (uint32_t)1 << client;
+}
+
+static void strike(ledger_entry *e, uint32_t client)
+{
+    uint32_t kept = 0;
+    for (uint32_t p = 0; p < e->parties; p++) {
+        if (e->party[p].client != client) {
+            e->party[kept++] = e->party[p];
+            continue;
+        }
+        move(e->party[p].serial, HELD, BY_LEAVING);
+        ledger.by_leaving++;
+        e->struck |= (uint32_t)1 << client;
+        reached(REACHED_STRUCK);
+    }
+    e->parties = kept;
+}
+
+void ledger_detach(uint32_t client, zb_answer a)
+{
+    if (a.refusal)
+        return;
+    ledger.attached &= ~((uint32_t)1 << client);
+    for (uint32_t n = 0; n < ledger.lives; n++)
+        strike(&ledger.live[n], client);
+}
+
+static void accept(ledger_entry *e, uint32_t client, uint64_t now, const uint8_t *frame)
+{
+    if (e->parties == 8)
+        pair_differs("ledger: a 9th party in one entry");
+    ledger_party *p = &e->party[e->parties++];
+    p->serial = (uint32_t)ledger.accepted++;
+    p->client = client;
+    p->id = (uint16_t)(frame[0] << 8 | frame[1]);
+    p->accepted_at = now;
+    e->ever++;
+    move(p->serial, NEVER, HELD);
+}
+
+/* The live entries that ask the same as the read in `frame`, by why they can or cannot be joined. */
+typedef struct {
+    uint32_t joinable, full, due;
+    const ledger_entry *smallest, *first_issued;
+} equals;
+
+static equals equal_reads(uint64_t now, const uint8_t *frame, size_t size)
+{
+    equals q = {0};
+    if (!ledger.join || size != 12 || (frame[7] != 3 && frame[7] != 4))
+        return q;
+    for (uint32_t n = 0; n < ledger.lives; n++) {
+        const ledger_entry *e = &ledger.live[n];
+        if (e->unit != frame[6] || e->function != frame[7] || e->start != (frame[8] << 8 | frame[9])
+            || e->quantity != (frame[10] << 8 | frame[11]))
+            continue;
+        q.due += is_due(e, now);
+        q.full += !is_due(e, now) && e->parties == 8;
+        if (is_due(e, now) || e->parties == 8)
+            continue;
+        q.joinable++;
+        if (!q.smallest || e->id < q.smallest->id)
+            q.smallest = e;
+        if (!q.first_issued || e->issue < q.first_issued->issue)
+            q.first_issued = e;
+    }
+    return q;
+}
+
+/* Demand 3: an id is not issued again until 65,472 others were, and never while it is live. */
+static void check_issued_id(uint16_t id)
+{
+    if (live(id))
+        pair_differs("ledger: a live id was issued again");
+    if (last_issue[id] && ledger.issues - last_issue[id] < OTHERS_BETWEEN)
+        pair_differs("ledger: an id was issued again too soon");
+    uint16_t next = (uint16_t)(ledger.last_id + 1);
+    for (uint16_t skipped = next; skipped != id; skipped++) {
+        if (!live(skipped))
+            pair_differs("ledger: a free id was skipped");
+        reached(REACHED_SKIPPED);
+    }
+    if (next == 65535 && id == 0)
+        reached(REACHED_SKIPPED_BEFORE_WRAP);
+    if (next == 65535 && id >= 1 && id < 64)
+        reached(REACHED_SKIPPED_AT_WRAP);
+    if (ledger.issues && id < ledger.last_id)
+        reached(REACHED_WRAP);
+}
+
+static void issued(uint32_t client, uint64_t now, const uint8_t *frame, size_t size, zb_answer a)
+{
+    check_issued_id((uint16_t)a.id);
+    if (ledger.lives == 64)
+        pair_differs("ledger: a 65th live request was issued");
+    last_issue[a.id] = ++ledger.issues;
+    ledger.last_id = (uint16_t)a.id;
+    ledger_entry *e = &ledger.live[ledger.lives++];
+    memset(e, 0, sizeof *e);
+    e->id = (uint16_t)a.id;
+    e->unit = frame[6];
+    e->function = frame[7];
+    e->start = (uint16_t)(size < 12 ? 0 : frame[8] << 8 | frame[9]);
+    e->quantity = (uint16_t)(size < 12 ? 0 : frame[10] << 8 | frame[11]);
+    e->issued_at = now;
+    e->issue = ledger.issues;
+    accept(e, client, now, frame);
+    if (ledger.lives == 64)
+        reached(REACHED_LIVE_64);
+    if (now + ledger.timeout > INT64_MAX)
+        reached(REACHED_NEVER_DUE);
+}
+
+static void joined(uint32_t client, uint64_t now, const uint8_t *frame, zb_answer a, const equals *q)
+{
+    ledger_entry *e = live(a.id);
+    if (!e || e != q->smallest)
+        pair_differs("ledger: not the smallest entry that can be joined");
+    if (q->joinable > 1)
+        reached(REACHED_SMALLEST_JOINED);
+    if (q->smallest != q->first_issued)
+        reached(REACHED_SMALLEST_IS_YOUNGER);
+    if (e->parties == 0)
+        reached(REACHED_EMPTY_JOINED);
+    if (e->parties == 7)
+        reached(REACHED_PARTY_8);
+    if (e->ever >= 8)
+        reached(REACHED_ROOM_USED_AGAIN);
+    if (ledger.lives == 64)
+        reached(REACHED_JOINED_AT_64);
+    accept(e, client, now, frame);
+}
+
+static void got_exception(zb_answer a)
+{
+    if (a.code == 2)
+        reached(REACHED_EXCEPTION_02);
+    if (a.code == 3)
+        reached(REACHED_EXCEPTION_03);
+    if (a.code != 4)
+        return;
+    reached(REACHED_EXCEPTION_04);
+    reached(REACHED_LIVE_65);
+    if (ledger.lives != 64)
+        pair_differs("ledger: exception 04 with fewer than 64 live");
+}
+
+static void raw_counts_of_request(uint8_t function, zb_answer a)
+{
+    if (a.partial)
+        reached(function == 6 ? REACHED_PARTIAL_SINGLE : REACHED_PARTIAL_MULTIPLE);
+    if (a.value)
+        reached(function == 6 ? REACHED_VALUE_SINGLE : REACHED_VALUE_MULTIPLE);
+    if (a.partial && a.value)
+        reached(REACHED_BOTH_RAW);
+}
+
+static void why_refused(uint32_t client, uint64_t now, zb_answer a)
+{
+    if (a.refusal == 2 && (client == 259 || client == UINT32_MAX))
+        reached(REACHED_FULL_WIDTH_CLIENT);
+    if (a.refusal == 3)
+        reached(now > INT64_MAX ? REACHED_TIME_TOO_LARGE : REACHED_CLOCK_BACK);
+}
+
+void ledger_request(uint32_t client, uint64_t now, const uint8_t *frame, size_t size, zb_answer a)
+{
+    if (a.refusal) {
+        why_refused(client, now, a);
+        return;
+    }
+    ledger.clock = now;
+    if (a.outcome == ZB_EXCEPTION)
+        got_exception(a);
+    if (a.outcome == ZB_EXCEPTION && a.code != 4)
+        return;
+    equals q = equal_reads(now, frame, size);
+    if ((a.outcome == ZB_JOINED) != (q.joinable != 0))
+        pair_differs("ledger: joined exactly if an entry can be joined");
+    if (a.outcome == ZB_JOINED) {
+        joined(client, now, frame, a, &q);
+        return;
+    }
+    if (q.due)
+        reached(REACHED_DUE_NOT_JOINED);
+    if (a.outcome == ZB_EXCEPTION)
+        return;
+    if (q.full)
+        reached(REACHED_PARTY_9);
+    raw_counts_of_request(frame[7], a);
+    issued(client, now, frame, size, a);
+}
+
+/* The list is exactly the clients and their own ids that are held under the proxy id, in order. */
+static void check_list(const ledger_entry *e, zb_answer a)
+{
+    const uint16_t *list = pair_list();
+    uint32_t seen = 0;
+    if (a.parties != e->parties)
+        pair_differs("ledger: the list's length");
+    for (uint32_t p = 0; p < e->parties; p++) {
+        const ledger_party *party = &e->party[p];
+        if (list[2 * p] != party->client || list[2 * p + 1] != party->id)
+            pair_differs("ledger: the list");
+        if (seen >> party->client & 1)
+            reached(REACHED_CLIENT_TWICE);
+        for (uint32_t earlier = 0; earlier < p; earlier++)
+            if (e->party[earlier].client == party->client && e->party[earlier].id == party->id)
+                reached(REACHED_SAME_IDS_TWICE);
+        seen |= (uint32_t)1 << party->client;
+    }
+    if (e->struck & ledger.attached & ~seen)
+        reached(REACHED_SUCCESSOR);
+    if (e->struck & ledger.attached & seen)
+        reached(REACHED_SUCCESSOR_OWN);
+}
+
+static void end_entry(ledger_entry *e, zb_answer a, enum group to)
+{
+    check_list(e, a);
+    for (uint32_t p = 0; p < e->parties; p++)
+        move(e->party[p].serial, HELD, to);
+    if (to == BY_REPLY)
+        ledger.by_reply += e->parties;
+    else
+        ledger.by_timeout += e->parties;
+    if (e->parties == 0)
+        reached(to == BY_REPLY ? REACHED_EMPTY_ANSWERED : REACHED_EMPTY_TIMED_OUT);
+    *e = ledger.live[--ledger.lives];
+}
+
+static void raw_counts_of_reply(uint8_t function, zb_answer a)
+{
+    if (a.partial)
+        reached(function == 6 ? REACHED_PARTIAL_ECHO : REACHED_PARTIAL_READ);
+    if (a.value)
+        reached(function == 6 ? REACHED_VALUE_ECHO : REACHED_VALUE_READ);
+    if (a.partial && a.value)
+        reached(REACHED_BOTH_RAW);
+}
+
+void ledger_reply(uint64_t now, const uint8_t *frame, zb_answer a)
+{
+    if (a.refusal) {
+        why_refused(0, now, a);
+        return;
+    }
+    ledger.clock = now;
+    ledger_entry *e = live(a.id);
+    if (!e || a.id != (uint32_t)(frame[0] << 8 | frame[1]))
+        pair_differs("ledger: an answer without its own reply");
+    if (is_due(e, now))
+        reached(REACHED_LATE_REPLY);
+    if (frame[7] >= 128)
+        reached(REACHED_CONTROLLER_EXCEPTION);
+    raw_counts_of_reply(frame[7], a);
+    end_entry(e, a, BY_REPLY);
+}
+
+/* Of the due entries the earliest, ties to the smallest id. */
+static ledger_entry *first_due(uint64_t now)
+{
+    ledger_entry *found = NULL;
+    bool tie = false;
+    for (uint32_t n = 0; n < ledger.lives; n++) {
+        ledger_entry *e = &ledger.live[n];
+        if (!is_due(e, now))
+            continue;
+        if (found && e->issued_at == found->issued_at)
+            tie = true;
+        if (!found || e->issued_at < found->issued_at)
+            tie = false;
+        if (!found || e->issued_at < found->issued_at || (e->issued_at == found->issued_at && e->id < found->id))
+            found = e;
+    }
+    if (tie)
+        reached(REACHED_TIE);
+    return found;
+}
+
+void ledger_tick(uint64_t now, zb_answer a)
+{
+    if (a.refusal) {
+        why_refused(0, now, a);
+        return;
+    }
+    ledger.clock = now;
+    ledger_entry *e = first_due(now);
+    if (a.outcome == ZB_NOTHING_DUE) {
+        if (e)
+            pair_differs("ledger: something was due");
+        ledger_drained(now);
+        return;
+    }
+    if (!e || e->id != a.id)
+        pair_differs("ledger: a timeout without its own deadline");
+    reached(REACHED_EXCEPTION_0B);
+    end_entry(e, a, BY_TIMEOUT);
+}
+
+void ledger_drained(uint64_t now)
+{
+    for (uint32_t n = 0; n < ledger.lives; n++)
+        for (uint32_t p = 0; p < ledger.live[n].parties; p++)
+            if (ledger.live[n].party[p].accepted_at + ledger.timeout <= now)
+                pair_differs("ledger: accepted a full timeout ago and still held");
+}
+
+void ledger_link_lost(zb_answer a)
+{
+    if (a.set != ledger.attached)
+        pair_differs("ledger: the former set");
+    if (ledger.lives)
+        reached(REACHED_LOST_LIVE);
+    for (uint32_t n = 0; n < ledger.lives; n++)
+        for (uint32_t p = 0; p < ledger.live[n].parties; p++) {
+            move(ledger.live[n].party[p].serial, HELD, BY_LOST_LINK);
+            ledger.by_lost_link++;
+        }
+    ledger.lives = 0;
+    ledger.attached = 0;
+}
+
+void ledger_balance(void)
+{
+    if (ledger.accepted != ledger.by_reply + ledger.by_timeout + ledger.by_leaving + ledger.by_lost_link + held())
+        pair_differs("ledger: the groups do not add up");
+    for (uint32_t n = 0; n < ledger.lives; n++)
+        for (uint32_t m = 0; m < n; m++)
+            if (ledger.live[n].id == ledger.live[m].id)
+                pair_differs("ledger: two live entries with one id");
+}
+
+void ledger_print(void)
+{
+    add_to_sums();
+    printf("accepted %llu = by reply %llu + by timeout %llu + by leaving %llu + by lost link %llu + held %llu\n",
+           (unsigned long long)all_accepted, (unsigned long long)all_reply, (unsigned long long)all_timeout,
+           (unsigned long long)all_leaving, (unsigned long long)all_lost, (unsigned long long)all_held);
+    if (all_accepted != all_reply + all_timeout + all_leaving + all_lost + all_held)
+        pair_differs("ledger: the sums do not add up");
+}

@@ -1,0 +1,53 @@
+/* The ledger of demand 3, kept from calls and outcomes alone: where every accepted request went. */
+#ifndef LEDGER_H
+#define LEDGER_H
+#include "zilborteka.h"
+
+typedef struct {
+    uint32_t serial;
+    uint32_t client;
+    uint16_t id;
+    uint64_t accepted_at;
+} ledger_party;
+
+/* A proxy id that was issued and has not ended, with what was asked under it. */
+typedef struct {
+    uint16_t id;
+    uint8_t unit, function;
+    uint16_t start, quantity; /* bytes 8 to 11 of the request, 0 where it is shorter */
+    uint64_t issued_at;
+    uint32_t issue; /* its number among the issues */
+    uint32_t ever;  /* parties that it ever had */
+    uint32_t struck; /* clients struck out of it, bit n for client n */
+    uint32_t parties;
+    ledger_party party[8];
+} ledger_entry;
+
+/* What calls and outcomes have told since the fresh state. */
+typedef struct {
+    uint32_t timeout, join;
+    uint64_t clock;
+    uint32_t attached;
+    uint32_t lives;
+    ledger_entry live[64];
+    uint32_t issues;
+    uint16_t last_id; /* of the last issue */
+    uint64_t accepted, by_reply, by_timeout, by_leaving, by_lost_link;
+} ledger_book;
+
+extern ledger_book ledger;
+
+void ledger_open(uint64_t most_calls);
+void ledger_fresh(uint32_t timeout, uint32_t join);
+void ledger_attach(uint32_t client, zb_answer a);
+void ledger_detach(uint32_t client, zb_answer a);
+void ledger_request(uint32_t client, uint64_t now, const uint8_t *frame, size_t size, zb_answer a);
+void ledger_reply(uint64_t now, const uint8_t *frame, zb_answer a);
+void ledger_tick(uint64_t now, zb_answer a);
+void ledger_link_lost(zb_answer a);
+/* accepted = by reply + by timeout + by leaving + by lost link + held, and live ids differ. */
+void ledger_balance(void);
+/* After ticks until nothing is due: nothing accepted a full timeout ago is held. */
+void ledger_drained(uint64_t now);
+void ledger_print(void);
+#endif

@@ -1,0 +1,391 @@
+/* Makes what the generated calls are given: settings, their texts, requests, replies and received runs. */
+#include "making.h"
+#include "dice.h"
+#include "model.h"
+#include "pair.h"
+#include <string.h>
+
+static void put_word(uint8_t *bytes, uint32_t word)
+{
+    bytes[0] = (uint8_t)(word >> 8);
+    bytes[1] = (uint8_t)word;
+}
+
+/* Settings */
+
+static void add_tag(zb_settings *s, uint32_t addr, uint32_t width)
+{
+    s->addr[s->tags] = (uint16_t)addr;
+    s->width[s->tags] = (uint16_t)width;
+    s->tags++;
+}
+
+static void add_any_tags(zb_settings *s)
+{
+    uint32_t wanted = one_in(12) ? 256 : below(8);
+    uint32_t gap = wanted == 256 || one_in(3) ? 3 : 9000;
+    uint32_t addr = one_in(2) ? below(50000) : below(2000);
+    while (s->tags < wanted && addr <= 65535) {
+        uint32_t width = addr < 65535 && one_in(2) ? 32 : 16;
+        add_tag(s, addr, width);
+        addr += width / 16 + (one_in(2) ? 0 : below(gap));
+    }
+}
+
+zb_settings make_settings(enum settings_kind kind)
+{
+    static const uint16_t timeouts[] = {100, 101, 250, 3000, 59999, 60000};
+    zb_settings s = {0};
+    s.timeout = kind == SETTINGS_ANY ? (one_in(2) ? timeouts[below(6)] : 100 + below(59901)) : 3000;
+    s.join = kind == SETTINGS_ANY ? !one_in(4) : kind != SETTINGS_NO_JOIN;
+    if (kind == SETTINGS_BARE)
+        s.timeout = 100;
+    if (kind == SETTINGS_NO_JOIN)
+        s.timeout = 60000;
+    if (kind == SETTINGS_OF_THE_DOCUMENT || kind == SETTINGS_NO_JOIN) {
+        add_tag(&s, 1024, 16);
+        add_tag(&s, 1026, 32);
+    }
+    if (kind == SETTINGS_DENSE)
+        for (uint32_t addr = 1000; s.tags < 256; addr += s.width[s.tags - 1] / 16u)
+            add_tag(&s, addr, s.tags % 3 ? 32 : 16);
+    if (kind == SETTINGS_EDGES) {
+        add_tag(&s, 0, 32);
+        add_tag(&s, 2, 16);
+        add_tag(&s, 65532, 16);
+        add_tag(&s, 65534, 32);
+    }
+    if (kind == SETTINGS_TOP)
+        for (uint32_t addr = 65280; s.tags < 256; addr++)
+            add_tag(&s, addr, 16);
+    if (kind == SETTINGS_ANY)
+        add_any_tags(&s);
+    return kind == SETTINGS_INVALID ? spoil_settings(make_settings(SETTINGS_ANY)) : s;
+}
+
+/* One change, which makes most values invalid; some stay valid. */
+zb_settings spoil_settings(zb_settings s)
+{
+    static const uint32_t timeouts[] = {0, 99, 60001, UINT32_MAX};
+    static const uint16_t widths[] = {0, 15, 17, 31, 33, 48, 65535};
+    uint32_t t = s.tags ? below(s.tags) : 0;
+    switch (below(6)) {
+    case 0:
+        s.timeout = timeouts[below(4)];
+        break;
+    case 1:
+        s.join = one_in(2) ? 2 : (uint32_t)dice();
+        break;
+    case 2:
+        s.tags = one_in(2) ? 257 : one_in(2) ? UINT32_MAX : s.tags + 1;
+        break;
+    case 3:
+        s.width[t] = widths[below(7)];
+        break;
+    case 4:
+        s.addr[t] = (uint16_t)(s.addr[t] - 1 - below(3));
+        break;
+    default:
+        s.addr[t] = 65535;
+        s.width[t] = 32;
+    }
+    return s;
+}
+
+static size_t spoil_text(uint8_t *text, size_t size)
+{
+    static const char likely[] = "0123456789=\n av1";
+    size_t at = size ? below((uint32_t)size) : 0;
+    uint8_t byte = one_in(4) ? (uint8_t)dice() : (uint8_t)likely[below(16)];
+    switch (below(5)) {
+    case 0:
+        return at;
+    case 1:
+        text[size] = byte;
+        return size + 1;
+    case 2:
+        memmove(text + at + 1, text + at, size - at);
+        text[at] = byte;
+        return size + 1;
+    case 3:
+        if (size == 0)
+            return 0;
+        memmove(text + at, text + at + 1, size - at - 1);
+        return size - 1;
+    default:
+        text[at] = byte;
+        return size ? size : 1;
+    }
+}
+
+size_t make_text(uint8_t *text)
+{
+    zb_settings s = make_settings(one_in(8) ? (enum settings_kind)below(6) : SETTINGS_ANY);
+    size_t size = model_settings_write(s, text, MOST_TEXT).length;
+    if (one_in(3))
+        return size;
+    for (uint32_t times = 1 + below(2); times > 0; times--)
+        size = spoil_text(text, size);
+    return size;
+}
+
+/* Frames */
+
+static size_t finish(uint8_t *frame, uint32_t id, uint8_t unit, size_t pdu)
+{
+    put_word(frame, id);
+    put_word(frame + 2, 0);
+    put_word(frame + 4, (uint32_t)pdu + 1);
+    frame[6] = unit;
+    return 7 + pdu;
+}
+
+/* A bit of the byte is turned over. */
+static void flip(uint8_t *byte)
+{
+    *byte ^= (uint8_t)(1 << below(8));
+}
+
+static uint32_t some_id(void)
+{
+    return one_in(2) ? below(4) : below(65536);
+}
+
+static uint8_t some_unit(void)
+{
+    return one_in(6) ? (uint8_t)dice() : 1;
+}
+
+static uint32_t some_digits(void)
+{
+    uint32_t digits = 0;
+    for (int k = 0; k < 4; k++)
+        digits = digits << 4 | below(10);
+    return digits;
+}
+
+/* Digits, numbers in a tag's range, numbers at its edges, or anything. */
+static uint32_t some_word(void)
+{
+    static const uint16_t edges[] = {0, 9999, 10000, 0x9999, 0x999A, 0xE0FF, 0xE100, 0x05F5, 0x05F6, 65535};
+    switch (below(6)) {
+    case 0:
+    case 1:
+        return some_digits();
+    case 2:
+        return below(10000);
+    case 3:
+        return below(0x05F6);
+    case 4:
+        return edges[below(10)];
+    default:
+        return below(65536);
+    }
+}
+
+static uint32_t some_start(const zb_settings *s)
+{
+    if (one_in(8))
+        return below(65536);
+    if (one_in(10))
+        return 65536 - 1 - below(130);
+    uint32_t near = s->tags ? s->addr[below(s->tags)] : 1024;
+    return (near + below(6) - 3) & 65535;
+}
+
+static size_t finish_request(uint8_t *frame, size_t pdu)
+{
+    uint32_t id = some_id();
+    return finish(frame, id, some_unit(), pdu);
+}
+
+static size_t make_read(uint8_t *frame, uint32_t function, uint32_t start, uint32_t quantity)
+{
+    frame[7] = (uint8_t)function;
+    put_word(frame + 8, start);
+    put_word(frame + 10, quantity);
+    return finish_request(frame, 5);
+}
+
+static size_t make_any_read(uint8_t *frame, const zb_settings *s)
+{
+    static const uint16_t edges[] = {0, 124, 125, 126, 127, 256, 65535};
+    uint32_t quantity = one_in(8) ? edges[below(7)] : one_in(4) ? 1 + below(125) : 1 + below(6);
+    uint32_t function = 3 + below(2);
+    return make_read(frame, function, some_start(s), quantity);
+}
+
+static size_t make_single(uint8_t *frame, const zb_settings *s)
+{
+    frame[7] = 6;
+    put_word(frame + 8, some_start(s));
+    put_word(frame + 10, some_word());
+    return finish_request(frame, 5);
+}
+
+static size_t make_multiple(uint8_t *frame, const zb_settings *s)
+{
+    uint32_t quantity = one_in(6) ? below(125) : one_in(4) ? 1 + below(123) : 1 + below(6);
+    uint32_t bytes = quantity > 123 ? 246 : 2 * quantity;
+    frame[7] = 16;
+    put_word(frame + 8, some_start(s));
+    put_word(frame + 10, quantity);
+    for (uint32_t k = 0; k < bytes; k += 2)
+        put_word(frame + 13 + k, some_word());
+    if (one_in(20) && bytes >= 2)
+        bytes -= 1 + below(2);
+    frame[12] = (uint8_t)bytes;
+    return finish_request(frame, 6 + bytes);
+}
+
+static size_t make_other(uint8_t *frame)
+{
+    size_t pdu = one_in(4) ? 1 + below(253) : 1 + below(8);
+    for (size_t k = 0; k < pdu; k++)
+        frame[7 + k] = (uint8_t)dice();
+    uint8_t function = (uint8_t)(1 + below(127));
+    frame[7] = function == 3 || function == 4 || function == 6 || function == 16 ? 43 : function;
+    return finish_request(frame, pdu);
+}
+
+size_t make_noise(uint8_t *bytes)
+{
+    size_t size = one_in(3) ? below(16) : below(300);
+    for (size_t k = 0; k < size; k++)
+        bytes[k] = (uint8_t)dice();
+    if (one_in(2) && size >= 6) {
+        put_word(bytes + 2, 0);
+        put_word(bytes + 4, (uint32_t)size - 6);
+    }
+    return size;
+}
+
+/* A frame that is nearly legal: one thing is changed, at times with a length field that fits again. */
+static size_t spoil_frame(uint8_t *frame, size_t size)
+{
+    static const uint8_t functions[] = {0, 128, 129, 131, 134, 144, 255, 3, 4, 6, 16, 127};
+    switch (below(8)) {
+    case 0:
+        flip(frame + 2 + below(4));
+        return size;
+    case 1:
+        size -= 1;
+        break;
+    case 2:
+        frame[size++] = (uint8_t)dice();
+        break;
+    case 3:
+        frame[7] = functions[below(12)];
+        break;
+    case 4:
+        return below((uint32_t)size + 1);
+    case 5:
+        flip(frame + 12 % size);
+        break;
+    case 6:
+        memset(frame + size, (int)below(256), 262 - (size < 262 ? size : 262));
+        size = 259 + below(4);
+        break;
+    default:
+        return make_noise(frame);
+    }
+    if (!one_in(4))
+        put_word(frame + 4, (uint32_t)size - 6);
+    return size;
+}
+
+static size_t make_any(uint8_t *frame, const zb_settings *s)
+{
+    switch (below(8)) {
+    case 0:
+        return make_other(frame);
+    case 1:
+    case 2:
+        return make_single(frame, s);
+    case 3:
+    case 4:
+        return make_multiple(frame, s);
+    default:
+        return make_any_read(frame, s);
+    }
+}
+
+size_t make_request(uint8_t *frame, const zb_settings *s, uint32_t pool, uint32_t wrong)
+{
+    size_t size;
+    if (pool && !one_in(20)) {
+        uint32_t k = below(pool);
+        size = make_read(frame, 3 + k % 2, 1024 + k, 1 + k % 3);
+        frame[6] = 1;
+    } else {
+        size = make_any(frame, s);
+    }
+    return one_in(wrong) ? spoil_frame(frame, size) : size;
+}
+
+/* The reply that MAP prescribes, with words of any kind. */
+static size_t make_right_reply(uint8_t *frame, const ledger_entry *e)
+{
+    frame[7] = e->function;
+    if (e->function == 3 || e->function == 4) {
+        frame[8] = (uint8_t)(2 * e->quantity);
+        for (uint32_t k = 0; k < e->quantity; k++)
+            put_word(frame + 9 + 2 * k, some_word());
+        return finish(frame, e->id, e->unit, 2 + 2 * e->quantity);
+    }
+    if (e->function == 6 || e->function == 16) {
+        put_word(frame + 8, e->start);
+        put_word(frame + 10, e->function == 16 || one_in(2) ? e->quantity : some_word());
+        return finish(frame, e->id, e->unit, 5);
+    }
+    size_t size = make_other(frame);
+    frame[7] = e->function;
+    return finish(frame, e->id, e->unit, size - 7);
+}
+
+/* One thing of a right reply is changed that its entry must look at. */
+static size_t mismatch(uint8_t *frame, size_t size, const ledger_entry *e)
+{
+    switch (below(5)) {
+    case 0:
+        frame[6]++;
+        return size;
+    case 1:
+        frame[7] = one_in(2) ? (uint8_t)dice() : (uint8_t)(e->function ^ 7);
+        return size;
+    case 2:
+        flip(frame + 8 + below(4));
+        return size;
+    case 3:
+        return finish(frame, e->id, e->unit, size - 7 > 2 ? size - 8 : size - 6);
+    default:
+        frame[7] = (uint8_t)(e->function + 128);
+        return finish(frame, e->id, e->unit, one_in(2) ? 1 : 3);
+    }
+}
+
+size_t make_reply(uint8_t *frame, const ledger_entry *e, uint32_t wrong)
+{
+    size_t size = make_right_reply(frame, e);
+    if (one_in(10)) {
+        frame[7] = (uint8_t)(e->function + 128);
+        frame[8] = (uint8_t)dice();
+        size = finish(frame, e->id, e->unit, 2);
+    }
+    if (!one_in(wrong))
+        return size;
+    return one_in(3) ? spoil_frame(frame, size) : mismatch(frame, size, e);
+}
+
+/* A run as it comes from a connection: frames joined end to end, cut anywhere. */
+size_t make_run(uint8_t *run, const zb_settings *s)
+{
+    uint8_t frame[MOST_FRAME];
+    size_t size = 0;
+    for (uint32_t frames = below(4); frames > 0; frames--) {
+        size_t more = make_request(frame, s, 0, 6);
+        memcpy(run + size, frame, more);
+        size += more;
+    }
+    return one_in(3) && size ? below((uint32_t)size) : size;
+}

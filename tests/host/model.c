@@ -1,0 +1,566 @@
+/* An ordinary proxy core in C, written from document 01 alone and section by section in its order. */
+#include "model.h"
+#include <stdio.h>
+#include <string.h>
+
+enum { LEAST_OUT = 260, LEAST_LIST = 16, CLIENTS = 32, HEADER = 7 };
+enum { READ_HOLDING = 3, READ_INPUT = 4, WRITE_SINGLE = 6, WRITE_MULTIPLE = 16, EXCEPTION = 128 };
+
+static const uint64_t LAST_TIME = ((uint64_t)1 << 63) - 1;
+
+/* Refusal numbers */
+
+static zb_answer refused(uint32_t number)
+{
+    zb_answer a = {0};
+    a.refusal = number;
+    return a;
+}
+
+static zb_answer came_to(uint32_t outcome)
+{
+    zb_answer a = {0};
+    a.outcome = outcome;
+    return a;
+}
+
+static bool is_attached(const model_state *st, uint32_t client)
+{
+    return client < CLIENTS && (st->attached >> client & 1) != 0;
+}
+
+static bool is_wrong_time(const model_state *st, uint64_t now)
+{
+    return now > LAST_TIME || now < st->clock;
+}
+
+/* A frame */
+
+static uint32_t word_at(const uint8_t *bytes)
+{
+    return (uint32_t)bytes[0] << 8 | bytes[1];
+}
+
+static void put_word(uint8_t *bytes, uint32_t word)
+{
+    bytes[0] = (uint8_t)(word >> 8);
+    bytes[1] = (uint8_t)word;
+}
+
+static bool is_wrong_frame(const uint8_t *frame, size_t size)
+{
+    return size < 8 || size > 260 || word_at(frame + 2) != 0 || word_at(frame + 4) != size - 6;
+}
+
+static void put_exception(uint8_t *out, uint32_t id, uint8_t unit, uint8_t function, uint8_t code)
+{
+    put_word(out, id);
+    put_word(out + 2, 0);
+    put_word(out + 4, 3);
+    out[6] = unit;
+    out[7] = (uint8_t)(function + EXCEPTION);
+    out[8] = code;
+}
+
+zb_answer model_split(const uint8_t *run, size_t run_len)
+{
+    if (run_len < 6)
+        return came_to(ZB_MORE);
+    uint32_t length = word_at(run + 4);
+    if (word_at(run + 2) != 0 || length < 2 || length > 254)
+        return refused(4);
+    if (run_len < 6 + length)
+        return came_to(ZB_MORE);
+    zb_answer a = came_to(ZB_FRAME);
+    a.length = 6 + length;
+    return a;
+}
+
+/* BCD words */
+
+static bool digits_to_number(uint32_t word, uint32_t *number)
+{
+    *number = 0;
+    for (int shift = 12; shift >= 0; shift -= 4) {
+        uint32_t nibble = word >> shift & 15;
+        if (nibble > 9)
+            return false;
+        *number = *number * 10 + nibble;
+    }
+    return true;
+}
+
+static uint32_t number_to_digits(uint32_t number)
+{
+    return number / 1000 % 10 << 12 | number / 100 % 10 << 8 | number / 10 % 10 << 4 | number % 10;
+}
+
+/* Rewrites one whole tag at `words`, or says that it must stay raw for its value. */
+typedef bool rewriting(uint32_t width, uint8_t *words);
+
+static bool tag_to_binary(uint32_t width, uint8_t *words)
+{
+    uint32_t low, high = 0;
+    if (!digits_to_number(word_at(words), &low))
+        return false;
+    if (width == 32 && !digits_to_number(word_at(words + 2), &high))
+        return false;
+    uint32_t value = high * 10000 + low;
+    put_word(words, value & 0xFFFF);
+    if (width == 32)
+        put_word(words + 2, value >> 16);
+    return true;
+}
+
+static bool tag_to_bcd(uint32_t width, uint8_t *words)
+{
+    uint32_t value = word_at(words);
+    if (width == 32)
+        value |= word_at(words + 2) << 16;
+    if (value > (width == 32 ? 99999999u : 9999u))
+        return false;
+    put_word(words, number_to_digits(value % 10000));
+    if (width == 32)
+        put_word(words + 2, number_to_digits(value / 10000));
+    return true;
+}
+
+/* Rewrites the registers from start on, `quantity` of them, and counts the tags that stay raw. */
+static void rewrite(const zb_settings *settings, rewriting *turn, uint32_t start, uint32_t quantity,
+                    uint8_t *words, zb_answer *a)
+{
+    for (uint32_t t = 0; t < settings->tags; t++) {
+        uint32_t width = settings->width[t];
+        uint32_t first = settings->addr[t];
+        uint32_t behind = first + width / 16;
+        if (behind <= start || first >= start + quantity)
+            continue;
+        if (first < start || behind > start + quantity)
+            a->partial++;
+        else if (!turn(width, words + 2 * (first - start)))
+            a->value++;
+    }
+}
+
+/* A request */
+
+static bool is_read(uint8_t function)
+{
+    return function == READ_HOLDING || function == READ_INPUT;
+}
+
+static bool is_wrong_pdu_length(const uint8_t *pdu, size_t length)
+{
+    if (is_read(pdu[0]) || pdu[0] == WRITE_SINGLE)
+        return length != 5;
+    if (pdu[0] == WRITE_MULTIPLE)
+        return length < 6 || length != 6u + pdu[5];
+    return false;
+}
+
+/* What was asked, as an entry that is not live yet. */
+static model_entry asked_by(const uint8_t *frame)
+{
+    const uint8_t *pdu = frame + HEADER;
+    model_entry e = {0};
+    e.unit = frame[6];
+    e.function = pdu[0];
+    e.asked = ASKED_OTHER;
+    if (is_read(e.function))
+        e.asked = ASKED_READ;
+    if (e.function == WRITE_SINGLE)
+        e.asked = ASKED_SINGLE_WRITE;
+    if (e.function == WRITE_MULTIPLE)
+        e.asked = ASKED_MULTIPLE_WRITE;
+    if (e.asked != ASKED_OTHER) {
+        e.start = word_at(pdu + 1);
+        e.quantity = e.asked == ASKED_SINGLE_WRITE ? 1 : word_at(pdu + 3);
+    }
+    return e;
+}
+
+/* Exception 03 or 02, or 0 where the request is legal. */
+static uint8_t exception_for(const model_entry *asked, const uint8_t *pdu)
+{
+    if (asked->asked != ASKED_READ && asked->asked != ASKED_MULTIPLE_WRITE)
+        return 0;
+    uint32_t most = asked->asked == ASKED_READ ? 125 : 123;
+    if (asked->quantity < 1 || asked->quantity > most)
+        return 3;
+    if (asked->asked == ASKED_MULTIPLE_WRITE && pdu[5] != 2 * asked->quantity)
+        return 3;
+    return asked->start + asked->quantity > 65536 ? 2 : 0;
+}
+
+static bool can_be_joined(const model_entry *e, const model_entry *asked, uint64_t now)
+{
+    return e->live && e->unit == asked->unit && e->function == asked->function && e->start == asked->start
+        && e->quantity == asked->quantity && e->parties < MODEL_PARTIES && e->deadline > now;
+}
+
+static model_entry *entry_to_join(model_state *st, const model_entry *asked, uint64_t now)
+{
+    model_entry *found = NULL;
+    if (!st->settings.join || asked->asked != ASKED_READ)
+        return NULL;
+    for (int n = 0; n < MODEL_LIVE; n++) {
+        model_entry *e = &st->entries[n];
+        if (can_be_joined(e, asked, now) && (!found || e->id < found->id))
+            found = e;
+    }
+    return found;
+}
+
+static model_entry *live_entry(model_state *st, uint32_t id)
+{
+    for (int n = 0; n < MODEL_LIVE; n++)
+        if (st->entries[n].live && st->entries[n].id == id)
+            return &st->entries[n];
+    return NULL;
+}
+
+static model_entry *free_entry(model_state *st)
+{
+    for (int n = 0; n < MODEL_LIVE; n++)
+        if (!st->entries[n].live)
+            return &st->entries[n];
+    return NULL;
+}
+
+static void add_party(model_entry *e, uint32_t client, uint32_t id)
+{
+    e->party[e->parties].client = client;
+    e->party[e->parties].id = (uint16_t)id;
+    e->parties++;
+}
+
+static zb_answer issue(model_state *st, model_entry *e, uint64_t now, const uint8_t *frame, size_t size, uint8_t *out)
+{
+    uint16_t id = st->cursor;
+    while (live_entry(st, id))
+        id++;
+    st->cursor = (uint16_t)(id + 1);
+    e->live = true;
+    e->id = id;
+    e->deadline = now + st->settings.timeout;
+    zb_answer a = came_to(ZB_ISSUED);
+    a.id = id;
+    a.length = (uint32_t)size;
+    memcpy(out, frame, size);
+    put_word(out, id);
+    if (e->asked == ASKED_SINGLE_WRITE)
+        rewrite(&st->settings, tag_to_bcd, e->start, 1, out + HEADER + 3, &a);
+    if (e->asked == ASKED_MULTIPLE_WRITE)
+        rewrite(&st->settings, tag_to_bcd, e->start, e->quantity, out + HEADER + 6, &a);
+    return a;
+}
+
+static zb_answer exception_to_caller(const uint8_t *frame, uint8_t code, uint8_t *out)
+{
+    zb_answer a = came_to(ZB_EXCEPTION);
+    put_exception(out, word_at(frame), frame[6], frame[7], code);
+    a.length = 9;
+    a.code = code;
+    return a;
+}
+
+static uint32_t refusal_of_request(const model_state *st, uint32_t client, uint64_t now,
+                                   const uint8_t *frame, size_t size, size_t out_len)
+{
+    if (out_len < LEAST_OUT)
+        return 1;
+    if (!is_attached(st, client))
+        return 2;
+    if (is_wrong_time(st, now))
+        return 3;
+    if (is_wrong_frame(frame, size))
+        return 4;
+    if (frame[HEADER] == 0 || frame[HEADER] >= EXCEPTION)
+        return 5;
+    return is_wrong_pdu_length(frame + HEADER, size - HEADER) ? 6 : 0;
+}
+
+zb_answer model_request(model_state *st, uint32_t client, uint64_t now,
+                        const uint8_t *frame, size_t frame_len,
+                        uint8_t *out, size_t out_len)
+{
+    uint32_t refusal = refusal_of_request(st, client, now, frame, frame_len, out_len);
+    if (refusal)
+        return refused(refusal);
+    st->clock = now;
+    model_entry asked = asked_by(frame);
+    uint8_t code = exception_for(&asked, frame + HEADER);
+    if (code)
+        return exception_to_caller(frame, code, out);
+    model_entry *e = entry_to_join(st, &asked, now);
+    if (e) {
+        add_party(e, client, word_at(frame));
+        zb_answer a = came_to(ZB_JOINED);
+        a.id = e->id;
+        return a;
+    }
+    e = free_entry(st);
+    if (!e)
+        return exception_to_caller(frame, 4, out);
+    add_party(&asked, client, word_at(frame));
+    zb_answer a = issue(st, &asked, now, frame, frame_len, out);
+    *e = asked;
+    return a;
+}
+
+/* A reply, a tick, a leaving */
+
+static bool does_answer(const model_entry *e, const uint8_t *frame, size_t size)
+{
+    const uint8_t *pdu = frame + HEADER;
+    size_t length = size - HEADER;
+    if (frame[6] != e->unit)
+        return false;
+    if (pdu[0] == e->function + EXCEPTION)
+        return length == 2;
+    if (pdu[0] != e->function)
+        return false;
+    switch (e->asked) {
+    case ASKED_READ:
+        return length == 2 + 2 * e->quantity && pdu[1] == 2 * e->quantity;
+    case ASKED_SINGLE_WRITE:
+        return length == 5 && word_at(pdu + 1) == e->start;
+    case ASKED_MULTIPLE_WRITE:
+        return length == 5 && word_at(pdu + 1) == e->start && word_at(pdu + 3) == e->quantity;
+    default:
+        return true;
+    }
+}
+
+/* Removes the entry; its parties go to the list. */
+static void end_entry(model_entry *e, uint16_t *list, zb_answer *a)
+{
+    for (uint32_t p = 0; p < e->parties; p++) {
+        list[2 * p] = (uint16_t)e->party[p].client;
+        list[2 * p + 1] = e->party[p].id;
+    }
+    a->parties = e->parties;
+    a->id = e->id;
+    e->live = false;
+}
+
+zb_answer model_reply(model_state *st, uint64_t now,
+                      const uint8_t *frame, size_t frame_len,
+                      uint8_t *out, size_t out_len,
+                      uint16_t *list, size_t list_len)
+{
+    if (out_len < LEAST_OUT || list_len < LEAST_LIST)
+        return refused(1);
+    if (is_wrong_time(st, now))
+        return refused(3);
+    if (is_wrong_frame(frame, frame_len))
+        return refused(4);
+    model_entry *e = live_entry(st, word_at(frame));
+    if (!e)
+        return refused(7);
+    if (!does_answer(e, frame, frame_len))
+        return refused(8);
+    st->clock = now;
+    zb_answer a = came_to(ZB_ANSWERED);
+    a.length = (uint32_t)frame_len;
+    memcpy(out, frame, frame_len);
+    put_word(out, 0);
+    bool is_exception = frame[HEADER] >= EXCEPTION;
+    if (!is_exception && e->asked == ASKED_READ)
+        rewrite(&st->settings, tag_to_binary, e->start, e->quantity, out + HEADER + 2, &a);
+    if (!is_exception && e->asked == ASKED_SINGLE_WRITE)
+        rewrite(&st->settings, tag_to_binary, e->start, 1, out + HEADER + 3, &a);
+    end_entry(e, list, &a);
+    return a;
+}
+
+static model_entry *entry_due(model_state *st, uint64_t now)
+{
+    model_entry *found = NULL;
+    for (int n = 0; n < MODEL_LIVE; n++) {
+        model_entry *e = &st->entries[n];
+        if (!e->live || e->deadline > now)
+            continue;
+        if (!found || e->deadline < found->deadline || (e->deadline == found->deadline && e->id < found->id))
+            found = e;
+    }
+    return found;
+}
+
+zb_answer model_tick(model_state *st, uint64_t now,
+                     uint8_t *out, size_t out_len,
+                     uint16_t *list, size_t list_len)
+{
+    if (out_len < LEAST_OUT || list_len < LEAST_LIST)
+        return refused(1);
+    if (is_wrong_time(st, now))
+        return refused(3);
+    st->clock = now;
+    model_entry *e = entry_due(st, now);
+    if (!e)
+        return came_to(ZB_NOTHING_DUE);
+    zb_answer a = came_to(ZB_TIMED_OUT);
+    put_exception(out, 0, e->unit, e->function, 0x0B);
+    a.length = 9;
+    end_entry(e, list, &a);
+    return a;
+}
+
+zb_answer model_attach(model_state *st, uint32_t client)
+{
+    if (client >= CLIENTS)
+        return refused(2);
+    if (is_attached(st, client))
+        return refused(9);
+    st->attached |= (uint32_t)1 << client;
+    return came_to(ZB_DONE);
+}
+
+/* The others move together, so that the struck party's room is used again. */
+static void strike(model_entry *e, uint32_t client)
+{
+    uint32_t kept = 0;
+    for (uint32_t p = 0; p < e->parties; p++)
+        if (e->party[p].client != client)
+            e->party[kept++] = e->party[p];
+    e->parties = kept;
+}
+
+zb_answer model_detach(model_state *st, uint32_t client)
+{
+    if (!is_attached(st, client))
+        return refused(2);
+    st->attached &= ~((uint32_t)1 << client);
+    for (int n = 0; n < MODEL_LIVE; n++)
+        if (st->entries[n].live)
+            strike(&st->entries[n], client);
+    return came_to(ZB_DONE);
+}
+
+zb_answer model_link_lost(model_state *st)
+{
+    zb_answer a = came_to(ZB_DONE);
+    a.set = st->attached;
+    st->attached = 0;
+    for (int n = 0; n < MODEL_LIVE; n++)
+        st->entries[n].live = false;
+    return a;
+}
+
+/* Settings */
+
+static bool is_valid(const zb_settings *s)
+{
+    if (s->timeout < 100 || s->timeout > 60000 || s->join > 1 || s->tags > 256)
+        return false;
+    uint32_t least = 0;
+    for (uint32_t t = 0; t < s->tags; t++) {
+        if ((s->width[t] != 16 && s->width[t] != 32) || s->addr[t] < least)
+            return false;
+        if (s->width[t] == 32 && s->addr[t] == 65535)
+            return false;
+        least = s->addr[t] + s->width[t] / 16u;
+    }
+    return true;
+}
+
+static zb_settings usual_settings(void)
+{
+    zb_settings s = {0};
+    s.timeout = 3000;
+    s.join = 1;
+    return s;
+}
+
+zb_answer model_fresh(model_state *st, zb_settings from)
+{
+    bool valid = is_valid(&from);
+    memset(st, 0, sizeof *st);
+    st->settings = valid ? from : usual_settings();
+    return valid ? came_to(ZB_DONE) : refused(10);
+}
+
+typedef struct {
+    const uint8_t *text;
+    size_t length;
+    size_t at;
+    uint32_t line; /* the number of the line that is read */
+} reader;
+
+/* Reads the next line: key, '=', a decimal without leading zeros from least to most, LF. */
+static bool read_line(reader *r, const char *key, uint32_t least, uint32_t most, uint32_t *number)
+{
+    r->line++;
+    for (; *key; key++, r->at++)
+        if (r->at == r->length || r->text[r->at] != (uint8_t)*key)
+            return false;
+    size_t first = r->at;
+    uint32_t value = 0;
+    while (r->at < r->length && r->at < first + 6 && r->text[r->at] >= '0' && r->text[r->at] <= '9')
+        value = value * 10 + (r->text[r->at++] - '0');
+    if (r->at == first || (r->text[first] == '0' && r->at > first + 1))
+        return false;
+    if (r->at == r->length || r->text[r->at] != '\n')
+        return false;
+    r->at++;
+    *number = value;
+    return least <= value && value <= most;
+}
+
+static bool read_tag(reader *r, zb_settings *s, uint32_t t, uint32_t *least)
+{
+    uint32_t addr, width;
+    if (!read_line(r, "addr=", *least, 65535, &addr))
+        return false;
+    if (!read_line(r, "width=", 16, 32, &width) || (width != 16 && width != 32))
+        return false;
+    if (width == 32 && addr == 65535)
+        return false;
+    s->addr[t] = (uint16_t)addr;
+    s->width[t] = (uint16_t)width;
+    *least = addr + width / 16;
+    return true;
+}
+
+static bool read_text(reader *r, zb_settings *s)
+{
+    uint32_t version, least = 0;
+    if (!read_line(r, "version=", 1, 1, &version) || !read_line(r, "timeout=", 100, 60000, &s->timeout)
+        || !read_line(r, "join=", 0, 1, &s->join) || !read_line(r, "tags=", 0, 256, &s->tags))
+        return false;
+    for (uint32_t t = 0; t < s->tags; t++)
+        if (!read_tag(r, s, t, &least))
+            return false;
+    r->line++;
+    return r->at == r->length;
+}
+
+zb_read model_settings_read(const uint8_t *text, size_t text_len)
+{
+    reader r = {text, text_len, 0, 0};
+    zb_read result = {0};
+    result.answer = came_to(ZB_DONE);
+    if (!read_text(&r, &result.settings)) {
+        result.answer = refused(10);
+        result.answer.line = r.line;
+        result.settings = usual_settings();
+    }
+    return result;
+}
+
+zb_answer model_settings_write(zb_settings from, uint8_t *text, size_t text_len)
+{
+    char whole[5161];
+    if (!is_valid(&from))
+        return refused(10);
+    size_t length = (size_t)sprintf(whole, "version=1\ntimeout=%u\njoin=%u\ntags=%u\n",
+                                    (unsigned)from.timeout, (unsigned)from.join, (unsigned)from.tags);
+    for (uint32_t t = 0; t < from.tags; t++)
+        length += (size_t)sprintf(whole + length, "addr=%u\nwidth=%u\n", from.addr[t], from.width[t]);
+    if (length > text_len)
+        return refused(1);
+    memcpy(text, whole, length);
+    zb_answer a = came_to(ZB_DONE);
+    a.length = (uint32_t)length;
+    return a;
+}

@@ -1,0 +1,55 @@
+/* An ordinary proxy core in C, written from document 01 alone: what the archive is held against, call by call.
+   The calls take the arguments of include/zilborteka.h and give the same report; only the state is the model's own. */
+#ifndef MODEL_H
+#define MODEL_H
+#include "zilborteka.h"
+
+#define MODEL_LIVE 64
+#define MODEL_PARTIES 8
+
+typedef struct {
+    uint32_t client;
+    uint16_t id; /* the client's own transaction id */
+} model_party;
+
+enum model_asked { ASKED_READ, ASKED_SINGLE_WRITE, ASKED_MULTIPLE_WRITE, ASKED_OTHER };
+
+typedef struct {
+    bool live;
+    uint16_t id; /* the proxy id */
+    uint8_t unit;
+    uint8_t function;
+    enum model_asked asked;
+    uint32_t start;    /* a single write: its address; other: 0 */
+    uint32_t quantity; /* a single write: 1; other: 0 */
+    uint64_t deadline;
+    uint32_t parties;
+    model_party party[MODEL_PARTIES]; /* in joining order */
+} model_entry;
+
+typedef struct {
+    zb_settings settings;
+    model_entry entries[MODEL_LIVE];
+    uint16_t cursor;
+    uint32_t attached; /* bit n for client n */
+    uint64_t clock;
+} model_state;
+
+zb_read   model_settings_read(const uint8_t *text, size_t text_len);
+zb_answer model_settings_write(zb_settings from, uint8_t *text, size_t text_len);
+zb_answer model_fresh(model_state *st, zb_settings from);
+zb_answer model_attach(model_state *st, uint32_t client);
+zb_answer model_detach(model_state *st, uint32_t client);
+zb_answer model_request(model_state *st, uint32_t client, uint64_t now,
+                        const uint8_t *frame, size_t frame_len,
+                        uint8_t *out, size_t out_len);
+zb_answer model_reply(model_state *st, uint64_t now,
+                      const uint8_t *frame, size_t frame_len,
+                      uint8_t *out, size_t out_len,
+                      uint16_t *list, size_t list_len);
+zb_answer model_tick(model_state *st, uint64_t now,
+                     uint8_t *out, size_t out_len,
+                     uint16_t *list, size_t list_len);
+zb_answer model_link_lost(model_state *st);
+zb_answer model_split(const uint8_t *run, size_t run_len);
+#endif

@@ -1,0 +1,90 @@
+/* What the generated calls must have met, with counts; a run that missed a line of it fails. */
+#include "reached.h"
+#include <stdio.h>
+
+enum { REFUSALS = 11, OUTCOMES = 10 };
+
+const char *const call_names[CALLS] = {
+    "fresh", "attach", "detach", "request", "reply", "tick", "link_lost", "split", "settings_read", "settings_write",
+};
+
+static const char *const words[REACHED_COUNT] = {
+#define REACHED_WORDS(name, words) words,
+    REACHED_LIST(REACHED_WORDS)
+#undef REACHED_WORDS
+};
+
+/* Document 01's table of refusals, call by call: bit n for refusal n. */
+static const uint32_t can_refuse[CALLS] = {
+    [CALL_FRESH] = 1 << 10,
+    [CALL_ATTACH] = 1 << 2 | 1 << 9,
+    [CALL_DETACH] = 1 << 2,
+    [CALL_REQUEST] = 1 << 1 | 1 << 2 | 1 << 3 | 1 << 4 | 1 << 5 | 1 << 6,
+    [CALL_REPLY] = 1 << 1 | 1 << 3 | 1 << 4 | 1 << 7 | 1 << 8,
+    [CALL_TICK] = 1 << 1 | 1 << 3,
+    [CALL_SPLIT] = 1 << 4,
+    [CALL_READ] = 1 << 10,
+    [CALL_WRITE] = 1 << 1 | 1 << 10,
+};
+
+/* The outcomes of each call: bit n for outcome n. */
+static const uint32_t can_come_to[CALLS] = {
+    [CALL_FRESH] = 1 << ZB_DONE,
+    [CALL_ATTACH] = 1 << ZB_DONE,
+    [CALL_DETACH] = 1 << ZB_DONE,
+    [CALL_REQUEST] = 1 << ZB_ISSUED | 1 << ZB_JOINED | 1 << ZB_EXCEPTION,
+    [CALL_REPLY] = 1 << ZB_ANSWERED,
+    [CALL_TICK] = 1 << ZB_TIMED_OUT | 1 << ZB_NOTHING_DUE,
+    [CALL_LINK_LOST] = 1 << ZB_DONE,
+    [CALL_SPLIT] = 1 << ZB_FRAME | 1 << ZB_MORE,
+    [CALL_READ] = 1 << ZB_DONE,
+    [CALL_WRITE] = 1 << ZB_DONE,
+};
+
+static uint64_t met[REACHED_COUNT];
+static uint64_t refusals[CALLS][REFUSALS], outcomes[CALLS][OUTCOMES];
+
+void reached(enum reached what)
+{
+    met[what]++;
+}
+
+void reached_answer(enum call call, zb_answer a)
+{
+    if (a.refusal)
+        refusals[call][a.refusal % REFUSALS]++;
+    else
+        outcomes[call][a.outcome % OUTCOMES]++;
+}
+
+/* One row of counts; a column that can be met was, and no other was. */
+static bool row(const char *what, const uint64_t *counts, uint32_t columns, uint32_t can)
+{
+    bool whole = true;
+    for (uint32_t n = 0; n < columns; n++) {
+        bool wanted = can >> n & 1;
+        if (counts[n])
+            printf("  %s %u: %llu", what, n, (unsigned long long)counts[n]);
+        if (wanted != (counts[n] != 0)) {
+            printf("  %s %u: %s", what, n, wanted ? "NOT REACHED" : "NOT OF THIS CALL");
+            whole = false;
+        }
+    }
+    return whole;
+}
+
+bool reached_print(void)
+{
+    bool whole = true;
+    for (int call = 0; call < CALLS; call++) {
+        printf("%-15s", call_names[call]);
+        whole &= row("outcome", outcomes[call], OUTCOMES, can_come_to[call]);
+        whole &= row("refusal", refusals[call], REFUSALS, can_refuse[call]);
+        printf("\n");
+    }
+    for (int n = 0; n < REACHED_COUNT; n++) {
+        printf("%-48s %llu%s\n", words[n], (unsigned long long)met[n], met[n] ? "" : "  NOT REACHED");
+        whole &= met[n] != 0;
+    }
+    return whole;
+}

@@ -1,0 +1,69 @@
+/* What the generated calls must have met, with counts; a run that missed a line of it fails. */
+#ifndef REACHED_H
+#define REACHED_H
+#include "zilborteka.h"
+
+enum call {
+    CALL_FRESH, CALL_ATTACH, CALL_DETACH, CALL_REQUEST, CALL_REPLY, CALL_TICK, CALL_LINK_LOST, CALL_SPLIT, CALL_READ,
+    CALL_WRITE, CALLS
+};
+extern const char *const call_names[CALLS];
+
+#define REACHED_LIST(X) \
+    X(PARTY_8, "the 8th party joins") \
+    X(PARTY_9, "a 9th equal read is issued on its own") \
+    X(LIVE_64, "the 64th live request is issued") \
+    X(LIVE_65, "the 65th gets exception 04") \
+    X(JOINED_AT_64, "a read joins while 64 are live") \
+    X(WRAP, "the cursor passes 65,535") \
+    X(SKIPPED, "an id is skipped because it is live") \
+    X(SKIPPED_BEFORE_WRAP, "65,535 is skipped and 0 is issued") \
+    X(SKIPPED_AT_WRAP, "65,535 and 0 are skipped in one search") \
+    X(EXCEPTION_02, "exception 02") \
+    X(EXCEPTION_03, "exception 03") \
+    X(EXCEPTION_04, "exception 04") \
+    X(EXCEPTION_0B, "exception 0B") \
+    X(CONTROLLER_EXCEPTION, "the controller's own exception is handed on") \
+    X(PARTIAL_SINGLE, "partial raw in request 06") \
+    X(VALUE_SINGLE, "value raw in request 06") \
+    X(PARTIAL_MULTIPLE, "partial raw in request 16") \
+    X(VALUE_MULTIPLE, "value raw in request 16") \
+    X(PARTIAL_READ, "partial raw in reply 03 or 04") \
+    X(VALUE_READ, "value raw in reply 03 or 04") \
+    X(PARTIAL_ECHO, "partial raw in reply 06") \
+    X(VALUE_ECHO, "value raw in reply 06") \
+    X(BOTH_RAW, "both counts nonzero in one frame") \
+    X(DUE_NOT_JOINED, "an equal read is not joined because it is due") \
+    X(SMALLEST_JOINED, "of several entries the smallest id is joined") \
+    X(SMALLEST_IS_YOUNGER, "the smallest id is not the one issued first") \
+    X(EMPTY_JOINED, "an entry left by all is joined again") \
+    X(ROOM_USED_AGAIN, "a struck party's room is used again") \
+    X(CLIENT_TWICE, "one client twice in one answer") \
+    X(SAME_IDS_TWICE, "one client with equal ids, both answered") \
+    X(EMPTY_ANSWERED, "an entry left by all is answered, list empty") \
+    X(EMPTY_TIMED_OUT, "an entry left by all times out, list empty") \
+    X(STRUCK, "detach strikes parties out") \
+    X(SUCCESSOR, "a successor gets nothing of its predecessor's") \
+    X(SUCCESSOR_OWN, "a successor gets its own from the same entry") \
+    X(LOST_LIVE, "link lost with live entries") \
+    X(LATE_REPLY, "a reply past the deadline, before the tick") \
+    X(TIE, "equal deadlines, the smallest id times out") \
+    X(NEVER_DUE, "a deadline past 2^63 - 1") \
+    X(DRAINED, "ticked until nothing is due") \
+    X(TEXT_256, "a settings text of 256 tags is read") \
+    X(TEXT_WRONG_DEEP, "a settings text wrong behind line 12") \
+    X(FULL_WIDTH_CLIENT, "client 259 or 2^32 - 1 is refused") \
+    X(CLOCK_BACK, "a time below the clock is refused") \
+    X(TIME_TOO_LARGE, "a time above 2^63 - 1 is refused")
+
+enum reached {
+#define REACHED_NAME(name, words) REACHED_##name,
+    REACHED_LIST(REACHED_NAME)
+#undef REACHED_NAME
+    REACHED_COUNT
+};
+
+void reached(enum reached what);
+void reached_answer(enum call call, zb_answer a);
+bool reached_print(void); /* false where something was not reached */
+#endif
