@@ -11,3 +11,4 @@ pub mod DigitLaws
 pub mod ByteLaws
 pub mod StoreLaws
 pub mod MemberLaws
+pub mod FillLaws

@@ -7,7 +7,7 @@ use Rattle.laws.specs.Lists.{tab}
 use Rattle.laws.proofs.ListLaws.{length-tab, getD-tab}
 use Rattle.state.specs.Places.{placeOf}
 use Rattle.state.specs.States.{rowAt}
-use Rattle.state.proofs.FillLaws.{Filled, filled-none, filled-more, filled-all}
+use Rattle.laws.proofs.FillLaws.{Filled, filled-none, filled-more, filled-all}
 use borrow.Author.Needs.{needs}
 use Rattle.state.proofs.gather.Statement.{statement}
 use Rattle.state.proofs.gather.Tie as tie

@@ -7,7 +7,7 @@ use lib.ListN.{length-map}
 use Rattle.laws.specs.Numbers.{places}
 use Rattle.laws.proofs.ListLaws.{getD-map}
 use Rattle.state.specs.Places.{numberOf, wordIn, callerOf, deadlineOf, countOf}
-use Rattle.state.proofs.FillLaws.{Filled, filled-none, filled-more, filled-all}
+use Rattle.laws.proofs.FillLaws.{Filled, filled-none, filled-more, filled-all}
 use borrow.Author.Needs.{needs}
 use Rattle.state.proofs.spread.Statement.{statement}
 use Rattle.state.proofs.spread.Tie as tie
