@@ -1,7 +1,8 @@
 /* The C boundary of the register proxy.
    Every call may be given any bytes, any client number and any time, and a state that these calls made.
    No pointer is NULL, even with length 0. State, frame, out and list do not overlap. The state is aligned to
-   8 bytes, a list to 2. One state is used by one thread at a time. zb_fresh comes first. */
+   8 bytes, a list to 2. One state is used by one thread at a time. zb_fresh comes first.
+   The code uses SSE registers and the red zone of the System V x86-64 convention: a kernel calls it where both are kept. */
 #ifndef ZILBORTEKA_H
 #define ZILBORTEKA_H
 #include <stdint.h>
@@ -55,7 +56,7 @@ typedef struct {
     uint32_t value;    /* tags left raw for their value */
     uint32_t set;      /* link lost: the clients that were attached, bit n for client n */
     uint32_t id;       /* issued, joined, answered, timed out: the proxy id of the entry */
-    uint32_t code;     /* exception: its code */
+    uint32_t code;     /* ZB_EXCEPTION: its code, 2 to 4; a timeout's 0B stands in the frame alone, and this is 0 */
 } zb_answer;
 
 enum {
