@@ -2,7 +2,7 @@
 use libc::STDOUT_FILENO;
 use settings::Settings;
 use std::num::wrapping_add_u64;
-use text::Wrote;
+use writing::Wrote;
 
 // How many texts were read, and how many of them came out otherwise than is said beside them.
 pub struct Tally {
@@ -20,10 +20,10 @@ fn comes_back(s: Settings, text: &[u8], buffer: &mut [u8]) -> bool {
         return false;
     }
     let short = size - 1;
-    let Wrote::TooShort = text::writing::write_text(s, &mut buffer[0..short]) else {
+    let Wrote::TooShort = writing::write_text(s, &mut buffer[0..short]) else {
         return false;
     };
-    let Wrote::Text(length) = text::writing::write_text(s, &mut buffer[0..size]) else {
+    let Wrote::Text(length) = writing::write_text(s, &mut buffer[0..size]) else {
         return false;
     };
     (length == size) & check::same(parts::before(buffer, size), text)
@@ -45,7 +45,7 @@ fn counted(t: Tally, right: bool, text: &[u8], line: usize) -> Tally {
 
 // Reads a text that is wrong at this line, which leaves timeout 3000, join 1 and no tags; or, with 0, a right one.
 pub fn read(t: Tally, text: &[u8], line: usize) -> Tally {
-    let found = text::reading::read_text(text);
+    let found = reading::read_text(text);
     let s = found.settings;
     let mut buffer = [0u8; laws::MOST_TEXT];
     let kept = if line == 0 {
@@ -59,7 +59,7 @@ pub fn read(t: Tally, text: &[u8], line: usize) -> Tally {
 
 // Reads document 01's text to its value, number by number; unused tag places are 0.
 pub fn read_value(t: Tally, text: &[u8]) -> Tally {
-    let found = text::reading::read_text(text);
+    let found = reading::read_text(text);
     let s = found.settings;
     let head = (found.line == 0) & (s.timeout == 3000) & (s.join == 1) & (s.tags == 2);
     let first = (s.addr[0] == 1024) & (s.width[0] == 16);

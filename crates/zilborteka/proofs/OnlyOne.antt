@@ -8,7 +8,7 @@ use Rattle.wire.specs.Splitting.{standingOf, firstFrame}
 use Rattle.settings.specs.declared.Settings.{Settings}
 use Rattle.settings.specs.Grammar.{readText}
 use Rattle.settings.specs.Values.{valueOf}
-use Rattle.text.specs.Reports.{writtenTo}
+use Rattle.writing.specs.Reports.{writtenTo}
 use Rattle.machine.specs.Calls.{Call}
 use Rattle.machine.specs.declared.Report.{Report}
 use Rattle.proxy.specs.State.{machineOf}

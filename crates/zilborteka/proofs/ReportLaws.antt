@@ -16,10 +16,11 @@ use Rattle.wire.proofs.SplittingLaws.{starts, first-size}
 use Rattle.settings.specs.Grammar.{Value, Read, newest, textIn, valid, readText}
 use Rattle.settings.specs.Grammar.Read.{got, wrong}
 use Rattle.settings.proofs.GrammarLaws.{wrong-lines, longest}
-use Rattle.text.specs.declared.ReadText.{ReadText}
-use Rattle.text.specs.declared.Wrote.{Wrote}
-use Rattle.text.specs.declared.Wrote.the-variants.{Text, TooShort, Invalid}
-use Rattle.text.specs.Reports.{reported, Writing, writing, writtenTo}
+use Rattle.reading.specs.declared.ReadText.{ReadText}
+use Rattle.writing.specs.declared.Wrote.{Wrote}
+use Rattle.writing.specs.declared.Wrote.the-variants.{Text, TooShort, Invalid}
+use Rattle.reading.specs.Reports.{reported}
+use Rattle.writing.specs.Reports.{Writing, writing, writtenTo}
 use Rattle.machine.specs.Numbers.{isDone}
 use Rattle.machine.specs.declared.Report.{Report}
 use Rattle.zilborteka.specs.Reports.{told, splitTold, settingsRead, readTold, textSeen, wroteTold, writeTold}

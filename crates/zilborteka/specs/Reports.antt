@@ -10,9 +10,9 @@ use Rattle.settings.specs.Grammar.{Value, Read}
 use Rattle.settings.specs.Grammar.Read.{got, wrong}
 use Rattle.settings.specs.Values.{settingsOf, usual}
 use Rattle.settings.specs.declared.Settings.{Settings}
-use Rattle.text.specs.declared.Wrote.{Wrote}
-use Rattle.text.specs.declared.Wrote.the-variants.{Text, TooShort, Invalid}
-use Rattle.text.specs.Reports.{Writing}
+use Rattle.writing.specs.declared.Wrote.{Wrote}
+use Rattle.writing.specs.declared.Wrote.the-variants.{Text, TooShort, Invalid}
+use Rattle.writing.specs.Reports.{Writing}
 use Rattle.machine.specs.Numbers.{isDone}
 use Rattle.machine.specs.declared.Report.{Report}
 use Rattle.zilborteka.specs.declared.deviceless.SettingsRead.{SettingsRead}

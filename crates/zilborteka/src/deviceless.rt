@@ -5,14 +5,14 @@ use crate::reports::said;
 use machine::DONE;
 use machine::Report;
 use settings::Settings;
-use text::Wrote;
 use wire::Split;
+use writing::Wrote;
 ghost use mathlib.Core.Path.{_≡_};
 ghost use lib.ListN.{length};
 ghost use Rattle.wire.specs.Splitting.{standingOf, firstFrame};
 ghost use Rattle.settings.specs.Grammar.{readText};
 ghost use Rattle.settings.specs.Values.{valueOf};
-ghost use Rattle.text.specs.Reports.{writtenTo};
+ghost use Rattle.writing.specs.Reports.{writtenTo};
 ghost use Rattle.zilborteka.specs.Reports.{splitTold, readTold, textSeen, writeTold, stateSize};
 
 // What reading a settings text gives: C's zb_read.
@@ -42,7 +42,7 @@ pub extern "C" fn zb_split(run: &[u8]) -> Report
 pub extern "C" fn zb_settings_read(text: &[u8]) -> SettingsRead
     ensures { λ r. ⌜ r ≡ readTold (readText (now (text .entry))) ⌝ }
 {
-    let read = text::reading::read_text(text);
+    let read = reading::read_text(text);
     let line = read.line;
     let settings = read.settings;
     if line == 0 {
@@ -58,7 +58,7 @@ pub extern "C" fn zb_settings_read(text: &[u8]) -> SettingsRead
 pub extern "C" fn zb_settings_write(from: Settings, text: &mut [u8]) -> Report
     ensures { λ r. ⌜ textSeen r (now (text .exit)) ≡ writeTold (writtenTo (valueOf from) (now (text .entry))) ⌝ }
 {
-    match text::writing::write_text(from, text) {
+    match writing::write_text(from, text) {
         Wrote::Text(size) => said(0, 0, DONE, size as u32),
         Wrote::TooShort => said(1, 0, 0, 0),
         Wrote::Invalid => said(10, 0, 0, 0),

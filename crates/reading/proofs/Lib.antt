@@ -1,0 +1,4 @@
+pub mod PlaceLaws
+pub mod AnswerLaws
+pub mod ListingLaws
+pub mod HeadLaws
