@@ -26,25 +26,27 @@ fn done_or(refusal: u32) -> Answer
     Answer::Refused { number: refusal }
 }
 
-// A fresh state from a settings value. An invalid value is refusal 10, and the state then has the usual one.
-pub fn fresh(from: Settings) -> Stepped
+// A fresh state over columns by value, whatever they hold.
+fn freshened(
+    mut ids: [u32; laws::PLACES],
+    mut asked: [u64; laws::PLACES],
+    mut notes: [u8; laws::PLACES],
+    mut deadlines: [u64; laws::PLACES],
+    mut counts: [u8; laws::PLACES],
+    mut clients: [u8; laws::PARTY_PLACES],
+    mut originals: [u16; laws::PARTY_PLACES],
+    mut top: u32,
+    mut cursor: u16,
+    mut attached: u32,
+    mut clock: u64,
+    mut timeout: u32,
+    mut join: u32,
+    mut tagged: u32,
+    mut tags: [u64; laws::MOST_TAGS],
+    from: Settings,
+) -> Stepped
     ensures { λ r. ⌜ Freshly from r ⌝ }
 {
-    let mut ids = [0u32; laws::PLACES];
-    let mut asked = [0u64; laws::PLACES];
-    let mut notes = [0u8; laws::PLACES];
-    let mut deadlines = [0u64; laws::PLACES];
-    let mut counts = [0u8; laws::PLACES];
-    let mut clients = [0u8; laws::PARTY_PLACES];
-    let mut originals = [0u16; laws::PARTY_PLACES];
-    let mut top: u32 = 0;
-    let mut cursor: u16 = 0;
-    let mut attached: u32 = 0;
-    let mut clock: u64 = 0;
-    let mut timeout: u32 = 0;
-    let mut join: u32 = 0;
-    let mut tagged: u32 = 0;
-    let mut tags = [0u64; laws::MOST_TAGS];
     let refused = proxy::making::fresh(
         &mut ids,
         &mut asked,
@@ -82,6 +84,30 @@ pub fn fresh(from: Settings) -> Stepped
         tags,
     );
     Stepped { state, answer }
+}
+
+// A fresh state from a settings value. An invalid value is refusal 10, and the state then has the usual one.
+pub fn fresh(from: Settings) -> Stepped
+    ensures { λ r. ⌜ Freshly from r ⌝ }
+{
+    freshened(
+        [0; laws::PLACES],
+        [0; laws::PLACES],
+        [0; laws::PLACES],
+        [0; laws::PLACES],
+        [0; laws::PLACES],
+        [0; laws::PARTY_PLACES],
+        [0; laws::PARTY_PLACES],
+        0,
+        0,
+        0,
+        0,
+        0,
+        0,
+        0,
+        [0; laws::MOST_TAGS],
+        from,
+    )
 }
 
 // Attaches a client.
@@ -156,22 +182,26 @@ pub fn detach(s: State, client: u32) -> Stepped
     let mut notes = [0u8; laws::PLACES];
     let mut deadlines = [0u64; laws::PLACES];
     let mut counts = [0u8; laws::PLACES];
+    let entries = s.entries;
     state::spread(
-        s.entries,
+        entries,
         &mut ids,
         &mut asked,
         &mut notes,
         &mut deadlines,
         &mut counts,
     );
+    let clients = s.clients;
+    let originals = s.originals;
+    let tags = s.tags;
     detached(
         ids,
         asked,
         notes,
         deadlines,
         counts,
-        s.clients,
-        s.originals,
+        clients,
+        originals,
         s.top,
         s.cursor.0,
         s.attached,
@@ -179,7 +209,7 @@ pub fn detach(s: State, client: u32) -> Stepped
         s.timeout,
         s.join,
         s.tagged,
-        s.tags,
+        tags,
         client,
     )
 }
@@ -260,22 +290,26 @@ pub fn request(s: State, client: u32, time: u64, frame: &[u8], out: &mut [u8]) -
     let mut notes = [0u8; laws::PLACES];
     let mut deadlines = [0u64; laws::PLACES];
     let mut counts = [0u8; laws::PLACES];
+    let entries = s.entries;
     state::spread(
-        s.entries,
+        entries,
         &mut ids,
         &mut asked,
         &mut notes,
         &mut deadlines,
         &mut counts,
     );
+    let clients = s.clients;
+    let originals = s.originals;
+    let tags = s.tags;
     requested(
         ids,
         asked,
         notes,
         deadlines,
         counts,
-        s.clients,
-        s.originals,
+        clients,
+        originals,
         s.top,
         s.cursor.0,
         s.attached,
@@ -283,7 +317,7 @@ pub fn request(s: State, client: u32, time: u64, frame: &[u8], out: &mut [u8]) -
         s.timeout,
         s.join,
         s.tagged,
-        s.tags,
+        tags,
         client,
         time,
         frame,
@@ -367,22 +401,26 @@ pub fn reply(s: State, time: u64, frame: &[u8], out: &mut [u8], list: &mut [u16]
     let mut notes = [0u8; laws::PLACES];
     let mut deadlines = [0u64; laws::PLACES];
     let mut counts = [0u8; laws::PLACES];
+    let entries = s.entries;
     state::spread(
-        s.entries,
+        entries,
         &mut ids,
         &mut asked,
         &mut notes,
         &mut deadlines,
         &mut counts,
     );
+    let clients = s.clients;
+    let originals = s.originals;
+    let tags = s.tags;
     replied(
         ids,
         asked,
         notes,
         deadlines,
         counts,
-        s.clients,
-        s.originals,
+        clients,
+        originals,
         s.top,
         s.cursor.0,
         s.attached,
@@ -390,7 +428,7 @@ pub fn reply(s: State, time: u64, frame: &[u8], out: &mut [u8], list: &mut [u16]
         s.timeout,
         s.join,
         s.tagged,
-        s.tags,
+        tags,
         time,
         frame,
         out,
@@ -472,22 +510,26 @@ pub fn tick(s: State, time: u64, out: &mut [u8], list: &mut [u16]) -> Stepped
     let mut notes = [0u8; laws::PLACES];
     let mut deadlines = [0u64; laws::PLACES];
     let mut counts = [0u8; laws::PLACES];
+    let entries = s.entries;
     state::spread(
-        s.entries,
+        entries,
         &mut ids,
         &mut asked,
         &mut notes,
         &mut deadlines,
         &mut counts,
     );
+    let clients = s.clients;
+    let originals = s.originals;
+    let tags = s.tags;
     ticked(
         ids,
         asked,
         notes,
         deadlines,
         counts,
-        s.clients,
-        s.originals,
+        clients,
+        originals,
         s.top,
         s.cursor.0,
         s.attached,
@@ -495,7 +537,7 @@ pub fn tick(s: State, time: u64, out: &mut [u8], list: &mut [u16]) -> Stepped
         s.timeout,
         s.join,
         s.tagged,
-        s.tags,
+        tags,
         time,
         out,
         list,
@@ -554,22 +596,26 @@ pub fn link_lost(s: State) -> Stepped
     let mut notes = [0u8; laws::PLACES];
     let mut deadlines = [0u64; laws::PLACES];
     let mut counts = [0u8; laws::PLACES];
+    let entries = s.entries;
     state::spread(
-        s.entries,
+        entries,
         &mut ids,
         &mut asked,
         &mut notes,
         &mut deadlines,
         &mut counts,
     );
+    let clients = s.clients;
+    let originals = s.originals;
+    let tags = s.tags;
     lost(
         ids,
         asked,
         notes,
         deadlines,
         counts,
-        s.clients,
-        s.originals,
+        clients,
+        originals,
         s.top,
         s.cursor.0,
         s.attached,
@@ -577,6 +623,6 @@ pub fn link_lost(s: State) -> Stepped
         s.timeout,
         s.join,
         s.tagged,
-        s.tags,
+        tags,
     )
 }

@@ -1,0 +1,14 @@
+-- `calls::attach` meets its contract: attach changes the set alone, whatever the book is.
+-- Assumes nothing.
+use Rattle.proxy.proofs.AttachLaws.{attach-does}
+use borrow.Author.Needs.{needs}
+use Rattle.calls.proofs.attach.Statement.{statement}
+use Rattle.calls.proofs.attach.Tie as tie
+
+returns : tie.Need-returns
+returns c =
+    let s = c .before .before in
+    attach-does _ (s .pre) _ _ _ (c .attach .ensures)
+
+pub attach-spec : {M : Type 1} → statement M
+attach-spec = tie.close (tie.spec (λ c κs. search needs) returns)

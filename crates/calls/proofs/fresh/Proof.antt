@@ -1,0 +1,11 @@
+-- `calls::fresh` meets its contract: it hands on what is made over columns of zeros.
+-- Assumes nothing.
+use borrow.Author.Needs.{needs}
+use Rattle.calls.proofs.fresh.Statement.{statement}
+use Rattle.calls.proofs.fresh.Tie as tie
+
+returns : tie.Need-returns
+returns c = c .freshened .ensures
+
+pub fresh-spec : {M : Type 1} → statement M
+fresh-spec = tie.close (tie.spec (λ c κs. search needs) returns)

@@ -1,0 +1,14 @@
+-- `calls::freshened` meets its contract: the core makes the columns fresh, and they are gathered.
+-- Assumes nothing.
+use Rattle.calls.proofs.CallLaws.{freshly}
+use borrow.Author.Needs.{needs}
+use Rattle.calls.proofs.freshened.Statement.{statement}
+use Rattle.calls.proofs.freshened.Tie as tie
+
+returns : tie.Need-returns
+returns c =
+    let made = c .before .before .fresh .ensures in
+    freshly _ _ _ _ _ _ _ _ _ _ _ _ _ _ _ (made .1 .1) _ (c .gather .ensures) _ _ _ (c .before .done-or .ensures) (made .0) (made .1 .0)
+
+pub freshened-spec : {M : Type 1} → statement M
+freshened-spec = tie.close (tie.spec (λ c κs. search needs) (λ c κs. search needs) (λ c κs. search needs) returns)

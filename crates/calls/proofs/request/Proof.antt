@@ -1,0 +1,19 @@
+-- `calls::request` meets its contract: what is done from the spread columns is done from the state.
+-- Assumes nothing.
+use Rattle.calls.proofs.CallLaws.{spread-sound, served}
+use borrow.Author.Needs.{needs}
+use Rattle.calls.proofs.request.Statement.{statement}
+use Rattle.calls.proofs.request.Tie as tie
+
+requested-requires : tie.Need-requested-requires
+requested-requires c κs =
+    let s = c .before .before .before .before .before .before .before .before .before .before .before .before .before in
+    spread-sound (s .args .s) _ _ _ _ _ (c .before .before .before .before .spread .ensures) (s .pre)
+
+returns : tie.Need-returns
+returns c =
+    let s = c .before .before .before .before .before .before .before .before .before .before .before .before .before .before .before .before in
+    served (s .args .s) _ _ _ _ _ (c .before .before .before .before .before .before .before .spread .ensures) _ (c .before .before .requested .result) _ _ (c .before .before .requested .ensures)
+
+pub request-spec : {M : Type 1} → statement M
+request-spec = tie.close (tie.spec (λ c κs. search needs) requested-requires (λ c. search needs) returns)

@@ -1,0 +1,19 @@
+-- `calls::tick` meets its contract: what is done from the spread columns is done from the state.
+-- Assumes nothing.
+use Rattle.calls.proofs.CallLaws.{spread-sound, served}
+use borrow.Author.Needs.{needs}
+use Rattle.calls.proofs.tick.Statement.{statement}
+use Rattle.calls.proofs.tick.Tie as tie
+
+ticked-requires : tie.Need-ticked-requires
+ticked-requires c κs =
+    let s = c .before .before .before .before .before .before .before .before .before .before .before .before .before .before in
+    spread-sound (s .args .s) _ _ _ _ _ (c .before .before .before .before .before .spread .ensures) (s .pre)
+
+returns : tie.Need-returns
+returns c =
+    let s = c .before .before .before .before .before .before .before .before .before .before .before .before .before .before .before .before .before .before .before in
+    served (s .args .s) _ _ _ _ _ (c .before .before .before .before .before .before .before .before .before .before .spread .ensures) _ (c .before .before .before .before .ticked .result) _ _ (c .before .before .before .before .ticked .ensures)
+
+pub tick-spec : {M : Type 1} → statement M
+tick-spec = tie.close (tie.spec (λ c κs. search needs) ticked-requires (λ c. search needs) (λ c. search needs) returns)

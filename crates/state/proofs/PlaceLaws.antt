@@ -1,0 +1,42 @@
+-- A place that was made of its numbers in the columns has these numbers; of its word, what the word says was asked.
+-- Assumes nothing.
+use Prim.Native.Nat.{ℕ, _≤_}
+use mathlib.Core.Path.{_≡_, refl, ap}
+use mathlib.Core.Logic.{⊎-elim}
+use mathlib.Core.Bool.{true, false}
+use native.Mathlib.Omega.{arith}
+use lib.Dec.{eqb}
+use borrow.Author.Tests.{eqb-true, eqb-false}
+use Rattle.laws.specs.Numbers.{ids}
+use Rattle.laws.proofs.Choice.{true-or}
+use Rattle.pdu.specs.Words.{wordOf, whatOf, entryOf}
+use Rattle.pdu.proofs.WordLaws.{entry-what}
+use Rattle.state.specs.Places.{placeOf, numberOf, wordIn, callerOf, deadlineOf, countOf, idIn}
+
+module _ (n w c d k : ℕ) where
+  -- The number of ids comes back: 0 for a free place, else at most one more than the last id.
+  pub number-back : n ≤ ids → numberOf (placeOf n w c d k) ≡ n
+  unfolding numberOf placeOf entryOf idIn
+  number-back h =
+      ⊎-elim
+      (λ (t : eqb n 0 ≡ true). let z = eqb-true n 0 t in rw z)
+      (λ (t : eqb n 0 ≡ false). let z = eqb-false n 0 t in rw t (omega (arith, z)))
+      (true-or (eqb n 0))
+
+  -- The word is that of what the word says.
+  pub word-made : wordIn (placeOf n w c d k) ≡ wordOf (whatOf w)
+  unfolding wordIn placeOf
+  word-made = ap wordOf (entry-what (idIn n) w d)
+
+  -- The other numbers come back as they are.
+  pub caller-back : callerOf (placeOf n w c d k) ≡ c
+  unfolding placeOf
+  caller-back = refl
+
+  pub deadline-back : deadlineOf (placeOf n w c d k) ≡ d
+  unfolding placeOf entryOf
+  deadline-back = refl
+
+  pub count-back : countOf (placeOf n w c d k) ≡ k
+  unfolding placeOf
+  count-back = refl

@@ -1,0 +1,13 @@
+-- `state::place_of` meets its contract: the entry is made of the id and the word, and the place is live where the number is not 0.
+-- Assumes nothing.
+use borrow.Author.Needs.{needs}
+use Rattle.state.specs.Places.{placeOf}
+use Rattle.state.proofs.place_of.Statement.{statement}
+use Rattle.state.proofs.place_of.Tie as tie
+
+returns : tie.Need-returns
+unfolding placeOf
+returns c = rw (c .entry-of .ensures, c .before .id-in .ensures)
+
+pub place-of-spec : {M : Type 1} → statement M
+place-of-spec = tie.close (tie.spec (λ c κs. search needs) (λ c κs. search needs) returns)
