@@ -10,7 +10,8 @@ pub fn all(s: Session) -> Session
     let s = attach(s);
     let s = detach(s);
     let s = fresh(s);
-    usual(s)
+    let s = usual(s);
+    link_lost(s)
 }
 
 // Attach is refused above 31 and for a client that is attached.
@@ -93,5 +94,30 @@ fn usual(s: Session) -> Session
         |request 3 at 0: 12 34 00 00 00 06 01 03 04 00 00 01|issued 0x0001 0,0: 00 01 00 00 00 06 01 03 04 00 00 01|\n\
         |tick at 2999|nothing due|\n\
         |tick at 3000|timed out 0x0001 0,0: 00 00 00 00 00 03 01 83 0B to 3,0x1234|",
+    )
+}
+
+// Link lost is never refused; behind it calls are refused as nobody is attached and nothing is live, and the cursor and the clock stay.
+fn link_lost(s: Session) -> Session
+    requires { ⌜ Made (s .state) ⌝ }
+    ensures { λ r. ⌜ Made (r .state) ⌝ }
+{
+    play(
+        s,
+        b"\
+        link lost returns the former set|fresh|done|\n\
+        |attach 3|done|\n\
+        |attach 5|done|\n\
+        |request 3 at 1000: 12 34 00 00 00 06 01 03 04 00 00 01\
+        |issued 0x0000 0,0: 00 00 00 00 00 06 01 03 04 00 00 01|\n\
+        |link lost|lost 0x00000028|\n\
+        nobody is attached, cursor and clock stay|cursor|0x0001 clock 1000 attached 0x00000000|\n\
+        link lost again is not refused|link lost|lost 0x00000000|\n\
+        detach 2 and request 2 behind it|detach 3|refusal 2|\n\
+        |request 3 at 1000: 12 34 00 00 00 06 01 03 04 00 00 01|refusal 2|\n\
+        reply 7 behind it|reply at 1000: 00 00 00 00 00 05 01 03 02 12 34|refusal 7|\n\
+        the client comes again, and the next id is issued|attach 3|done|\n\
+        |request 3 at 1000: 12 34 00 00 00 06 01 03 04 00 00 01\
+        |issued 0x0001 0,0: 00 01 00 00 00 06 01 03 04 00 00 01|",
     )
 }
