@@ -1,4 +1,4 @@
-# demo proves the demonstration program, runs it and prints what it writes; test is the gate.
+# demo proves the demonstration program, runs it, holds what it writes to its file stdout and prints that; test is the gate.
 # host builds the archive and runs the example host in C; host-test does so and runs tests/host (SEED=n: with another seed).
 .PHONY: demo test archive host host-test
 
@@ -6,7 +6,8 @@ SEED ?= 1
 AGAINST_MODEL = $(addprefix tests/host/, dice.c lent.c pair.c reached.c model.c)
 
 demo:
-	@if [ -d crates/demo ]; then rt check demo && cat crates/demo/stdout; else echo "the demonstration program is not built yet"; exit 1; fi
+	rt check demo
+	@cat crates/demo/stdout
 
 test:
 	rt ci

@@ -32,7 +32,7 @@ use Rattle.machine.specs.Machine.{Machine, Note, Live-book, machine, mad
 use Rattle.machine.specs.Calls.{Call, Done, done, outOf, listOf}
 use Rattle.machine.specs.Calls.Call.{attach, detach, request, reply, tick, linkLost}
 use Rattle.machine.specs.Refusals.{refusal, entryFor}
-use Rattle.machine.specs.Requests.{wanted, partyOf, sameRead, joins, joiningPlace, canJoin, exhausted, excepted, joinedTo, issuedTo, served, accepted}
+use Rattle.machine.specs.Requests.{wanted, partyOf, sameRead, joins, joiningPlace, canJoin, exhausted, excepted, joinedTo, issuedTo, served, admitted}
 use Rattle.machine.specs.Replies.{pairs, answeredTo, answered, expiredTo, ticked}
 use Rattle.machine.specs.Outcomes.{granted, outcome}
 use Rattle.machine.specs.Numbers.{numbers}
@@ -100,7 +100,7 @@ served-follows m c f o =
     into q = joined-follows m (joiningPlace m f) c f o q
 
 granted-follows : (m : Machine) (x : Call) → refusal m x ≡ 0 → granted m x .after .book ≡ applies rules (m .book) (grantedMoves m x)
-unfolding granted grantedMoves applies accepted answered answeredTo ticked expiredTo ending excepted
+unfolding granted grantedMoves applies admitted answered answeredTo ticked expiredTo ending excepted
 granted-follows m (attach c) h = refl
 granted-follows m (detach c) h = refl
 granted-follows m (request c t f o) h =
@@ -237,7 +237,7 @@ unfolding told excepted numbers
 excepted-tells v m c t f o = refl
 
 granted-honest : (v : Value) (m : Machine) (x : Call) → Good rules (m .book) → settings m ≡ v → refusal m x ≡ 0 → told v x (seenOf (granted m x)) ≡ tells (grantedMoves m x)
-unfolding granted grantedMoves tells accepted answered ticked
+unfolding granted grantedMoves tells admitted answered ticked
 granted-honest v m (attach c) g s h = attach-tells v m c
 granted-honest v m (detach c) g s h = detach-tells v m c
 granted-honest v m (request c t f o) g s h =
@@ -291,7 +291,7 @@ expired-rule m k o l none = refl
 expired-rule m k o l (some e) = refl
 
 granted-rule : (m : Machine) (x : Call) → refusal m x ≡ 0 → settings (granted m x .after) ≡ settings m
-unfolding granted accepted answered answeredTo ticked excepted
+unfolding granted admitted answered answeredTo ticked excepted
 granted-rule m (attach c) h = refl
 granted-rule m (detach c) h = refl
 granted-rule m (request c t f o) h =

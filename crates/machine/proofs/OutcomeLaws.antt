@@ -20,7 +20,7 @@ use Rattle.machine.specs.Machine.{Machine, Note, machine, rules, clocked
 use Rattle.machine.specs.Calls.{Call, Done, done, outOf, listOf}
 use Rattle.machine.specs.Calls.Call.{attach, detach, request, reply, tick, linkLost}
 use Rattle.machine.specs.Refusals.{Row, row, rows, lowest, refusal, entryFor, isUntimely, isDead}
-use Rattle.machine.specs.Requests.{excepted, joinedTo, issuedTo, served, accepted, canJoin, exhausted, joiningPlace}
+use Rattle.machine.specs.Requests.{excepted, joinedTo, issuedTo, served, admitted, canJoin, exhausted, joiningPlace}
 use Rattle.machine.specs.Replies.{answeredTo, answered, expiredTo, ticked}
 use Rattle.machine.specs.Outcomes.{granted, outcome}
 use Rattle.machine.specs.declared.Answer.{Answer}
@@ -76,7 +76,7 @@ reply-finds m t f o l h =
 
 -- what is granted is no refusal
 pub granted-no-refusal : (m : Machine) (x : Call) → refusal m x ≡ 0 → isRefusal (granted m x .says) ≡ false
-unfolding granted accepted excepted answered answeredTo ticked expiredTo joinedTo issuedTo
+unfolding granted admitted excepted answered answeredTo ticked expiredTo joinedTo issuedTo
 granted-no-refusal m (attach c) h = refl
 granted-no-refusal m (detach c) h = refl
 granted-no-refusal m (request c t f o) h =
@@ -154,7 +154,7 @@ clocked-at m (tick u o l) t h e =
 clocked-at m linkLost t h e = no-time e
 
 granted-clock : (m : Machine) (x : Call) (t : ℕ) → refusal m x ≡ 0 → timeOf x ≡ some t → granted m x .after .book .clock ≡ t
-unfolding granted accepted excepted answered answeredTo ticked expiredTo
+unfolding granted admitted excepted answered answeredTo ticked expiredTo
 granted-clock m (attach c) t h e = no-time e
 granted-clock m (detach c) t h e = no-time e
 granted-clock m (request c u f o) t h e =

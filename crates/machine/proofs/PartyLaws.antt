@@ -26,7 +26,7 @@ use Rattle.machine.specs.Machine.{Machine, Note, Live-book, rules, setti
 use Rattle.machine.specs.Calls.{Call, Done, done, outOf, listOf}
 use Rattle.machine.specs.Calls.Call.{attach, detach, request, reply, tick, linkLost}
 use Rattle.machine.specs.Refusals.{refusal}
-use Rattle.machine.specs.Requests.{wanted, partyOf, joins, joiningPlace, canJoin, exhausted, excepted, joinedTo, issuedTo, served, accepted}
+use Rattle.machine.specs.Requests.{wanted, partyOf, joins, joiningPlace, canJoin, exhausted, excepted, joinedTo, issuedTo, served, admitted}
 use Rattle.machine.specs.Replies.{expiredTo, ticked}
 use Rattle.machine.specs.Outcomes.{granted, outcome}
 use Rattle.machine.specs.declared.Answer.{Answer}
@@ -111,7 +111,7 @@ served-stands m c f o g id =
 -- A request that is joined or issued stands in the party places afterwards, as the latest party of a live entry that asks what it asks.
 pub accepted-stands : (m : Machine) (c t : ℕ) (f o : List ℕ) → Good rules (m .book) → (id : ℕ)
     → Accepts (outcome m (request c t f o) .says) id → Stands (outcome m (request c t f o) .after .book) id (wanted f) (partyOf c f)
-unfolding granted accepted
+unfolding granted admitted
 accepted-stands m c t f o g id a =
     ⊎-elim
     (λ (h : refusal m (request c t f o) ≡ 0).

@@ -37,7 +37,7 @@ use Rattle.machine.specs.Machine.{Machine, Note, settings, clocked}
 use Rattle.machine.specs.Calls.{Call, Done}
 use Rattle.machine.specs.Calls.Call.{request, reply}
 use Rattle.machine.specs.Refusals.{refusal}
-use Rattle.machine.specs.Requests.{excepted, joinedTo, issuedTo, served, accepted}
+use Rattle.machine.specs.Requests.{excepted, joinedTo, issuedTo, served, admitted}
 use Rattle.machine.specs.Outcomes.{granted, outcome}
 use Rattle.machine.specs.declared.Answer.{Answer}
 use Rattle.machine.specs.declared.Answer.the-variants as answer
@@ -99,7 +99,7 @@ unfolding excepted
 excepted-issues m code f o i n p v e = never (cc)
 
 pub request-issues : (m : Machine) (c t : ℕ) (f o : List ℕ) → Issues m f o (outcome m (request c t f o))
-unfolding granted accepted
+unfolding granted admitted
 request-issues m c t f o i n p v e =
     ⊎-elim
     (λ (h : refusal m (request c t f o) ≡ 0). ⊎-elim
@@ -131,7 +131,7 @@ read-is tags a s q g e = rw e
 
 -- an issued request is legal
 pub issued-legal : (m : Machine) (c t : ℕ) (f o : List ℕ) (i : ProxyId) (n p v : ℕ) → outcome m (request c t f o) .says ≡ answer.Issued i n p v → legal (settings m) f ≡ true
-unfolding granted accepted
+unfolding granted admitted
 issued-legal m c t f o i n p v e =
     ⊎-elim
     (λ (h : refusal m (request c t f o) ≡ 0). ⊎-elim

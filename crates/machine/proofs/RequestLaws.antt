@@ -26,7 +26,7 @@ use Rattle.machine.specs.Machine.{Machine, Note, rules, settings, clocke
 use Rattle.machine.specs.Calls.{Call, Done, done}
 use Rattle.machine.specs.Calls.Call.{attach, detach, request, reply, tick, linkLost}
 use Rattle.machine.specs.Refusals.{rows, refusal}
-use Rattle.machine.specs.Requests.{wanted, partyOf, joins, joiningPlace, canJoin, exhausted, excepted, joinedTo, issuedTo, served, accepted}
+use Rattle.machine.specs.Requests.{wanted, partyOf, joins, joiningPlace, canJoin, exhausted, excepted, joinedTo, issuedTo, served, admitted}
 use Rattle.machine.specs.Replies.{answeredTo, answered, expiredTo, ticked}
 use Rattle.machine.specs.Outcomes.{granted, outcome}
 use Rattle.machine.specs.declared.Answer.{Answer}
@@ -118,7 +118,7 @@ refused-code m x h = ap (λ (d : Done). codeOf (d .says)) (refusal-changes-nothi
 
 granted-code : (m : Machine) (c t : ℕ) (f o : List ℕ) → refusal m (request c t f o) ≡ 0 → (eqb (faultOf f) 0 ≡ true → outcome m (request c t f o) ≡ served (clocked m t) c f o)
     × (eqb (faultOf f) 0 ≡ false → outcome m (request c t f o) ≡ excepted (clocked m t) (faultOf f) f o)
-unfolding granted accepted
+unfolding granted admitted
 granted-code m c t f o h = (λ z. granted-is m (request c t f o) h ∙ rw z refl, λ z. granted-is m (request c t f o) h ∙ rw z refl)
 
 pub excepted-says : (m : Machine) (n : ℕ) (f o : List ℕ) → excepted m n f o .says ≡ answer.Excepted n

@@ -11,7 +11,7 @@ use Rattle.machine.specs.Machine.{Machine, machine, rules}
 use Rattle.machine.specs.Calls.{Call, Done, done, outOf, listOf}
 use Rattle.machine.specs.Calls.Call.{attach, detach, request, reply, tick, linkLost}
 use Rattle.machine.specs.Refusals.{refusal}
-use Rattle.machine.specs.Requests.{accepted}
+use Rattle.machine.specs.Requests.{admitted}
 use Rattle.machine.specs.Replies.{answered, ticked}
 use Rattle.machine.specs.declared.Answer.the-variants.{Refused, Done as Finished, Lost}
 
@@ -19,7 +19,7 @@ use Rattle.machine.specs.declared.Answer.the-variants.{Refused, Done as 
 unfoldable pub granted : Machine → Call → Done
 granted m (attach c) = done Finished (machine (m .book) (with (m .attached) c)) [] []
 granted m (detach c) = done Finished (machine (apply rules (m .book) (strike c)) (without (m .attached) c)) [] []
-granted m (request c t f o) = accepted m c t f o
+granted m (request c t f o) = admitted m c t f o
 granted m (reply t f o l) = answered m t f o l
 granted m (tick t o l) = ticked m t o l
 granted m linkLost = done (Lost (m .attached)) (machine (apply rules (m .book) wipe) 0) [] []

@@ -82,7 +82,7 @@ served m c f o =
     (issuedTo m c f o))
 
 -- after the refusals: the clock is set, then exception 03, exception 02, and what a legal request comes to
-unfoldable pub accepted : Machine → ℕ → ℕ → List ℕ → List ℕ → Done
-accepted m c t f o =
+unfoldable pub admitted : Machine → ℕ → ℕ → List ℕ → List ℕ → Done
+admitted m c t f o =
     cond (eqb (faultOf f) 0) (served (clocked m t) c f o)
     (excepted (clocked m t) (faultOf f) f o)

@@ -1,6 +1,15 @@
-// Parts of byte strings, for the programs that run tables of examples.
+// Parts of byte strings, numbers as text and a tally, for the programs that run tables of examples.
 ghost use Prim.Native.Nat.{_≤_};
 ghost use lib.ListN.{length};
+
+pub mod hex;
+pub mod numbers;
+pub mod tally;
+
+// Document 01's settings text.
+pub fn document() -> [u8; 75] {
+    *b"version=1\ntimeout=3000\njoin=1\ntags=2\naddr=1024\nwidth=16\naddr=1026\nwidth=32\n"
+}
 
 // Where this byte next stands; the end where it does not.
 pub fn end_of(s: &[u8], at: usize, byte: u8) -> usize
@@ -28,6 +37,15 @@ pub fn behind(s: &[u8], place: usize) -> &[u8] {
     } else {
         &s[0..0]
     }
+}
+
+// What stands before the first such byte, and what behind it.
+pub fn head(s: &[u8], byte: u8) -> &[u8] {
+    before(s, end_of(s, 0, byte))
+}
+
+pub fn rest(s: &[u8], byte: u8) -> &[u8] {
+    behind(s, std::num::wrapping_add_usize(end_of(s, 0, byte), 1))
 }
 
 // Puts bytes at a place, as many as there is room for, and tells the place behind them.

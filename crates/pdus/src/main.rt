@@ -2,13 +2,8 @@
 mod driving;
 mod showing;
 mod tables;
-mod texts;
 
 fn main() {
-    let t = showing::Tally {
-        shown: 0,
-        differ: 0,
-    };
-    let t = tables::all(t);
-    showing::print(t);
+    let t = tables::all(parts::tally::none());
+    parts::tally::print(b"pdus", t);
 }

@@ -4,34 +4,29 @@
 use crate::driving::Given;
 use crate::driving::bring;
 use crate::driving::send;
-use crate::texts::append_count;
-use crate::texts::append_hex;
-use crate::texts::head;
-use crate::texts::parse;
-use crate::texts::rest;
-use libc::STDOUT_FILENO;
 use parts::append;
 use parts::before;
 use parts::end_of;
-use std::num::wrapping_add_u64;
-
-// How many examples were shown, and how many of them came out otherwise than is said beside them.
-pub struct Tally {
-    pub shown: u64,
-    pub differ: u64,
-}
+use parts::head;
+use parts::hex::append_hex;
+use parts::hex::parse;
+use parts::numbers::append_decimal;
+use parts::rest;
+use parts::tally::Tally;
+use parts::tally::counted;
+use parts::tally::print_line;
 
 // What a call gave, as text.
 fn tell(given: Given, out: &[u8], text: &mut [u8]) -> usize {
     match given {
         Given::Refused(number) => {
             let at = append(text, 0, b"refusal ");
-            append_count(text, at, number)
+            append_decimal(text, at, number as u64)
         }
         Given::Frame(size, raw) => {
-            let at = append_count(text, 0, raw.partial);
+            let at = append_decimal(text, 0, raw.partial as u64);
             let at = append(text, at, b",");
-            let at = append_count(text, at, raw.value);
+            let at = append_decimal(text, at, raw.value as u64);
             let at = append(text, at, b":");
             append_hex(text, at, before(out, size))
         }
@@ -57,35 +52,22 @@ fn run(request: &[u8], reply: &[u8], text: &mut [u8]) -> usize {
     tell(given, &out, text)
 }
 
-fn print_line(label: &[u8], text: &[u8]) {
-    io::write_all(STDOUT_FILENO, label);
-    io::write_all(STDOUT_FILENO, text);
-    io::write_all(STDOUT_FILENO, b"\n");
-}
-
 fn example(t: Tally, row: &[u8]) -> Tally {
-    let asked = rest(row);
-    let answered = rest(asked);
-    let right = head(rest(answered));
-    let request = head(asked);
-    let reply = head(answered);
+    let asked = rest(row, b'|');
+    let answered = rest(asked, b'|');
+    let right = head(rest(answered, b'|'), b'|');
+    let request = head(asked, b'|');
+    let reply = head(answered, b'|');
     let mut text = [0u8; 1024];
     let size = run(request, reply, &mut text);
     let given = before(&text, size);
-    print_line(b"", head(row));
+    print_line(b"", head(row, b'|'));
     print_line(b"  request      ", request);
     if 0 < reply.len() {
         print_line(b"  reply        ", reply);
     }
     print_line(b"  gives   ", given);
-    let shown = wrapping_add_u64(t.shown, 1);
-    let differ = t.differ;
-    if check::same(given, right) {
-        return Tally { shown, differ };
-    }
-    print_line(b"  DIFFERS ", right);
-    let differ = wrapping_add_u64(differ, 1);
-    Tally { shown, differ }
+    counted(t, given, right)
 }
 
 // Every row of a table.
@@ -98,12 +80,4 @@ pub fn examples(t: Tally, table: &[u8]) -> Tally {
         at = end + 1;
     }
     tally
-}
-
-pub fn print(t: Tally) {
-    io::write_all(STDOUT_FILENO, b"pdus: ");
-    io::print_decimal(STDOUT_FILENO, t.shown);
-    io::write_all(STDOUT_FILENO, b" shown, ");
-    io::print_decimal(STDOUT_FILENO, t.differ);
-    io::write_all(STDOUT_FILENO, b" differ\n");
 }

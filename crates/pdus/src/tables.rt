@@ -1,6 +1,6 @@
 // The examples, each with what it must give: see showing.rt for how a row is read.
-use crate::showing::Tally;
 use crate::showing::examples;
+use parts::tally::Tally;
 
 pub fn all(t: Tally) -> Tally {
     let t = to_binary(t);

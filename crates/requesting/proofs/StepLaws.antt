@@ -23,7 +23,7 @@ use Rattle.machine.specs.Machine.{Machine, Note, Live-book, machine, rules, set
 use Rattle.machine.specs.Calls.{Done, done, outOf, listOf}
 use Rattle.machine.specs.Calls.Call.{request}
 use Rattle.machine.specs.Refusals.{refusal}
-use Rattle.machine.specs.Requests.{wanted, partyOf, joiningPlace, canJoin, exhausted, excepted, joinedTo, issuedTo, served, accepted}
+use Rattle.machine.specs.Requests.{wanted, partyOf, joiningPlace, canJoin, exhausted, excepted, joinedTo, issuedTo, served, admitted}
 use Rattle.machine.specs.Outcomes.{granted, outcome}
 use Rattle.machine.specs.declared.Answer.the-variants.{Refused, Joined, Excepted, Issued}
 use Rattle.machine.proofs.OutcomeLaws.{granted-is, refused-is}
@@ -45,14 +45,14 @@ exception-made m f o id unit function code o′ ei eu ef e = rw (e, ei, eu, ef)
 module _ (s : State) {c t : ℕ} {f o : List ℕ} (p : Open (machineOf s) c t f o) where
   -- A request with a fault sets the clock and gets the exception.
   pub was-excepted : {code : ℕ} {d : Done} → checkedOf f ≡ Faulty code → d ≡ excepted (machineOf (timed s t)) code f o → d ≡ outcome (machineOf s) (request c t f o)
-  unfolding granted accepted
+  unfolding granted admitted
   was-excepted {code} e q =
       let w = tested f (Faulty code) e in
       q ∙ sym (granted-is (machineOf s) (request c t f o) (check-passes p (w .0) (w .1)) ∙ rw (w .3) (rw (w .2, clock-is s t (not-before p)) refl))
 
   -- A legal request sets the clock and is served.
   pub was-served : {a : Asked} {d : Done} → checkedOf f ≡ Legal a → d ≡ served (machineOf (timed s t)) c f o → d ≡ outcome (machineOf s) (request c t f o)
-  unfolding granted accepted
+  unfolding granted admitted
   was-served {a} e q =
       let w = tested f (Legal a) e in
       q ∙ sym (granted-is (machineOf s) (request c t f o) (check-passes p (w .0) (w .1)) ∙ rw (eq-eqb (faultOf f) 0 (w .2)) (rw (clock-is s t (not-before p)) refl))

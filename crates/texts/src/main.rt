@@ -9,7 +9,7 @@ use tally::Tally;
 
 fn main() {
     let t = Tally { read: 0, differ: 0 };
-    let t = tally::read_value(t, &making::document());
+    let t = tally::read_value(t, &parts::document());
     let t = tables::all(t);
     let t = places::all(t);
     tally::print(t);

@@ -1,13 +1,10 @@
-// Document 01's settings text, and texts made from it.
+// Texts made from document 01's settings text.
 use crate::tally;
 use crate::tally::Tally;
 use parts::append;
 use parts::before;
 use parts::behind;
-
-pub fn document() -> [u8; 75] {
-    *b"version=1\ntimeout=3000\njoin=1\ntags=2\naddr=1024\nwidth=16\naddr=1026\nwidth=32\n"
-}
+use parts::document;
 
 // Where a line of that text starts, counted from 1; line 9 would start at its end.
 pub fn start_of(line: usize) -> usize {

@@ -1,5 +1,4 @@
 // Document 01's text cut, and with a byte more or another byte, at every place; and texts of about 256 tags.
-use crate::making::document;
 use crate::making::line_at;
 use crate::making::with_bytes;
 use crate::tally::Tally;
@@ -7,6 +6,8 @@ use crate::tally::read;
 use parts::append;
 use parts::before;
 use parts::behind;
+use parts::document;
+use parts::numbers::append_decimal;
 
 pub fn all(t: Tally) -> Tally {
     let mut tally = t;
@@ -65,9 +66,7 @@ fn append_tags(text: &mut [u8], at: usize, count: u64) -> usize {
 }
 
 fn append_tag(text: &mut [u8], at: usize, address: u64) -> usize {
-    let mut digits = [0u8; 20];
-    let size = io::decimal(address, &mut digits);
     let number = append(text, at, b"addr=");
-    let end = append(text, number, &digits[..size]);
+    let end = append_decimal(text, number, address);
     append(text, end, b"\nwidth=32\n")
 }

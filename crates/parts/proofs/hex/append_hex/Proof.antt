@@ -1,11 +1,11 @@
--- `pdus::texts::append_hex` meets its contract. The loop's invariant: the buffer keeps its length.
+-- `parts::hex::append_hex` meets its contract. The loop's invariant: the buffer keeps its length.
 -- Assumes nothing.
 use Prim.Native.Nat.{_-_}
 use mathlib.Core.Path.{_≡_, refl}
 use lib.ListN.{length}
 use borrow.Author.Needs.{needs}
-use Rattle.pdus.proofs.texts.append_hex.Statement.{statement}
-use Rattle.pdus.proofs.texts.append_hex.Tie as tie
+use Rattle.parts.proofs.hex.append_hex.Statement.{statement}
+use Rattle.parts.proofs.hex.append_hex.Tie as tie
 
 abbrev Inv-loop : tie.InvT-loop
 Inv-loop text₀ at bytes next₀ k₀ text next k = length text ≡ length text₀

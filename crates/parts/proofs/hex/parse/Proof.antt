@@ -1,11 +1,11 @@
--- `pdus::texts::parse` meets its contract. The loop's invariant: the buffer keeps its length.
+-- `parts::hex::parse` meets its contract. The loop's invariant: the buffer keeps its length.
 -- Assumes nothing.
 use Prim.Native.Nat.{_-_}
 use mathlib.Core.Path.{_≡_, refl}
 use lib.ListN.{length}
 use borrow.Author.Needs.{needs}
-use Rattle.pdus.proofs.texts.parse.Statement.{statement}
-use Rattle.pdus.proofs.texts.parse.Tie as tie
+use Rattle.parts.proofs.hex.parse.Statement.{statement}
+use Rattle.parts.proofs.hex.parse.Tie as tie
 
 abbrev Inv-loop : tie.InvT-loop
 Inv-loop s bytes₀ count k₀ bytes k = length bytes ≡ length bytes₀

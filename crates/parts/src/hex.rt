@@ -1,18 +1,6 @@
-// Bytes to and from hexadecimal text, and the fields of a row.
+// Bytes to and from hexadecimal text.
 ghost use Prim.Native.Nat.{_≤_};
-use parts::append;
-use parts::before;
-use parts::behind;
-use parts::end_of;
-
-// What stands before the first '|', and what behind it.
-pub fn head(s: &[u8]) -> &[u8] {
-    before(s, end_of(s, 0, b'|'))
-}
-
-pub fn rest(s: &[u8]) -> &[u8] {
-    behind(s, std::num::wrapping_add_usize(end_of(s, 0, b'|'), 1))
-}
+use crate::append;
 
 // The number that a hexadecimal digit is: 0 to 9, A to F.
 fn nibble(digit: u8) -> u8
@@ -31,7 +19,7 @@ fn byte_in(s: &[u8], k: usize) -> u8 {
 
 // The bytes that a text of digits and single spaces is.
 pub fn parse(s: &[u8], bytes: &mut [u8]) -> usize {
-    let count = (s.len() / 3 + 1) % 512;
+    let count = (s.len() % 4096 + 1) / 3;
     let mut k: usize = 0;
     while k < count {
         if bytes.len() <= k {
@@ -61,9 +49,4 @@ pub fn append_hex(text: &mut [u8], at: usize, bytes: &[u8]) -> usize {
         k += 1;
     }
     next
-}
-
-// A number below ten.
-pub fn append_count(text: &mut [u8], at: usize, n: u32) -> usize {
-    append(text, at, &[b'0' + (n % 10) as u8])
 }

@@ -1,0 +1,88 @@
+// A script of calls on one state: each call is printed with what came of it, and held against what must come of it.
+// A row of a table is a name, a call, and what comes of it, each ended by '|', and the row by LF. A row with no name belongs to the one above it.
+// The calls: see naming.rt. What comes of them: see telling.rt.
+ghost use Rattle.state.specs.States.{Made};
+use parts::before;
+use parts::end_of;
+use parts::head;
+use parts::numbers::number;
+use parts::rest;
+use parts::tally::Tally;
+use parts::tally::counted;
+use state::State;
+
+mod apart;
+mod naming;
+mod printing;
+mod running;
+mod telling;
+
+// The state that the calls are made on, and the tally so far.
+pub struct Session {
+    pub state: State,
+    pub tally: Tally,
+}
+
+// A fresh state with document 01's settings, and nothing shown yet.
+pub fn start() -> Session
+    ensures { λ r. ⌜ Made (r .state) ⌝ }
+{
+    let made = calls::fresh(naming::document_value());
+    let state = made.state;
+    let tally = parts::tally::none();
+    Session { state, tally }
+}
+
+// The calls of a row, the call of which "x62 " before it makes 62; the last one's outcome is told.
+fn repeat(state: State, call: &[u8], text: &mut [u8]) -> running::Ran
+    requires { ⌜ Made state ⌝ }
+    ensures { λ r. ⌜ Made (r .state) ⌝ }
+{
+    if wire::byte_at(call, 0) != b'x' {
+        return running::run(state, call, text);
+    }
+    let times = number(call, 0, 1) % 1024;
+    let once = rest(call, b' ');
+    let mut ran = running::run(state, once, text);
+    let mut k: u64 = 1;
+    while k < times {
+        ran = running::run(ran.state, once, text);
+        k += 1;
+    }
+    ran
+}
+
+fn row(s: Session, row: &[u8]) -> Session
+    requires { ⌜ Made (s .state) ⌝ }
+    ensures { λ r. ⌜ Made (r .state) ⌝ }
+{
+    let call = head(rest(row, b'|'), b'|');
+    let right = head(rest(rest(row, b'|'), b'|'), b'|');
+    let mut text = [0u8; 2048];
+    let ran = repeat(s.state, call, &mut text);
+    let given = before(&text, ran.size);
+    printing::print_row(head(row, b'|'), call, given);
+    let tally = counted(s.tally, given, right);
+    let state = ran.state;
+    Session { state, tally }
+}
+
+// Every row of a table.
+pub fn play(s: Session, table: &[u8]) -> Session
+    requires { ⌜ Made (s .state) ⌝ }
+    ensures { λ r. ⌜ Made (r .state) ⌝ }
+{
+    let mut session = s;
+    let mut at: usize = 0;
+    while at < table.len() {
+        let end = end_of(table, at, b'\n');
+        session = row(session, &table[at..end]);
+        at = end + 1;
+    }
+    session
+}
+
+// The last line of a program.
+pub fn finish(name: &[u8], s: Session) {
+    parts::tally::print(name, s.tally);
+}
