@@ -232,17 +232,21 @@ module _ {W : Type 0} where
   pub left-nothing : (l : Ledger W) (c : ℕ) (t : Ticket W) → List·Memᴰ t (post l (left c) .waiting) → t .party .client ≡ c → ⊥
   left-nothing l c t m e = true≢false (sym (eq-eqb (t .party .client) c e) ∙ not-true (whose (isOf c) t) (filter-in (λ x. not (whose (isOf c) x)) t (l .waiting) m .1))
 
-  -- so whoever has its number afterwards is answered nothing but what was accepted since
-  anew : (l : Ledger W) (c : ℕ) (vs : List (Event W)) → Anew c (post l (left c)) (posts (post l (left c)) vs)
-  anew l c vs =
+  -- where nothing of a client waits, whoever has its number afterwards is answered nothing but what was accepted since
+  anew : (l : Ledger W) (c : ℕ) (vs : List (Event W)) → ((t : Ticket W) → List·Memᴰ t (l .waiting) → t .party .client ≡ c → ⊥) → Anew c l (posts l vs)
+  anew l c vs none =
       let n = length (l .accepted) in
-      let o = only (λ t. t .party .client ≡ c → n ≤ t .serial) n (λ t h e. h) (post l (left c)) vs (omega arith) (λ t m e. absurd (left-nothing l c t m e)) in
+      let o = only (λ t. t .party .client ≡ c → n ≤ t .serial) n (λ t h e. h) l vs (omega arith) (λ t m e. absurd (none t m e)) in
       record {
         replied = λ t m e. ⊎-elim inl (λ f. inr (f e)) (o .replied t m);
         timedOut = λ t m e. ⊎-elim inl (λ f. inr (f e)) (o .timedOut t m);
       }
 
-  -- in any history: a client number that is used again after its client left gets nothing that its predecessor asked
-  pub successor : (us : List (Event W)) (c : ℕ) (vs : List (Event W)) → Anew c (post (posts empty us) (left c)) (posts empty (us ++ left c ∷ vs))
+  -- in any history: a client number that is used again after its client left, or after a lost link, gets nothing that its predecessor asked
+  pub successor : (us : List (Event W)) (c : ℕ) (vs : List (Event W)) → Anew c (posts empty (us ++ left c ∷ [])) (posts empty (us ++ left c ∷ vs))
   unfolding posts
-  successor us c vs = rw (posts-append empty us (left c ∷ vs)) (anew (posts empty us) c vs)
+  successor us c vs = rw (posts-append empty us (left c ∷ []), posts-append empty us (left c ∷ vs)) (anew (post (posts empty us) (left c)) c vs (left-nothing (posts empty us) c))
+
+  pub successor-of-lost : (us : List (Event W)) (c : ℕ) (vs : List (Event W)) → Anew c (posts empty (us ++ lost ∷ [])) (posts empty (us ++ lost ∷ vs))
+  unfolding posts
+  successor-of-lost us c vs = rw (posts-append empty us (lost ∷ []), posts-append empty us (lost ∷ vs)) (anew (post (posts empty us) lost) c vs (λ t m e. List·Memᴰ·not-nil m))

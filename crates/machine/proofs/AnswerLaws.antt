@@ -8,7 +8,8 @@ use mathlib.Core.Option.{Option, some, none}
 use mathlib.Core.List.{List, [], _∷_}
 use native.Mathlib.Omega.{arith}
 use native.Mathlib.Nat.{max-eq-right}
-use lib.ListN.{length}
+use lib.ListN.{length, getD, set}
+use lib.Seq.{getD-set-same}
 use borrow.Author.Tests.{not-false}
 use Rattle.laws.specs.Numbers.{places, noResponse}
 use Rattle.laws.specs.Bytes.{over}
@@ -41,20 +42,29 @@ use Rattle.machine.proofs.Follows.{same-entry}
 matched : (f : List ℕ) (q : Option (Live What Note)) (e : Live What Note) → isMismatched f q ≡ false → q ≡ some e → answering (e .what) f ≡ true
 matched f q e n h = not-false (answering (e .what) f) (sym (ap (isMismatched f) h) ∙ n)
 
--- what a reply that is not refused does: the entry under its id, which it answers; its whole frame and list
+-- what a reply that is not refused does: the entry under its id, which it answers, is gone; what is said; its whole frame and list
 pub record Answers (m : Machine) (f o l : List ℕ) (d : Done) : Type 0 where
   pub place : ℕ
   pub entry : Live What Note
   pub there : at (m .book) place ≡ some entry
   pub same : entry .id ≡ idOf f
   pub matches : answering (entry .what) f ≡ true
+  pub gone : at (d .after .book) place ≡ none
+  pub says : d .says ≡ answer.Answered (record { 0 = entry .id }) (length f) (length (entry .parties)) (returned (settings m .tags) (entry .what) f .partial) (returned (settings m .tags) (entry .what) f .value)
   pub frame : d .written ≡ over (laid 0 (returned (settings m .tags) (entry .what) f .bytes)) o
   pub list : d .listed ≡ over (pairs (entry .parties)) l
 
 answered-frame : (m : Machine) (k : ℕ) (f o l : List ℕ) (e : Live What Note)
     → (answeredTo m k f o l (some e) .written ≡ over (laid 0 (returned (settings m .tags) (e .what) f .bytes)) o) × (answeredTo m k f o l (some e) .listed ≡ over (pairs (e .parties)) l)
+    × (answeredTo m k f o l (some e) .after .book .places ≡ set (m .book .places) k none)
+    × (answeredTo m k f o l (some e) .says
+    ≡ answer.Answered (record { 0 = e .id }) (length f) (length (e .parties)) (returned (settings m .tags) (e .what) f .partial) (returned (settings m .tags) (e .what) f .value))
 unfolding answeredTo
-answered-frame m k f o l e = (refl, refl)
+answered-frame m k f o l e = (refl, refl, refl, refl)
+
+-- a place that was emptied holds nothing
+emptied : (ps : List (Option (Live What Note))) (k : ℕ) (e : Live What Note) → getD ps k none ≡ some e → getD (set ps k none) k none ≡ none
+emptied ps k e h = getD-set-same ps k none none (at-low ps k e h)
 
 -- A reply that is not refused hands the parties of its own entry the definition's rewriting of that reply, which answers what the entry holds.
 pub reply-answers : (m : Machine) (t : ℕ) (f o l : List ℕ) → Good rules (m .book) → refusal m (reply t f o l) ≡ 0 → Answers m f o l (outcome m (reply t f o l))
@@ -75,23 +85,29 @@ reply-answers m t f o l g h =
       there = e .1;
       same = ap (λ (y : Live What Note). y .id) (same-entry (sym (e .1) ∙ w .1)) ∙ w .2;
       matches = matched f (entryFor m f) (e .0) (x .0) (e .1);
+      gone = ap (λ (y : Done). at (y .after .book) k) q ∙ ap (λ ps. getD ps k none) (answered-frame (clocked m t) k f o l (e .0) .2) ∙ emptied (m .book .places) k (e .0) (e .1);
+      says = ap (λ (y : Done). y .says) q ∙ answered-frame (clocked m t) k f o l (e .0) .3;
       frame = ap (λ (y : Done). y .written) q ∙ answered-frame (clocked m t) k f o l (e .0) .0;
       list = ap (λ (y : Done). y .listed) q ∙ answered-frame (clocked m t) k f o l (e .0) .1;
     }
 
--- what a tick that ends an entry does
+-- what a tick that ends an entry does: the entry was due, no other was due before it, and it is gone; what is said; its whole frame and list
 pub record Expires (m : Machine) (t : ℕ) (o l : List ℕ) (d : Done) : Type 0 where
   pub place : ℕ
   pub entry : Live What Note
   pub there : at (m .book) place ≡ some entry
   pub due : entry .deadline ≤ t
+  pub earliest : (k : ℕ) (e : Live What Note) → at (m .book) k ≡ some e → e .deadline ≤ t → (entry .deadline < e .deadline) ⊎ ((entry .deadline ≡ e .deadline) × (entry .id ≤ e .id))
+  pub gone : at (d .after .book) place ≡ none
+  pub says : d .says ≡ answer.TimedOut (record { 0 = entry .id }) (length (entry .parties))
   pub frame : d .written ≡ over (exception 0 (entry .what .unit) (entry .what .function) noResponse) o
   pub list : d .listed ≡ over (pairs (entry .parties)) l
 
 expired-says : (m : Machine) (k : ℕ) (o l : List ℕ) (e : Live What Note) → (expiredTo m k o l (some e) .says ≡ answer.NothingDue → ⊥)
     × (expiredTo m k o l (some e) .written ≡ over (exception 0 (e .what .unit) (e .what .function) noResponse) o) × (expiredTo m k o l (some e) .listed ≡ over (pairs (e .parties)) l)
+    × (expiredTo m k o l (some e) .after .book .places ≡ set (m .book .places) k none) × (expiredTo m k o l (some e) .says ≡ answer.TimedOut (record { 0 = e .id }) (length (e .parties)))
 unfolding expiredTo
-expired-says m k o l e = (λ z. let n : _≡_ {A = ℕ} 0 1 = cc in omega arith, refl, refl)
+expired-says m k o l e = (λ z. let n : _≡_ {A = ℕ} 0 1 = cc in omega arith, refl, refl, refl, refl)
 
 pub idle-says : (m : Machine) (k : ℕ) (o l : List ℕ) → expiredTo m k o l none ≡ done answer.NothingDue m o l
 unfolding expiredTo
@@ -132,6 +148,9 @@ tick-expires m t o l g h n =
       entry = e .0;
       there = e .1;
       due = rw (same-entry (sym (w .1) ∙ e .1), clocked-at m (tick t o l) t h refl) at (w .2);
+      earliest = rw (same-entry (sym (w .1) ∙ e .1), clocked-at m (tick t o l) t h refl) at (w .3);
+      gone = ap (λ (y : Done). at (y .after .book) k) q ∙ ap (λ ps. getD ps k none) (expired-says (clocked m t) k o l (e .0) .3) ∙ emptied (b .places) k (e .0) (e .1);
+      says = ap (λ (y : Done). y .says) q ∙ expired-says (clocked m t) k o l (e .0) .4;
       frame = ap (λ (y : Done). y .written) q ∙ expired-says (clocked m t) k o l (e .0) .1;
       list = ap (λ (y : Done). y .listed) q ∙ expired-says (clocked m t) k o l (e .0) .2;
     })

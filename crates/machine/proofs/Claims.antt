@@ -6,7 +6,7 @@ use mathlib.Core.Path.{_≡_, refl, ap, sym, _∙_}
 use mathlib.Core.Logic.{⊎-elim, _↔_}
 use mathlib.Core.Bool.{true, false}
 use mathlib.Core.Option.{some}
-use mathlib.Core.List.{List, [], _∷_, _++_, map, List·Memᴰ}
+use mathlib.Core.List.{List, [], _∷_, _++_, map, append-assoc, List·Memᴰ}
 use native.Mathlib.Omega.{arith}
 use native.Mathlib.Nat.{max-eq-right}
 use lib.ListN.{length, getD, replicate}
@@ -30,36 +30,29 @@ use Rattle.rewrite.specs.Registers.{registersAt}
 use Rattle.rewrite.specs.Rewriting.{ownIn}
 use Rattle.rewrite.specs.Plain.{Whole}
 use Rattle.book.specs.Book.{Live, Event, Good, NothingDue, at}
-use Rattle.book.specs.Book.Event.{left}
+use Rattle.book.specs.Book.Event.{left, lost}
 use Rattle.book.specs.Ledger.{Ticket, Ledger, Anew, empty, post, posts, under, partiesOf}
 use Rattle.book.specs.Desk.{NoneOpen, AllLive}
 use Rattle.book.specs.Machine.{Accounted, after, history}
 use Rattle.book.proofs.History.{issues-differ, always-sound}
-use Rattle.book.proofs.LedgerLaws.{successor}
+use Rattle.book.proofs.LedgerLaws.{successor, successor-of-lost}
 use Rattle.machine.specs.Machine.{Machine, Note, made, rules, settings, clocked}
 use Rattle.machine.specs.Calls.{Call, Done, done, outOf, listOf}
 use Rattle.machine.specs.Calls.Call.{attach, detach, request, reply, tick, linkLost}
-use Rattle.machine.specs.Refusals.{refusal}
+use Rattle.machine.specs.Refusals.{rows, lowest, refusal}
+use Rattle.machine.specs.Numbers.{numbers}
 use Rattle.machine.specs.Requests.{wanted, partyOf, joins}
-use Rattle.machine.specs.Outcomes.{outcome}
+use Rattle.machine.specs.Outcomes.{granted, outcome}
+use Rattle.machine.specs.Histories.{seenOf, events, told}
 use Rattle.machine.specs.declared.Answer.the-variants as answer
 use Rattle.machine.proofs.RefusalLaws.{table, Applies, refused-exactly}
-use Rattle.machine.proofs.OutcomeLaws.{clocked-at, says-refusal, refused-is}
+use Rattle.machine.proofs.OutcomeLaws.{clocked-at, says-refusal, refused-is, granted-is}
 use Rattle.machine.proofs.RequestLaws.{codeOf, no-other-exception, exception-04 as said-exactly}
 use Rattle.machine.proofs.PartyLaws.{Accepts, Stands, accepted-stands}
 use Rattle.machine.proofs.AnswerLaws.{Answers, Expires, reply-answers, tick-expires, idle-when}
 use Rattle.machine.proofs.ReadBack.{Carries, comes-back}
 use Rattle.machine.proofs.TickLaws.{ticked, ticking-ends}
 use Rattle.machine.proofs.Histories.{product, afterCalls, toldBy, ledgerOf, accounted}
-
--- Tender 1: a call refuses by the numbers in document 01. It says the refusal n exactly if row n of the document's table applies to it and no lower row does.
-pub refuses-by-the-table : (m : Machine) (x : Call) (n : ℕ) → (n ≡ 0 → ⊥)
-    → (outcome m x .says ≡ answer.Refused n) ↔ (Applies (table m x) n × ((k : ℕ) → k < n → Applies (table m x) k → ⊥))
-refuses-by-the-table = says-refusal
-
--- Tender 1: a refusal changes no state and no lent byte.
-pub a-refusal-changes-nothing : (m : Machine) (x : Call) (n : ℕ) → (n ≡ 0 → ⊥) → outcome m x .says ≡ answer.Refused n → outcome m x ≡ done (answer.Refused n) m (outOf x) (listOf x)
-a-refusal-changes-nothing m x n h s = sym (refused-is m x n (refused-exactly m x n h .1 (says-refusal m x n h .0 s)) h)
 
 -- Tender 3, the sum: accepted = answered by a reply + answered by timeout + dropped by a leaving + dropped by a lost link + held in the party places; each accepted
 -- request is in one group and there once; the held ones are, entry by entry and in order, the parties in the places; each answer's list is exactly those that it answers.
@@ -74,6 +67,19 @@ module _ (v : Value) (xs : List Call) where
   -- and its settings are those that it was made with
   same-settings : settings (afterCalls v xs) ≡ v
   same-settings = always-sound (product v) xs
+
+  -- Tender 1: a call refuses by the numbers in document 01. It says the refusal n exactly if row n of the document's table applies to it and no lower row does; the
+  -- table in plain words is `table` of RefusalLaws.
+  pub refuses-by-the-table : (x : Call) (n : ℕ) → (n ≡ 0 → ⊥)
+      → (outcome (afterCalls v xs) x .says ≡ answer.Refused n) ↔ (Applies (table (afterCalls v xs) x) n × ((k : ℕ) → k < n → Applies (table (afterCalls v xs) x) k → ⊥))
+  refuses-by-the-table = says-refusal (afterCalls v xs) good
+
+  -- Tender 1: a refusal changes no state and no lent byte.
+  pub a-refusal-changes-nothing : (x : Call) (n : ℕ) → (n ≡ 0 → ⊥) → outcome (afterCalls v xs) x .says ≡ answer.Refused n
+      → outcome (afterCalls v xs) x ≡ done (answer.Refused n) (afterCalls v xs) (outOf x) (listOf x)
+  a-refusal-changes-nothing x n h s =
+      let m = afterCalls v xs in
+      sym (refused-is m x n (refused-exactly m good x n h .1 (says-refusal m good x n h .0 s)) h)
 
   -- Tender 3: live proxy ids differ.
   pub live-ids-differ : (i j : ℕ) (d e : Live What Note) → at (afterCalls v xs .book) i ≡ some d → at (afterCalls v xs .book) j ≡ some e → d .id ≡ e .id → i ≡ j
@@ -100,11 +106,17 @@ module _ (v : Value) (xs : List Call) where
   exception-04-exactly c t f o = said-exactly (afterCalls v xs) c t f o good
 
   -- and no other call says an exception
-  pub no-other-call-says-one : (x : Call) → ((c t : ℕ) (f o : List ℕ) → x ≡ request c t f o → ⊥) → (n : ℕ) → outcome (afterCalls v xs) x .says ≡ answer.Excepted n → n ≡ 0
-  no-other-call-says-one x h n e = sym (ap codeOf e) ∙ no-other-exception (afterCalls v xs) x h
+  pub no-other-call-says-one : (x : Call) → ((c t : ℕ) (f o : List ℕ) → x ≡ request c t f o → ⊥) → (n : ℕ) → outcome (afterCalls v xs) x .says ≡ answer.Excepted n → ⊥
+  no-other-call-says-one x h n e = let z : suc n ≡ 0 = sym (ap codeOf e) ∙ no-other-exception (afterCalls v xs) x h in omega arith
 
-  -- Tender 2 and 3, a reply: it hands the definition's rewriting of itself to the parties of the entry under its id, which it answers; these are the requests that
-  -- wait under that id, in the order in which they were accepted, and each asked what the reply was matched against.
+  -- whoever waits under an entry's id asked what it holds
+  asked-alike : (k : ℕ) (e : Live What Note) → at (afterCalls v xs .book) k ≡ some e → (t : Ticket What) → List·Memᴰ t (filter (under (e .id)) (ledgerOf v xs .waiting)) → t .what ≡ e .what
+  asked-alike k e h t m =
+      let i = filter-in (under (e .id)) t (ledgerOf v xs .waiting) m in
+      accounted v xs .asked k e h t (i .0) (eqb-true (t .id) (e .id) (i .1))
+
+  -- Tender 2 and 3, a reply: it hands the definition's rewriting of itself to the parties of the entry under its id, which it answers and ends; these are the requests
+  -- that wait under that id, in the order in which they were accepted, and each asked what the reply was matched against.
   pub a-reply-goes-to-its-own : (t : ℕ) (f o l : List ℕ) → refusal (afterCalls v xs) (reply t f o l) ≡ 0
       → (a : Answers (afterCalls v xs) f o l (outcome (afterCalls v xs) (reply t f o l)))
       × (a .entry .parties ≡ partiesOf (filter (under (a .entry .id)) (ledgerOf v xs .waiting)))
@@ -113,17 +125,17 @@ module _ (v : Value) (xs : List Call) where
       let a = reply-answers (afterCalls v xs) t f o l good h in (
         a,
         accounted v xs .entries (a .place) (a .entry) (a .there),
-        λ k m.
-            let i = filter-in (under (a .entry .id)) k (ledgerOf v xs .waiting) m in
-            accounted v xs .asked (a .place) (a .entry) (a .there) k (i .0) (eqb-true (k .id) (a .entry .id) (i .1)),
+        asked-alike (a .place) (a .entry) (a .there),
       )
 
-  -- Tender 2 and 3, a timeout: exception 0B goes to the parties of an entry whose deadline has come, and these are the requests that wait under its id.
+  -- Tender 2 and 3, a timeout: exception 0B goes to the parties of the earliest entry whose deadline has come, which ends; these are the requests that wait under its id,
+  -- and each asked what it holds.
   pub a-timeout-goes-to-its-own : (t : ℕ) (o l : List ℕ) → refusal (afterCalls v xs) (tick t o l) ≡ 0 → (outcome (afterCalls v xs) (tick t o l) .says ≡ answer.NothingDue → ⊥)
       → (a : Expires (afterCalls v xs) t o l (outcome (afterCalls v xs) (tick t o l))) × (a .entry .parties ≡ partiesOf (filter (under (a .entry .id)) (ledgerOf v xs .waiting)))
+      × ((k : Ticket What) → List·Memᴰ k (filter (under (a .entry .id)) (ledgerOf v xs .waiting)) → k .what ≡ a .entry .what)
   a-timeout-goes-to-its-own t o l h n =
       let a = tick-expires (afterCalls v xs) t o l good h n in
-      (a, accounted v xs .entries (a .place) (a .entry) (a .there))
+      (a, accounted v xs .entries (a .place) (a .entry) (a .there), asked-alike (a .place) (a .entry) (a .there))
 
   -- Document 01: laying a party's id over bytes 0 and 1 gives its frame.
   pub a-partys-frame : (id : ℕ) (f : List ℕ) → laid id (laid 0 f) ≡ laid id f
@@ -167,6 +179,45 @@ a-value-comes-back v right tag m xs c t f o bytes i n p w e base s q carries who
     (afterCalls v ys)
     (ap (λ (x : Value). x .tags) (same-settings v ys))
 
--- Tender 3: a client number that is attached again gets nothing that its predecessor asked: of what is answered after a client left, whatever is its number's was accepted since.
-pub a-successor-gets-nothing-old : (us : List (Event What)) (c : ℕ) (ws : List (Event What)) → Anew c (post (posts empty us) (left c)) (posts empty (us ++ left c ∷ ws))
-a-successor-gets-nothing-old us c ws = successor us c ws
+-- what calls tell that come after others
+told-on : (v : Value) (m : Machine) (xs ys : List Call) → history (product v) m (xs ++ ys) ≡ history (product v) m xs ++ history (product v) (after (product v) m xs) ys
+unfolding after history
+told-on v m [] ys = refl
+told-on v m (x ∷ xs) ys = ap (λ vs. events v x (seenOf (outcome m x)) ++ vs) (told-on v (outcome m x .after) xs ys) ∙ sym (append-assoc (events v x (seenOf (outcome m x))) _ _)
+
+-- a leaving and a lost link tell just that
+leaving-told : (v : Value) (m : Machine) (c : ℕ) (ys : List Call) → refusal m (detach c) ≡ 0
+    → history (product v) m (detach c ∷ ys) ≡ left c ∷ history (product v) (outcome m (detach c) .after) ys
+unfolding history events told granted numbers
+leaving-told v m c ys h = ap (λ (d : Done). events v (detach c) (seenOf d) ++ history (product v) (outcome m (detach c) .after) ys) (granted-is m (detach c) h)
+
+-- link lost is never refused
+never-refused : (m : Machine) → refusal m linkLost ≡ 0
+unfolding rows lowest
+never-refused m = refl
+
+loss-told : (v : Value) (m : Machine) (ys : List Call) → history (product v) m (linkLost ∷ ys) ≡ lost ∷ history (product v) (outcome m linkLost .after) ys
+unfolding history events told granted numbers
+loss-told v m ys = ap (λ (d : Done). events v linkLost (seenOf d) ++ history (product v) (outcome m linkLost .after) ys) (granted-is m linkLost (never-refused m))
+
+-- Tender 3: a client number that is attached again gets nothing that its predecessor asked. Whatever calls come after a client's leaving, what is answered to its number is what
+-- was answered before it left, or was accepted since.
+pub a-successor-gets-nothing-old : (v : Value) (xs : List Call) (c : ℕ) (ys : List Call) → refusal (afterCalls v xs) (detach c) ≡ 0
+    → Anew c (ledgerOf v (xs ++ detach c ∷ [])) (ledgerOf v (xs ++ detach c ∷ ys))
+unfolding history
+a-successor-gets-nothing-old v xs c ys h =
+    let m = afterCalls v xs in
+    rw (
+      told-on v (made v) xs (detach c ∷ []) ∙ ap (λ vs. toldBy v xs ++ vs) (leaving-told v m c [] h),
+      told-on v (made v) xs (detach c ∷ ys) ∙ ap (λ vs. toldBy v xs ++ vs) (leaving-told v m c ys h),
+    ) (successor (toldBy v xs) c _)
+
+-- And the same after a lost link, of any client number.
+pub nor-after-a-lost-link : (v : Value) (xs : List Call) (c : ℕ) (ys : List Call) → Anew c (ledgerOf v (xs ++ linkLost ∷ [])) (ledgerOf v (xs ++ linkLost ∷ ys))
+unfolding history
+nor-after-a-lost-link v xs c ys =
+    let m = afterCalls v xs in
+    rw (
+      told-on v (made v) xs (linkLost ∷ []) ∙ ap (λ vs. toldBy v xs ++ vs) (loss-told v m []),
+      told-on v (made v) xs (linkLost ∷ ys) ∙ ap (λ vs. toldBy v xs ++ vs) (loss-told v m ys),
+    ) (successor-of-lost (toldBy v xs) c _)

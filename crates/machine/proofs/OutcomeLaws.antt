@@ -14,7 +14,7 @@ use Rattle.laws.specs.Numbers.{latestTime, deviceFailure}
 use Rattle.laws.proofs.Choice.{true-or, eq-or, or-right}
 use Rattle.pdu.specs.Requests.{faultOf}
 use Rattle.pdu.specs.Replies.{What}
-use Rattle.book.specs.Book.{Live, at}
+use Rattle.book.specs.Book.{Live, Good, at}
 use Rattle.book.specs.Desk.{duePlace}
 use Rattle.machine.specs.Machine.{Machine, Note, machine, rules, clocked, moved}
 use Rattle.machine.specs.Calls.{Call, Done, done, outOf, listOf}
@@ -98,14 +98,14 @@ pub refused-is : (m : Machine) (x : Call) (n : ℕ) → refusal m x ≡ n → (n
 refused-is m x n e h = rw (← e) (sym (refusal-changes-nothing m x (λ z. h (sym e ∙ z))))
 
 -- A call says the refusal n exactly if row n of the table applies and no lower row does.
-pub says-refusal : (m : Machine) (x : Call) (n : ℕ) → (n ≡ 0 → ⊥) → (outcome m x .says ≡ answer.Refused n) ↔ (Applies (table m x) n × ((k : ℕ) → k < n → Applies (table m x) k → ⊥))
+pub says-refusal : (m : Machine) → Good rules (m .book) → (x : Call) (n : ℕ) → (n ≡ 0 → ⊥) → (outcome m x .says ≡ answer.Refused n) ↔ (Applies (table m x) n × ((k : ℕ) → k < n → Applies (table m x) k → ⊥))
 unfolding outcome
-says-refusal m x n h = (
-  λ e. refused-exactly m x n h .0 (⊎-elim
+says-refusal m g x n h = (
+  λ e. refused-exactly m g x n h .0 (⊎-elim
       (λ (z : refusal m x ≡ 0). absurd (false≢true (sym (granted-no-refusal m x z) ∙ ap isRefusal (sym (ap (λ (d : Done). d .says) (granted-is m x z)) ∙ e))))
       (λ (z : refusal m x ≡ 0 → ⊥). same-number (sym (ap (λ (d : Done). d .says) (refusal-changes-nothing m x z)) ∙ e))
       (eq-or (refusal m x) 0)),
-  λ w. let e = refused-exactly m x n h .1 w in ap (λ (d : Done). d .says) (refusal-changes-nothing m x (λ z. h (sym e ∙ z))) ∙ ap answer.Refused e,
+  λ w. let e = refused-exactly m g x n h .1 w in ap (λ (d : Done). d .says) (refusal-changes-nothing m x (λ z. h (sym e ∙ z))) ∙ ap answer.Refused e,
 )
   where
     same-number : {i j : ℕ} → answer.Refused i ≡ answer.Refused j → i ≡ j

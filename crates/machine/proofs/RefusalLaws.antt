@@ -4,7 +4,7 @@ use Prim.Native.Nat.{ℕ, zero, suc, _+_, _-_, _≤_, _<_}
 use mathlib.Core.Path.{_≡_, refl, ap, sym, _∙_}
 use mathlib.Core.Logic.{⊎-elim, _⊎_, inl, inr, _↔_}
 use mathlib.Core.Bool.{Bool, true, false, cond, not, _||_, true≢false, false≢true}
-use mathlib.Core.Option.{Option, some, none}
+use mathlib.Core.Option.{Option, some, none, Option·none-ne-some}
 use mathlib.Core.List.{List, [], _∷_}
 use native.Mathlib.Omega.{arith}
 use lib.ListN.{length}
@@ -13,11 +13,16 @@ use borrow.Author.Tests.{eq-eqb, ne-eqb, lt-ltb, le-ltb, ltb-true, le-leb, leb-t
 use Rattle.laws.specs.Numbers.{clients, latestTime, leastFrame, mostFrame, uncounted, frameBuffer, listBuffer, lastFunction}
 use Rattle.laws.specs.Bits.{has}
 use Rattle.laws.proofs.Choice.{true-or, lt-or}
-use Rattle.wire.specs.Frame.{misframed, functionOf, idOf, protocolOf, lengthOf}
+use Rattle.wire.specs.Frame.{misframed, unitOf, functionOf, idOf, protocolOf, lengthOf}
 use Rattle.pdu.specs.Requests.{classOf, badFunction, badLength}
 use Rattle.pdu.specs.Replies.{What, answering}
-use Rattle.book.specs.Book.{Live, at}
-use Rattle.machine.specs.Machine.{Machine, Note}
+use Rattle.pdu.proofs.RequestLaws.{Sized, sized}
+use Rattle.pdu.proofs.ReplyLaws.{Exception, Shaped, answers-exact}
+use Rattle.book.specs.Book.{Live, Good, at}
+use Rattle.book.specs.Desk.{idPlace}
+use Rattle.book.proofs.PlaceLaws.{at-low}
+use Rattle.book.proofs.DeskLaws.{id-found, id-is}
+use Rattle.machine.specs.Machine.{Machine, Note, rules}
 use Rattle.machine.specs.Calls.{Call, Done, done, outOf, listOf}
 use Rattle.machine.specs.Calls.Call.{attach, detach, request, reply, tick, linkLost}
 use Rattle.machine.specs.Refusals.{Row, row, rows, lowest, refusal, entryFor, isDead, isMismatched}
@@ -45,12 +50,16 @@ Untimely m t = (latestTime < t) ⊎ (t < m .book .clock)
 abbrev pub Stranger : Machine → ℕ → Type 0
 Stranger m c = (clients ≤ c) ⊎ (has (m .attached) c ≡ false)
 
+-- the reply answers what was asked: the unit is equal, and it is an exception reply, or the function is equal and the shape is right
+abbrev pub Fitting : What → List ℕ → Type 0
+Fitting w f = (unitOf f ≡ w .unit) × (Exception (w .function) f ⊎ ((functionOf f ≡ w .function) × Shaped (w .asked) f))
+
 -- no live entry has the reply's id; one has it, but the reply does not answer its request
 abbrev pub NotLive : Machine → List ℕ → Type 0
-NotLive m f = entryFor m f ≡ none
+NotLive m f = (k : ℕ) (e : Live What Note) → at (m .book) k ≡ some e → e .id ≡ idOf f → ⊥
 
 abbrev pub NoAnswer : Machine → List ℕ → Type 0
-NoAnswer m f = (e : Live What Note) × (entryFor m f ≡ some e) × (answering (e .what) f ≡ false)
+NoAnswer m f = (k : ℕ) × (e : Live What Note) × (at (m .book) k ≡ some e) × (e .id ≡ idOf f) × (Fitting (e .what) f → ⊥)
 
 -- the table, for each call the rows that it knows
 abbrev pub table : Machine → Call → List Plain
@@ -62,7 +71,7 @@ table m (request c t f o) =
     ∷ says 3 (Untimely m t)
     ∷ says 4 (Misframed f)
     ∷ says 5 ((functionOf f ≡ 0) ⊎ (lastFunction < functionOf f))
-    ∷ says 6 (badLength (classOf (functionOf f)) f ≡ true)
+    ∷ says 6 (Sized (classOf (functionOf f)) f → ⊥)
     ∷ []
 table m (reply t f o l) =
     says 1 ((length o < frameBuffer) ⊎ (length l < listBuffer)) ∷ says 3 (Untimely m t) ∷ says 4 (Misframed f) ∷ says 7 (NotLive m f) ∷ says 8 (NoAnswer m f) ∷ []
@@ -160,19 +169,55 @@ module _ (m : Machine) where
   says-short : (o l : List ℕ) → (length o < frameBuffer) ⊎ (length l < listBuffer) → (ltb (length o) frameBuffer || ltb (length l) listBuffer) ≡ true
   says-short o l w = one-of _ _ _ _ (lt-ltb (length o) frameBuffer) (lt-ltb (length l) listBuffer) w
 
-dead-says : (o : Option (Live What Note)) → isDead o ≡ true → o ≡ none
-dead-says none e = refl
-dead-says (some x) e = absurd (false≢true e)
+-- refusal 6 in plain words: the size is not right
+missized-says : (f : List ℕ) → badLength (classOf (functionOf f)) f ≡ true → Sized (classOf (functionOf f)) f → ⊥
+missized-says f e z = false≢true (sym (sized (classOf (functionOf f)) f .1 z) ∙ e)
 
-says-dead : (o : Option (Live What Note)) → o ≡ none → isDead o ≡ true
-says-dead o e = rw e
+says-missized : (f : List ℕ) → (Sized (classOf (functionOf f)) f → ⊥) → badLength (classOf (functionOf f)) f ≡ true
+says-missized f h =
+    ⊎-elim (λ e. e) (λ (e : badLength (classOf (functionOf f)) f ≡ false). absurd (h (sized (classOf (functionOf f)) f .0 e))) (true-or (badLength (classOf (functionOf f)) f))
 
-mismatched-says : (f : List ℕ) (o : Option (Live What Note)) → isMismatched f o ≡ true → (e : Live What Note) × (o ≡ some e) × (answering (e .what) f ≡ false)
-mismatched-says f none e = absurd (false≢true e)
-mismatched-says f (some x) e = (x, refl, not-true (answering (x .what) f) e)
+-- what the tests say of what the search found, and back
+dead-none : (o : Option (Live What Note)) → isDead o ≡ true → o ≡ none
+dead-none none e = refl
+dead-none (some x) e = absurd (false≢true e)
 
-says-mismatched : (f : List ℕ) (o : Option (Live What Note)) → ((e : Live What Note) × (o ≡ some e) × (answering (e .what) f ≡ false)) → isMismatched f o ≡ true
-says-mismatched f o w = rw (w .1) (rw (w .2) refl)
+alive-some : (o : Option (Live What Note)) → isDead o ≡ false → (e : Live What Note) × (o ≡ some e)
+alive-some none e = absurd (false≢true (sym e))
+alive-some (some x) e = (x, refl)
+
+mismatched-some : (f : List ℕ) (o : Option (Live What Note)) → isMismatched f o ≡ true → (e : Live What Note) × (o ≡ some e) × (answering (e .what) f ≡ false)
+mismatched-some f none e = absurd (false≢true e)
+mismatched-some f (some x) e = (x, refl, not-true (answering (x .what) f) e)
+
+module _ (m : Machine) (g : Good rules (m .book)) (f : List ℕ) where
+  -- an entry that the search found has the reply's id
+  found-id : (e : Live What Note) → entryFor m f ≡ some e → (x : Live What Note) × (entryFor m f ≡ some x) × (x .id ≡ idOf f)
+  found-id e h = id-found rules (m .book) g (idOf f) (rw (g .long) at (at-low (m .book .places) (idPlace rules (m .book) (idOf f)) e h))
+
+  dead-says : isDead (entryFor m f) ≡ true → NotLive m f
+  dead-says t k e h q =
+      Option·none-ne-some e (sym (dead-none (entryFor m f) t) ∙ ap (λ (i : ℕ). at (m .book) i) (id-is rules (m .book) g (idOf f) k e h q) ∙ h)
+
+  says-dead : NotLive m f → isDead (entryFor m f) ≡ true
+  says-dead n =
+      ⊎-elim (λ t. t)
+      (λ (t : isDead (entryFor m f) ≡ false). let e = alive-some (entryFor m f) t in let w = found-id (e .0) (e .1) in absurd (n (idPlace rules (m .book) (idOf f)) (w .0) (w .1) (w .2)))
+      (true-or (isDead (entryFor m f)))
+
+  mismatched-says : isMismatched f (entryFor m f) ≡ true → NoAnswer m f
+  mismatched-says t =
+      let e = mismatched-some f (entryFor m f) t in
+      let w = found-id (e .0) (e .1) in
+      let n : not (answering (w .0 .what) f) ≡ true = sym (ap (isMismatched f) (w .1)) ∙ t in
+      (idPlace rules (m .book) (idOf f), w .0, w .1, w .2, λ z. false≢true (sym (not-true (answering (w .0 .what) f) n) ∙ answers-exact (w .0 .what) f .1 z))
+
+  says-mismatched : NoAnswer m f → isMismatched f (entryFor m f) ≡ true
+  says-mismatched w =
+      let e = w .1 in
+      ap (λ (i : ℕ). isMismatched f (at (m .book) i)) (id-is rules (m .book) g (idOf f) (w .0) e (w .2) (w .3))
+      ∙ ap (isMismatched f) (w .2)
+      ∙ ⊎-elim (λ (t : answering (e .what) f ≡ true). absurd (w .4 (answers-exact (e .what) f .0 t))) (λ (t : answering (e .what) f ≡ false). rw t refl) (true-or (answering (e .what) f))
 
 bad-function-says : (n : ℕ) → badFunction n ≡ true → (n ≡ 0) ⊎ (lastFunction < n)
 unfolding badFunction
@@ -182,36 +227,36 @@ says-bad-function : (n : ℕ) → (n ≡ 0) ⊎ (lastFunction < n) → badFuncti
 unfolding badFunction
 says-bad-function n w = one-of _ _ _ _ (eq-eqb n 0) (lt-ltb lastFunction n) w
 
-decided : (m : Machine) (x : Call) → Decides 0 (rows m x) (table m x)
+decided : (m : Machine) → Good rules (m .book) → (x : Call) → Decides 0 (rows m x) (table m x)
 unfolding rows
-decided m (attach c) =
+decided m g (attach c) =
     next {n = 0} {k = 2} (omega arith) (above-says c) (says-above c) (next {n = 2} {k = 9} (omega arith) (λ e. e) (λ e. e) end)
-decided m (detach c) = next {n = 0} {k = 2} (omega arith) (stranger-says m c) (says-stranger m c) end
-decided m (request c t f o) =
+decided m g (detach c) = next {n = 0} {k = 2} (omega arith) (stranger-says m c) (says-stranger m c) end
+decided m g (request c t f o) =
     next {n = 0} {k = 1} (omega arith) (ltb-true (length o) frameBuffer) (lt-ltb (length o) frameBuffer)
     (next {n = 1} {k = 2} (omega arith) (stranger-says m c) (says-stranger m c)
     (next {n = 2} {k = 3} (omega arith) (untimely-says m t) (says-untimely m t)
     (next {n = 3} {k = 4} (omega arith) (misframed-says f) (says-misframed f)
     (next {n = 4} {k = 5} (omega arith) (bad-function-says (functionOf f)) (says-bad-function (functionOf f))
-    (next {n = 5} {k = 6} (omega arith) (λ e. e) (λ e. e) end)))))
-decided m (reply t f o l) =
+    (next {n = 5} {k = 6} (omega arith) (missized-says f) (says-missized f) end)))))
+decided m g (reply t f o l) =
     next {n = 0} {k = 1} (omega arith) (short-says m o l) (says-short m o l)
     (next {n = 1} {k = 3} (omega arith) (untimely-says m t) (says-untimely m t)
     (next {n = 3} {k = 4} (omega arith) (misframed-says f) (says-misframed f)
-    (next {n = 4} {k = 7} (omega arith) (dead-says (entryFor m f)) (says-dead (entryFor m f))
-    (next {n = 7} {k = 8} (omega arith) (mismatched-says f (entryFor m f)) (says-mismatched f (entryFor m f)) end))))
-decided m (tick t o l) =
+    (next {n = 4} {k = 7} (omega arith) (dead-says m g f) (says-dead m g f)
+    (next {n = 7} {k = 8} (omega arith) (mismatched-says m g f) (says-mismatched m g f) end))))
+decided m g (tick t o l) =
     next {n = 0} {k = 1} (omega arith) (short-says m o l) (says-short m o l) (next {n = 1} {k = 3} (omega arith) (untimely-says m t) (says-untimely m t) end)
-decided m linkLost = end
+decided m g linkLost = end
 
 -- A call is refused with the number n exactly if row n of document 01's table applies to it and no lower row does.
-pub refused-exactly : (m : Machine) (x : Call) (n : ℕ) → (n ≡ 0 → ⊥) → (refusal m x ≡ n) ↔ (Applies (table m x) n × ((k : ℕ) → k < n → Applies (table m x) k → ⊥))
-refused-exactly m x n h = (
-  λ e. (rw e at (lowest-right (decided m x) (λ z. h (sym e ∙ z))), λ k l a. let y = lowest-least (decided m x) k a .0 in omega arith),
+pub refused-exactly : (m : Machine) → Good rules (m .book) → (x : Call) (n : ℕ) → (n ≡ 0 → ⊥) → (refusal m x ≡ n) ↔ (Applies (table m x) n × ((k : ℕ) → k < n → Applies (table m x) k → ⊥))
+refused-exactly m g x n h = (
+  λ e. (rw e at (lowest-right (decided m g x) (λ z. h (sym e ∙ z))), λ k l a. let y = lowest-least (decided m g x) k a .0 in omega arith),
   λ w.
-      let y = lowest-least (decided m x) n (w .0) in
+      let y = lowest-least (decided m g x) n (w .0) in
       ⊎-elim
-      (λ (l : refusal m x < n). absurd (w .1 (refusal m x) l (lowest-right (decided m x) (y .1))))
+      (λ (l : refusal m x < n). absurd (w .1 (refusal m x) l (lowest-right (decided m g x) (y .1))))
       (λ (l : n ≤ refusal m x). let z = y .0 in omega arith)
       (lt-or (refusal m x) n),
 )

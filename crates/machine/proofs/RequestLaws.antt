@@ -1,6 +1,6 @@
 -- Exception 04 is given exactly when a legal request can join nothing and every place is live; an accepted request stands in the party places afterwards.
 -- Assumes nothing.
-use Prim.Native.Nat.{ℕ, _+_, _≤_, _<_}
+use Prim.Native.Nat.{ℕ, suc, _+_, _≤_, _<_}
 use mathlib.Core.Path.{_≡_, refl, ap, sym, _∙_}
 use mathlib.Core.Logic.{⊎-elim, _⊎_, inl, inr, _↔_}
 use mathlib.Core.Bool.{Bool, true, false, cond, not, _&&_, true≢false, false≢true}
@@ -60,13 +60,13 @@ legal-faultless m c t f o h =
 same-code : {i j : ℕ} → answer.Excepted i ≡ answer.Excepted j → i ≡ j
 same-code e = cc
 
--- the code of an exception, and 0 of any other answer
+-- one more than the code of an exception, and 0 of any other answer
 abbrev pub codeOf : Answer → ℕ
 codeOf (answer.Refused n) = 0
 codeOf answer.Done = 0
 codeOf (answer.Issued i n p v) = 0
 codeOf (answer.Joined i) = 0
-codeOf (answer.Excepted c) = c
+codeOf (answer.Excepted c) = suc c
 codeOf (answer.Answered i n k p v) = 0
 codeOf (answer.TimedOut i k) = 0
 codeOf answer.NothingDue = 0
@@ -135,7 +135,7 @@ exception-04 m c t f o g =
       λ e. ⊎-elim
           (λ (h : refusal m (request c t f o) ≡ 0). ⊎-elim
           (λ (z : eqb (faultOf f) 0 ≡ true).
-          let s : codeOf (served n c f o .says) ≡ 4 = ap (λ (d : Done). codeOf (d .says)) (sym (granted-code m c t f o h .0 z)) ∙ ap codeOf e in
+          let s : codeOf (served n c f o .says) ≡ 5 = ap (λ (d : Done). codeOf (d .says)) (sym (granted-code m c t f o h .0 z)) ∙ ap codeOf e in
           ⊎-elim
           (λ (j : canJoin n f ≡ true). absurd (let y = served-joined n c f o gn j in omega arith))
           (λ (j : canJoin n f ≡ false). ⊎-elim
@@ -144,7 +144,7 @@ exception-04 m c t f o g =
           (true-or (exhausted n c)))
           (true-or (canJoin n f)))
           (λ (z : eqb (faultOf f) 0 ≡ false).
-          let s : faultOf f ≡ 4 = ap codeOf (sym (excepted-says n (faultOf f) f o)) ∙ ap (λ (d : Done). codeOf (d .says)) (sym (granted-code m c t f o h .1 z)) ∙ ap codeOf e in
+          let s : suc (faultOf f) ≡ 5 = ap codeOf (sym (excepted-says n (faultOf f) f o)) ∙ ap (λ (d : Done). codeOf (d .says)) (sym (granted-code m c t f o h .1 z)) ∙ ap codeOf e in
           absurd (let y = fault-small f in omega arith))
           (true-or (eqb (faultOf f) 0)))
           (λ (h : refusal m (request c t f o) ≡ 0 → ⊥). absurd (let y = sym (refused-code m (request c t f o) h) ∙ ap codeOf e in omega arith))
