@@ -37,12 +37,12 @@ tag a w = record { address = a; width = w }
 abbrev pub site : Value
 site = record { timeout = 3000; join = 1; tags = tag 1024 16 ∷ tag 1026 32 ∷ [] }
 
--- buffers of zeros
+-- buffers filled with 170, in which a byte shows that was to stay
 abbrev pub buffer : List ℕ
-buffer = replicate 260 0
+buffer = replicate 260 170
 
 abbrev pub numbers : List ℕ
-numbers = replicate 16 0
+numbers = replicate 16 170
 
 -- what the last of some calls says, writes and lists
 pub record Seen : Type 0 where

@@ -1,6 +1,6 @@
 // A script of calls on one state: each call is printed with what came of it, and held against what must come of it.
 // A row of a table is a name, a call, and what comes of it, each ended by '|', and the row by LF. A row with no name belongs to the one above it.
-// The calls: see naming.rt. What comes of them: see telling.rt.
+// The calls: see naming.rt of scripts. What comes of them: see telling.rt there.
 ghost use Rattle.state.specs.States.{Made};
 use parts::before;
 use parts::end_of;
@@ -11,11 +11,7 @@ use parts::tally::Tally;
 use parts::tally::counted;
 use state::State;
 
-mod apart;
-mod naming;
-mod printing;
 mod running;
-mod telling;
 
 // The state that the calls are made on, and the tally so far.
 pub struct Session {
@@ -27,7 +23,7 @@ pub struct Session {
 pub fn start() -> Session
     ensures { λ r. ⌜ Made (r .state) ⌝ }
 {
-    let made = calls::fresh(naming::document_value());
+    let made = calls::fresh(scripts::naming::document_value());
     let state = made.state;
     let tally = parts::tally::none();
     Session { state, tally }
@@ -61,7 +57,7 @@ fn row(s: Session, row: &[u8]) -> Session
     let mut text = [0u8; 2048];
     let ran = repeat(s.state, call, &mut text);
     let given = before(&text, ran.size);
-    printing::print_row(head(row, b'|'), call, given);
+    scripts::printing::print_row(head(row, b'|'), call, given);
     let tally = counted(s.tally, given, right);
     let state = ran.state;
     Session { state, tally }

@@ -1,14 +1,5 @@
 // A call made on a state, with buffers that are looked at as a whole afterwards.
 ghost use Rattle.state.specs.States.{Made};
-use crate::apart;
-use crate::naming::Call;
-use crate::naming::length_in;
-use crate::naming::named;
-use crate::naming::short_number;
-use crate::naming::value_in;
-use crate::telling::KEPT;
-use crate::telling::KEPT_PLACE;
-use crate::telling::tell;
 use calls::Stepped;
 use parts::before;
 use parts::behind;
@@ -16,6 +7,15 @@ use parts::head;
 use parts::hex::parse;
 use parts::numbers::number;
 use parts::rest;
+use scripts::apart;
+use scripts::naming::Call;
+use scripts::naming::length_in;
+use scripts::naming::named;
+use scripts::naming::short_number;
+use scripts::naming::value_in;
+use scripts::telling::KEPT;
+use scripts::telling::KEPT_PLACE;
+use scripts::telling::tell;
 use state::State;
 
 // The state afterwards, and the length of the text that tells what came of the call.

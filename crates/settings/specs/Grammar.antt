@@ -6,7 +6,7 @@ use mathlib.Core.Option.{Option, some, none}
 use mathlib.Core.List.{List, [], _∷_, _++_, map, flatMap}
 use lib.ListN.{length, getD}
 use lib.Dec.{eqb, ltb, leb}
-use Rattle.laws.specs.Numbers.{mostTags, leastTimeout, mostTimeout, addresses, newestVersion}
+use Rattle.laws.specs.Numbers.{mostTags, leastTimeout, mostTimeout, addresses}
 use Rattle.settings.specs.Lines.{Numbered, lineOf, lineIn}
 
 -- a settings value: timeout, join, and its tags in their order

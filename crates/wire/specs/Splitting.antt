@@ -22,12 +22,6 @@ standingOf r =
     (cond (ltb (length r) (uncounted + lengthOf r)) MoreNeeded
     Frame))
 
--- document 01's number of a case: refusal 4, or 0 for none
-unfoldable pub splitRefusal : Split → ℕ
-splitRefusal Frame = 0
-splitRefusal MoreNeeded = 0
-splitRefusal Refused = 4
-
 -- how many bytes the first whole frame has, 0 where there is none
 unfoldable pub sizeIf : Split → ℕ → ℕ
 sizeIf Frame n = n

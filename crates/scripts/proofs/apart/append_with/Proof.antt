@@ -1,11 +1,11 @@
--- `session::apart::append_with` meets its contract. The loop's invariant: the buffer keeps its length.
+-- `scripts::apart::append_with` meets its contract. The loop's invariant: the buffer keeps its length.
 -- Assumes nothing.
 use Prim.Native.Nat.{_-_}
 use mathlib.Core.Path.{_≡_, refl}
 use lib.ListN.{length}
 use borrow.Author.Needs.{needs}
-use Rattle.session.proofs.apart.append_with.Statement.{statement}
-use Rattle.session.proofs.apart.append_with.Tie as tie
+use Rattle.scripts.proofs.apart.append_with.Statement.{statement}
+use Rattle.scripts.proofs.apart.append_with.Tie as tie
 
 abbrev Inv-loop : tie.InvT-loop
 Inv-loop text₀ at bytes from to next₀ k₀ text next k = length text ≡ length text₀
