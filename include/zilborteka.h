@@ -17,7 +17,7 @@
 typedef struct zb_state {
     uint32_t ids[ZB_PLACES];             /* a live place: its proxy id plus 1; 0: free */
     uint64_t asked[ZB_PLACES];           /* what was asked, in one word */
-    uint8_t  notes[ZB_PLACES];           /* who issued it */
+    uint8_t  notes[ZB_PLACES];           /* the client that it was issued for */
     uint64_t deadlines[ZB_PLACES];
     uint8_t  counts[ZB_PLACES];          /* parties of the entry */
     uint8_t  clients[ZB_PARTY_PLACES];   /* entry number times eight plus place */
@@ -41,8 +41,8 @@ typedef struct {
     uint32_t timeout;     /* 100 to 60000 ms */
     uint32_t join;        /* 0 or 1 */
     uint32_t tags;        /* 0 to 256: how many of the places below count */
-    uint16_t addr[256];
-    uint16_t width[256];  /* 16 or 32 */
+    uint16_t addr[ZB_MOST_TAGS];
+    uint16_t width[ZB_MOST_TAGS];  /* 16 or 32 */
 } zb_settings;
 
 /* What a call reports. A field that a call does not speak of is 0. */
