@@ -1,5 +1,5 @@
 -- The sizes, bounds and codes of document 01, once and by name. The code has the same numbers as constants of the same names. A refusal's number stands where it is given:
--- in the rows of machine/specs/Refusals.antt and in the reports of the calls that need no device; a version's in its value in settings/specs/Grammar.antt.
+-- in the rows of machine/specs/Refusals.antt and in the reports of the calls that need no device.
 -- Assumes nothing.
 use Prim.Native.Nat.{ℕ, _+_, _*_, _-_, _^_}
 
@@ -122,6 +122,9 @@ exceptionFrame = 9
 abbrev pub digitsPerRegister : ℕ
 digitsPerRegister = 4
 
--- "Settings text": the most bytes that a right text has
+-- "Settings text": the version that is written, and the most bytes that a right text has
+abbrev pub newestVersion : ℕ
+newestVersion = 1
+
 abbrev pub mostText : ℕ
 mostText = 5160
