@@ -23,6 +23,7 @@ use Rattle.machine.specs.Machine.{Live-book, Machine, machine, rules}
 use Rattle.machine.specs.Calls.{Call, Done, done, outOf, listOf}
 use Rattle.machine.specs.Calls.Call.{attach, detach, linkLost}
 use Rattle.machine.specs.Refusals.{rows, lowest, refusal, isStranger}
+use Rattle.machine.specs.Numbers.{numbers}
 use Rattle.machine.specs.Outcomes.{granted, outcome}
 use Rattle.machine.specs.declared.Answer.{Answer}
 use Rattle.machine.specs.declared.Answer.the-variants.{Refused, Done as Finished, Lost}
@@ -66,10 +67,11 @@ module _ (b : Live-book) (set client : ℕ) where
       (lt-or client clients)
 
 module _ (s : State) (sounds : Sounds s) where
-  -- Attach on any book is attach on this state, and keeps it sound.
+  -- Attach on any book is attach on this state, keeps it sound, and leaves it where it is refused.
   pub attach-does : (client set : ℕ) (answer : Answer) → ((b : Live-book) → done answer (machine b set) [] [] ≡ outcome (machine b (s .attached)) (attach client))
+      → ((numbers answer .refusal ≡ 0 → ⊥) → set ≡ s .attached)
       → Does s (attach client) answer (state (s .table) (s .cursor) set (s .clock) (s .settings))
-  attach-does client set answer e = (
+  attach-does client set answer e stays = (
     e (machineOf s .book),
     record {
       table = sounds .table;
@@ -77,18 +79,19 @@ module _ (s : State) (sounds : Sounds s) where
       attached = rw (ap (λ (d : Done). d .after .attached) (e (machineOf s .book))) (attached-low (machineOf s .book) (s .attached) client (sounds .attached));
       settings = sounds .settings;
     },
+    λ h. ap (λ (n : ℕ). state (s .table) (s .cursor) n (s .clock) (s .settings)) (stays h),
   )
 
   -- Detach of a stranger is refusal 2.
   pub detach-stranger : (client : ℕ) → isStranger (machineOf s) client ≡ true → Does s (detach client) (Refused 2) s
   unfolding rows lowest outOf listOf
-  detach-stranger client t = (refused-is (machineOf s) (detach client) 2 (rw t) (λ z. omega arith), sounds)
+  detach-stranger client t = (refused-is (machineOf s) (detach client) 2 (rw t) (λ z. omega arith), sounds, λ h. refl)
 
   -- Detach of an attached client strikes its parties out and takes it out of the set.
   pub detach-known : (client : ℕ) (ns cs os : List ℕ) → isStranger (machineOf s) client ≡ false
       → Struck (s .table .top) client (s .table .counts) (s .table .clients) (s .table .originals) ns cs os
       → Does s (detach client) Finished (state (withParties (s .table) ns cs os) (s .cursor) (without (s .attached) client) (s .clock) (s .settings))
-  unfolding rows lowest granted
+  unfolding rows lowest granted numbers
   detach-known client ns cs os t d = (
     ap (λ b. done Finished (machine b (without (s .attached) client)) [] [])
         (strike-is (valueIn (s .settings)) (s .cursor) (s .clock) (s .table) (sounds .table) client ns cs os d)
@@ -99,6 +102,7 @@ module _ (s : State) (sounds : Sounds s) where
       attached = without-low clients (s .attached) client (sounds .attached);
       settings = sounds .settings;
     },
+    λ h. absurd (h refl),
   )
 
 -- no id stands at any place; all else is as it was
@@ -132,9 +136,10 @@ emptied-is v x t c = ap (λ l. book v l x t) (emptied-table c)
 
 -- Link lost removes every entry and everyone, and tells the former set.
 pub lost : (s : State) → Sounds s → Does s linkLost (Lost (s .attached)) (state (emptied (s .table)) (s .cursor) 0 (s .clock) (s .settings))
-unfolding rows lowest granted
+unfolding rows lowest granted numbers
 lost s sounds = (
   ap (λ b. done (Lost (s .attached)) (machine b 0) [] []) (emptied-is (valueIn (s .settings)) (s .cursor) (s .clock) (s .table))
       ∙ sym (granted-is (machineOf s) linkLost refl),
   record { table = emptied-sound (s .table) (sounds .table); cursor = sounds .cursor; attached = pow-pos clients; settings = sounds .settings },
+  λ h. absurd (h refl),
 )

@@ -10,6 +10,7 @@ ghost use Rattle.laws.specs.Bits.{has};
 ghost use Rattle.machine.specs.Machine.{Live-book, machine};
 ghost use Rattle.machine.specs.Calls.{done};
 ghost use Rattle.machine.specs.Calls.Call.{attach as attaches, detach as detaches, linkLost};
+ghost use Rattle.machine.specs.Numbers.{numbers};
 ghost use Rattle.machine.specs.Outcomes.{outcome};
 ghost use Rattle.table.specs.Columns.{columns};
 ghost use Rattle.table.specs.Changes.{Runs};
@@ -38,6 +39,7 @@ pub fn is_stranger(attached: u32, client: u32) -> bool
 // Attaches a client: refusal 2 above 31, refusal 9 where it is attached. Whatever the book is, only the set changes.
 pub fn attach(attached: &mut u32, client: u32) -> Answer
     ensures { λ r. ⌜ ((b : Live-book) → done r (machine b (now (attached .exit))) [] [] ≡ outcome (machine b (now (attached .entry))) (attaches client)) ⌝ }
+    ensures { λ r. ⌜ ((numbers r .refusal ≡ 0 → ⊥) → now (attached .exit) ≡ now (attached .entry)) ⌝ }
 {
     if laws::CLIENTS <= client {
         return Answer::Refused { number: 2 };

@@ -19,6 +19,7 @@ ghost use Rattle.machine.specs.Outcomes.{outcome};
 ghost use Rattle.table.specs.Columns.{columns, partiesAt};
 ghost use Rattle.table.specs.Changes.{reach};
 ghost use Rattle.proxy.specs.State.{kept, state, machineOf, Sounds};
+ghost use Rattle.proxy.specs.Calls.{Untouched};
 ghost use Rattle.proxy.specs.Gates.{replyGate, tickGate};
 
 // Refusals 1 and 3, which need no frame.
@@ -124,6 +125,8 @@ pub fn reply<'a>(
     ensures { λ r. ⌜ done r (machineOf (state (columns (now (ids .exit)) (now (asked .exit)) (now (notes .exit)) (now (deadlines .exit)) (now (counts .exit)) (now (clients .exit)) (now (originals .exit)) (now (top .exit))) (now (cursor .exit)) (now (attached .exit)) (now (clock .exit)) (kept (now (timeout .exit)) (now (join .exit)) (now (tagged .exit)) (now (tags .exit))))) (now (out .exit)) (now (list .exit))
         ≡ outcome (machineOf (state (columns (now (ids .entry)) (now (asked .entry)) (now (notes .entry)) (now (deadlines .entry)) (now (counts .entry)) (now (clients .entry)) (now (originals .entry)) (now (top .entry))) (now (cursor .entry)) (now (attached .entry)) (now (clock .entry)) (kept (now (timeout .entry)) (now (join .entry)) (now (tagged .entry)) (now (tags .entry))))) (replyCall time (now (frame .entry)) (now (out .entry)) (now (list .entry))) ⌝ }
     ensures { λ r. ⌜ Sounds (state (columns (now (ids .exit)) (now (asked .exit)) (now (notes .exit)) (now (deadlines .exit)) (now (counts .exit)) (now (clients .exit)) (now (originals .exit)) (now (top .exit))) (now (cursor .exit)) (now (attached .exit)) (now (clock .exit)) (kept (now (timeout .exit)) (now (join .exit)) (now (tagged .exit)) (now (tags .exit)))) ⌝ }
+    ensures { λ r. ⌜ Untouched r (state (columns (now (ids .entry)) (now (asked .entry)) (now (notes .entry)) (now (deadlines .entry)) (now (counts .entry)) (now (clients .entry)) (now (originals .entry)) (now (top .entry))) (now (cursor .entry)) (now (attached .entry)) (now (clock .entry)) (kept (now (timeout .entry)) (now (join .entry)) (now (tagged .entry)) (now (tags .entry))))
+        (state (columns (now (ids .exit)) (now (asked .exit)) (now (notes .exit)) (now (deadlines .exit)) (now (counts .exit)) (now (clients .exit)) (now (originals .exit)) (now (top .exit))) (now (cursor .exit)) (now (attached .exit)) (now (clock .exit)) (kept (now (timeout .exit)) (now (join .exit)) (now (tagged .exit)) (now (tags .exit)))) ⌝ }
 {
     let refused = reply_refusal(out.len(), list.len(), time, *clock, frame);
     if refused != 0 {
@@ -176,6 +179,8 @@ pub fn tick<'a>(
     ensures { λ r. ⌜ done r (machineOf (state (columns (now (ids .exit)) (now (asked .exit)) (now (notes .exit)) (now (deadlines .exit)) (now (counts .exit)) (now (clients .exit)) (now (originals .exit)) (now (top .exit))) (now (cursor .exit)) (now (attached .exit)) (now (clock .exit)) (kept (now (timeout .exit)) (now (join .exit)) (now (tagged .exit)) (now (tags .exit))))) (now (out .exit)) (now (list .exit))
         ≡ outcome (machineOf (state (columns (now (ids .entry)) (now (asked .entry)) (now (notes .entry)) (now (deadlines .entry)) (now (counts .entry)) (now (clients .entry)) (now (originals .entry)) (now (top .entry))) (now (cursor .entry)) (now (attached .entry)) (now (clock .entry)) (kept (now (timeout .entry)) (now (join .entry)) (now (tagged .entry)) (now (tags .entry))))) (tickCall time (now (out .entry)) (now (list .entry))) ⌝ }
     ensures { λ r. ⌜ Sounds (state (columns (now (ids .exit)) (now (asked .exit)) (now (notes .exit)) (now (deadlines .exit)) (now (counts .exit)) (now (clients .exit)) (now (originals .exit)) (now (top .exit))) (now (cursor .exit)) (now (attached .exit)) (now (clock .exit)) (kept (now (timeout .exit)) (now (join .exit)) (now (tagged .exit)) (now (tags .exit)))) ⌝ }
+    ensures { λ r. ⌜ Untouched r (state (columns (now (ids .entry)) (now (asked .entry)) (now (notes .entry)) (now (deadlines .entry)) (now (counts .entry)) (now (clients .entry)) (now (originals .entry)) (now (top .entry))) (now (cursor .entry)) (now (attached .entry)) (now (clock .entry)) (kept (now (timeout .entry)) (now (join .entry)) (now (tagged .entry)) (now (tags .entry))))
+        (state (columns (now (ids .exit)) (now (asked .exit)) (now (notes .exit)) (now (deadlines .exit)) (now (counts .exit)) (now (clients .exit)) (now (originals .exit)) (now (top .exit))) (now (cursor .exit)) (now (attached .exit)) (now (clock .exit)) (kept (now (timeout .exit)) (now (join .exit)) (now (tagged .exit)) (now (tags .exit)))) ⌝ }
 {
     let refused = tick_refusal(out.len(), list.len(), time, *clock);
     if refused != 0 {

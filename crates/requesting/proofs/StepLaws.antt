@@ -24,9 +24,11 @@ use Rattle.machine.specs.Calls.{Done, done, outOf, listOf}
 use Rattle.machine.specs.Calls.Call.{request}
 use Rattle.machine.specs.Refusals.{refusal}
 use Rattle.machine.specs.Requests.{wanted, partyOf, joiningPlace, canJoin, exhausted, excepted, joinedTo, issuedTo, served, admitted}
+use Rattle.machine.specs.Numbers.{numbers}
 use Rattle.machine.specs.Outcomes.{granted, outcome}
+use Rattle.machine.specs.declared.Answer.{Answer}
 use Rattle.machine.specs.declared.Answer.the-variants.{Refused, Joined, Excepted, Issued}
-use Rattle.machine.proofs.OutcomeLaws.{granted-is, refused-is}
+use Rattle.machine.proofs.OutcomeLaws.{granted-is, refused-is, served-cases}
 use Rattle.proxy.specs.State.{State, state, machineOf}
 use Rattle.proxy.proofs.StateLaws.{timed, clock-is}
 use Rattle.requesting.proofs.GateLaws.{Open, tested, check-passes, not-before}
@@ -97,3 +99,13 @@ module _ (m : Machine) (c : ℕ) (f o : List ℕ) where
       ∙ ap (λ (x : Asked). sent id place (under id o (forwarded (settings m .tags) x f))) ea
       ∙ ap (λ (k : ℕ). sent id k (under id o (forwarded (settings m .tags) (askedOf f) f))) ep
       ∙ ap (λ (i : ℕ). sent i (freePlace rules (m .book)) (under i o (forwarded (settings m .tags) (askedOf f) f))) ei)
+
+-- An exception for the caller, and what a legal request comes to, is no refusal.
+pub excepted-no-refusal : (m : Machine) (code : ℕ) (f o : List ℕ) {a : Answer} {m′ : Machine} {w l : List ℕ} → done a m′ w l ≡ excepted m code f o → numbers a .refusal ≡ 0
+unfolding excepted numbers
+excepted-no-refusal m code f o e = ap (λ (d : Done). numbers (d .says) .refusal) e
+
+pub served-no-refusal : (m : Machine) (c : ℕ) (f o : List ℕ) {a : Answer} {m′ : Machine} {w l : List ℕ} → done a m′ w l ≡ served m c f o → numbers a .refusal ≡ 0
+unfolding excepted joinedTo issuedTo numbers
+served-no-refusal m c f o e =
+    ap (λ (d : Done). numbers (d .says) .refusal) e ∙ served-cases (λ d. numbers (d .says) .refusal ≡ 0) m c f o refl (λ k x. refl) refl

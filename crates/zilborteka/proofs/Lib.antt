@@ -11,3 +11,4 @@ pub mod EntryReply
 pub mod EntryTick
 pub mod EntryLinkLost
 pub mod OnlyOne
+pub mod Lived

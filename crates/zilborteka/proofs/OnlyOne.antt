@@ -18,12 +18,14 @@ use Rattle.zilborteka.specs.Seen.{Seen, seen}
 use Rattle.zilborteka.specs.Reports.{TextSeen, textSeen, splitTold, readTold, writeTold}
 use Rattle.zilborteka.specs.Device.{stateOf, Served, Freshly}
 
--- Attach, detach, request, reply, tick, link lost: from one device, one call has one report, one machine afterwards, and one content of each lent buffer.
+-- Attach, detach, request, reply, tick, link lost: from one device, one call has one report, one machine afterwards, and one content of each lent buffer;
+-- and a refusal leaves only one device: the one that was lent.
 pub one-outcome : (d : Device) (x : Call) {r q : Report} {e f : Device} {w v l m : List ℕ} → Served d x r e w l → Served d x q f v m
-    → (r ≡ q) × (machineOf (stateOf e) ≡ machineOf (stateOf f)) × (w ≡ v) × (l ≡ m)
+    → (r ≡ q) × (machineOf (stateOf e) ≡ machineOf (stateOf f)) × (w ≡ v) × (l ≡ m) × ((r .refusal ≡ 0 → ⊥) → (e ≡ d) × (f ≡ d))
 one-outcome d x s t =
     let p = s .0 ∙ sym (t .0) in
-    (ap (λ (y : Seen). y .says) p, ap (λ (y : Seen). y .after) p, ap (λ (y : Seen). y .written) p, ap (λ (y : Seen). y .listed) p)
+    let same = ap (λ (y : Seen). y .says) p in
+    (same, ap (λ (y : Seen). y .after) p, ap (λ (y : Seen). y .written) p, ap (λ (y : Seen). y .listed) p, λ h. (s .2 h, t .2 (rw same at h)))
 
 -- Fresh: from one settings value, one report and one machine.
 pub one-fresh : (from : Settings) {r q : Report} {e f : Device} → Freshly from r e → Freshly from q f → (r ≡ q) × (machineOf (stateOf e) ≡ machineOf (stateOf f))

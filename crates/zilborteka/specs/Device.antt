@@ -49,9 +49,10 @@ stateOf d =
 abbrev pub Made : Device → Type 0
 Made d = Sounds (stateOf d)
 
--- from the device d a call comes to this report, this device and these buffers, as document 01 says, and these calls made the device
+-- from the device d a call comes to this report, this device and these buffers, as document 01 says, and these calls made the device;
+-- a refusal leaves every field of the device as it was, also where the machine would not show it
 abbrev pub Served : Device → Call → Report → Device → (written listed : List ℕ) → Type 0
-Served d x r d′ w l = (seen r (machineOf (stateOf d′)) w l ≡ numbered (outcome (machineOf (stateOf d)) x)) × Made d′
+Served d x r d′ w l = (seen r (machineOf (stateOf d′)) w l ≡ numbered (outcome (machineOf (stateOf d)) x)) × Made d′ × ((r .refusal ≡ 0 → ⊥) → d′ ≡ d)
 
 -- a fresh device: the machine that document 01 makes from the value, or from the usual one beside refusal 10
 abbrev pub Freshly : Settings → Report → Device → Type 0

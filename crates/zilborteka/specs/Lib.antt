@@ -1,3 +1,4 @@
 pub mod Seen
 pub mod Reports
 pub mod Device
+pub mod Lives

@@ -8,7 +8,8 @@ use Rattle.calls.proofs.attach.Tie as tie
 returns : tie.Need-returns
 returns c =
     let s = c .before .before in
-    attach-does _ (s .pre) _ _ _ (c .attach .ensures)
+    let does = attach-does _ (s .pre) _ _ _ (c .attach .ensures .0) (c .attach .ensures .1) in
+    (does .0, does .1)
 
 pub attach-spec : {M : Type 1} → statement M
 attach-spec = tie.close (tie.spec (λ c κs. search needs) returns)

@@ -1,6 +1,6 @@
 -- `replying::reply` meets its contract: each return is one of the outcomes that the laws name.
 -- Assumes nothing.
-use mathlib.Core.Path.{_≡_, sym, _∙_}
+use mathlib.Core.Path.{_≡_, refl, sym, _∙_}
 use mathlib.Core.Bool.{true, false}
 use native.Mathlib.Omega.{arith}
 use lib.ListN.{length}
@@ -11,6 +11,7 @@ use Rattle.laws.specs.Search.{best}
 use Rattle.wire.specs.Frame.{idOf}
 use Rattle.wire.proofs.FrameLaws.{Framed}
 use Rattle.pdu.specs.Replies.{answering}
+use Rattle.machine.specs.Numbers.{numbers}
 use Rattle.table.specs.Columns.{columns}
 use Rattle.table.specs.Places.{holds}
 use Rattle.table.proofs.EntryLaws.{held}
@@ -66,7 +67,7 @@ returns c =
     let a = s .args in (
       was-refused (machineOf (came s)) (a .time) (now (a .frame)) (now (a .out)) (now (a .list))
           (c .before .reply-refusal .result) (c .before .reply-refusal .ensures) (c .if1 .taken),
-      s .pre,
+      (s .pre, λ h. refl),
     )
 
 returns-2 : tie.Need-returns-2
@@ -75,7 +76,7 @@ returns-2 c =
     let a = s .args in (
       was-unknown (came s) (s .pre) (a .time) (now (a .frame)) (now (a .out)) (now (a .list))
           (gate (c .before .before .before .before .before)) (c .before .find .result) (found (c .before)) (c .if2 .taken),
-      s .pre,
+      (s .pre, λ h. refl),
     )
 
 mul-word : tie.Need-mul-word
@@ -91,7 +92,7 @@ returns-3 c =
     let a = s .args in (
       was-mismatched (came s) (s .pre) (a .time) (now (a .frame)) (now (a .out)) (now (a .list))
           (gate (e .before .before .before .before .before)) (e .before .find .result) (found (e .before)) (e .if2 .left) (sym (c .before .answers-word .ensures) ∙ not-true _ (c .if3 .taken)),
-      s .pre,
+      (s .pre, λ h. refl),
     )
 
 id-at-requires : tie.Need-id-at-requires
@@ -121,6 +122,7 @@ cast-length : tie.Need-cast-length
 cast-length c = omega (arith, timely (c .before .before .before .before .before .before .before .before .before .before .before .before .before .before .before .before .before .before .before .before .before .before .before .before .before) .1 .most)
 
 returns-4 : tie.Need-returns-4
+unfolding numbers
 returns-4 c =
     let g = c .before .before .before .before .before .before .before .before .before .before .before .before .before .before .before .before .before in
     let e = g .before .before .before in
@@ -133,7 +135,7 @@ returns-4 c =
           (gate (e .before .before .before .before .before)) (e .before .find .result) (found (e .before)) (e .if2 .left) (answered-by g)
           (i .result) (p .result) (w .result .partial) (w .result .value) _ _ _ _
           (i .ensures) (p .ensures .0) (p .ensures .1) (w .ensures),
-      ended-sound (came s) (s .pre) (e .before .find .result) (lives e) (a .time) _ _ (p .ensures .1),
+      (ended-sound (came s) (s .pre) (e .before .find .result) (lives e) (a .time) _ _ (p .ensures .1), λ h. absurd (h refl)),
     )
 
 pub reply-spec : {M : Type 1} → statement M

@@ -1,9 +1,10 @@
 -- `replying::tick` meets its contract: each return is one of the outcomes that the laws name.
 -- Assumes nothing.
-use mathlib.Core.Path.{_≡_, sym, _∙_}
+use mathlib.Core.Path.{_≡_, refl, sym, _∙_}
 use native.Mathlib.Omega.{arith}
 use lib.ListN.{length}
 use denote.Ref.{now}
+use Rattle.machine.specs.Numbers.{numbers}
 use Rattle.table.specs.Columns.{columns}
 use Rattle.proxy.specs.State.{State, state, kept, machineOf}
 use Rattle.proxy.specs.Gates.{tickGate}
@@ -48,16 +49,17 @@ returns c =
     let a = s .args in (
       was-refused (machineOf (came s)) (a .time) (now (a .out)) (now (a .list))
           (c .before .tick-refusal .result) (c .before .tick-refusal .ensures) (c .if1 .taken),
-      s .pre,
+      (s .pre, λ h. refl),
     )
 
 returns-2 : tie.Need-returns-2
+unfolding numbers
 returns-2 c =
     let s = c .before .before .before .before .before .before .before .before .before .before in
     let a = s .args in (
       nothing-due (came s) (s .pre) (a .time) (now (a .out)) (now (a .list))
           (gate (c .before .before .before .before .before)) (c .before .earliest .result) (c .before .earliest .ensures) (c .if2 .taken),
-      timed-sound (came s) (a .time) (s .pre),
+      (timed-sound (came s) (a .time) (s .pre), λ h. absurd (h refl)),
     )
 
 mul-word : tie.Need-mul-word
@@ -83,6 +85,7 @@ except-requires : tie.Need-except-requires
 except-requires c κs = omega (arith, timely (c .before .before .before .before .before .before .before .before .before .before .before .before .before .before .before .before .before .before .before .before) .frames)
 
 returns-3 : tie.Need-returns-3
+unfolding numbers
 returns-3 c =
     let e = c .before .before .before .before .before .before .before .before .before .before .before .before .before .before .before .before .before .before in
     let s = e .before .before .before .before .before .before .before .before .before .before in
@@ -94,7 +97,7 @@ returns-3 c =
       was-timed-out (came s) (s .pre) (a .time) (now (a .out)) (now (a .list))
           (gate (e .before .before .before .before .before)) (e .before .earliest .result) (e .before .earliest .ensures) (e .if2 .left) (i .result) (p .result) _ _ _ _ (i .ensures) (p .ensures .0) (p .ensures .1)
           (u .result) (y .result) (u .ensures) (y .ensures) (c .before .before .except .ensures),
-      ended-sound (came s) (s .pre) (e .before .earliest .result) (lives e) (a .time) _ _ (p .ensures .1),
+      (ended-sound (came s) (s .pre) (e .before .earliest .result) (lives e) (a .time) _ _ (p .ensures .1), λ h. absurd (h refl)),
     )
 
 pub tick-spec : {M : Type 1} → statement M

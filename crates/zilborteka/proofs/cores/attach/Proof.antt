@@ -7,7 +7,9 @@ use Rattle.zilborteka.proofs.cores.attach.Statement.{statement}
 use Rattle.zilborteka.proofs.cores.attach.Tie as tie
 
 returns : tie.Need-returns
-returns c ids asked notes deadlines counts clients originals top cursor clock timeout join tagged tags made = as-seen _ _ _ _ _ _ _ (c .report-of .ensures) (attach-does _ made _ _ _ (c .before .attach .ensures))
+returns c ids asked notes deadlines counts clients originals top cursor clock timeout join tagged tags made =
+    let does = attach-does _ made _ _ _ (c .before .attach .ensures .0) (c .before .attach .ensures .1) in
+    as-seen _ _ _ _ _ _ _ (c .report-of .ensures) (does .0) (does .1) (does .2)
 
 pub attach-spec : {M : Type 1} → statement M
 attach-spec = tie.close (tie.spec (λ c κs. search needs) (λ c. search needs) returns)

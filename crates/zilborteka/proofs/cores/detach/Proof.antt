@@ -7,7 +7,9 @@ use Rattle.zilborteka.proofs.cores.detach.Statement.{statement}
 use Rattle.zilborteka.proofs.cores.detach.Tie as tie
 
 returns : tie.Need-returns
-returns c ids asked notes deadlines cursor clock timeout join tagged tags made = as-seen _ _ _ _ _ _ _ (c .report-of .ensures) (c .before .detach .ensures ids asked notes deadlines cursor clock (kept timeout join tagged tags) made)
+returns c ids asked notes deadlines cursor clock timeout join tagged tags made =
+    let does = c .before .detach .ensures ids asked notes deadlines cursor clock (kept timeout join tagged tags) made in
+    as-seen _ _ _ _ _ _ _ (c .report-of .ensures) (does .0) (does .1) (does .2)
 
 pub detach-spec : {M : Type 1} → statement M
 detach-spec = tie.close (tie.spec (λ c κs. search needs) (λ c κs. search needs) returns)

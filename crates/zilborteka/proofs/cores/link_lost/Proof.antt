@@ -7,7 +7,9 @@ use Rattle.zilborteka.proofs.cores.link_lost.Statement.{statement}
 use Rattle.zilborteka.proofs.cores.link_lost.Tie as tie
 
 returns : tie.Need-returns
-returns c asked notes deadlines counts clients originals cursor clock timeout join tagged tags made = as-seen _ _ _ _ _ _ _ (c .report-of .ensures) (c .before .link-lost .ensures asked notes deadlines counts clients originals cursor clock (kept timeout join tagged tags) made)
+returns c asked notes deadlines counts clients originals cursor clock timeout join tagged tags made =
+    let does = c .before .link-lost .ensures asked notes deadlines counts clients originals cursor clock (kept timeout join tagged tags) made in
+    as-seen _ _ _ _ _ _ _ (c .report-of .ensures) (does .0) (does .1) (does .2)
 
 pub link-lost-spec : {M : Type 1} → statement M
 link-lost-spec = tie.close (tie.spec (λ c κs. search needs) (λ c. search needs) returns)

@@ -6,7 +6,7 @@ use Rattle.zilborteka.proofs.cores.reply.Statement.{statement}
 use Rattle.zilborteka.proofs.cores.reply.Tie as tie
 
 returns : tie.Need-returns
-returns c = as-seen _ _ _ _ _ _ _ (c .report-of .ensures) (c .before .before .before .before .before .reply .ensures)
+returns c = let does = c .before .before .before .before .before .reply .ensures in as-seen _ _ _ _ _ _ _ (c .report-of .ensures) (does .0) (does .1 .0) (does .1 .1)
 
 pub reply-spec : {M : Type 1} → statement M
 reply-spec = tie.close (tie.spec (λ c κs. search needs) (λ c κs. search needs) (λ c. search needs) (λ c. search needs) returns)
