@@ -21,7 +21,7 @@ use Rattle.machine.specs.declared.Answer.the-variants.{Refused, Answered
 abbrev pub pairs : List Party → List ℕ
 pairs ps = flatMap (λ (p : Party). p .client ∷ p .original ∷ []) ps
 
--- the rewritten frame with id bytes 00 00
+-- the rewritten frame with id bytes 00 00; a reply that is not refused finds its entry, so that the first line is never reached
 unfoldable pub answeredTo : Machine → ℕ → List ℕ → List ℕ → List ℕ → Option (Live What Note) → Done
 answeredTo m k f o l none = done (Refused 7) m o l
 answeredTo m k f o l (some e) =

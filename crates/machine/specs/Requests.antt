@@ -59,7 +59,7 @@ exhausted m c = not (ltb (freePlace rules (m .book)) places)
 unfoldable pub excepted : Machine → ℕ → List ℕ → List ℕ → Done
 excepted m code f o = done (Excepted code) m (over (exception (idOf f) (unitOf f) (functionOf f) code) o) []
 
--- step 3: join; no frame is written
+-- step 3: join; no frame is written; the place that was found has an entry, so that the first line is never reached
 unfoldable pub joinedTo : Machine → ℕ → ℕ → List ℕ → List ℕ → Option (Live What Note) → Done
 joinedTo m k c f o none = excepted m deviceFailure f o
 joinedTo m k c f o (some e) = done (Joined (record { 0 = e .id })) (moved m (join k e (wanted f) (partyOf c f))) o []
