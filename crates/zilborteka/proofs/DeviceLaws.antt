@@ -10,8 +10,7 @@ use Rattle.table.specs.Changes.{Runs}
 use Rattle.table.proofs.EntryLaws.{runs-of}
 use Rattle.proxy.proofs.MakingLaws.{zeros-sound}
 use Rattle.zilborteka.specs.declared.Device.{Device}
-use Rattle.zilborteka.specs.Device.{stateOf, Made, zeros}
-use Rattle.zilborteka.specs.Reports.{stateSize}
+use Rattle.zilborteka.specs.Device.{stateOf, Made, zeros, stateSize}
 use Rattle.zilborteka.proofs.Device.Laws.{mir}
 
 pub may-detach : (d : Device) → Made d → Runs (d .counts) (d .clients) (d .originals) × (d .top ≤ places)

@@ -1,5 +1,4 @@
 pub mod SeenLaws
-pub mod ReportLaws
 pub mod DeviceLaws
 pub mod Lend
 pub mod Fields

@@ -13,9 +13,9 @@ use Rattle.machine.specs.Calls.{Call}
 use Rattle.machine.specs.declared.Report.{Report}
 use Rattle.proxy.specs.State.{machineOf}
 use Rattle.zilborteka.specs.declared.Device.{Device}
-use Rattle.zilborteka.specs.declared.deviceless.SettingsRead.{SettingsRead}
+use Rattle.reports.specs.declared.SettingsRead.{SettingsRead}
 use Rattle.zilborteka.specs.Seen.{Seen, seen}
-use Rattle.zilborteka.specs.Reports.{TextSeen, textSeen, splitTold, readTold, writeTold}
+use Rattle.reports.specs.Reports.{TextSeen, textSeen, splitTold, readTold, writeTold}
 use Rattle.zilborteka.specs.Device.{stateOf, Served, Freshly}
 
 -- Attach, detach, request, reply, tick, link lost: from one device, one call has one report, one machine afterwards, and one content of each lent buffer;

@@ -16,7 +16,7 @@ use Rattle.proxy.specs.State.{State, kept, state, machineOf, Sounds}
 use Rattle.proxy.specs.Gates.{adopted, makingRefusal}
 use Rattle.zilborteka.specs.declared.Device.{Device}
 use Rattle.zilborteka.specs.Seen.{seen, numbered}
-use Rattle.zilborteka.specs.Reports.{doneOr}
+use Rattle.reports.specs.Reports.{doneOr}
 
 -- a device of its fields
 abbrev pub device : (ids asked notes deadlines counts clients originals : List ℕ) (top cursor attached clock timeout join tagged : ℕ) (tags : List ℕ) → Device
@@ -63,3 +63,7 @@ abbrev pub zeros : Device
 zeros =
     device (replicate places 0) (replicate places 0) (replicate places 0) (replicate places 0) (replicate places 0) (replicate partyPlaces 0)
     (replicate partyPlaces 0) 0 0 0 0 0 0 0 (replicate mostTags 0)
+
+-- how many bytes a device has
+abbrev pub stateSize : ℕ
+stateSize = 5032

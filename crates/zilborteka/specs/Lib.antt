@@ -1,4 +1,3 @@
 pub mod Seen
-pub mod Reports
 pub mod Device
 pub mod Lives

@@ -1,6 +1,6 @@
 // The cores of the entry points: each call over lent fields, its answer in the C host's numbers.
-use crate::reports::done_or;
 use machine::Report;
+use reports::done_or;
 use settings::Settings;
 ghost use mathlib.Core.List.{List, []};
 ghost use Prim.Native.Nat.{ℕ, _≤_};

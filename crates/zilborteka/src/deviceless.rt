@@ -1,40 +1,22 @@
-// The calls that need no device: splitting a run, settings read and written, the device's size.
-use crate::reports::FRAME;
-use crate::reports::MORE;
-use crate::reports::said;
-use machine::DONE;
+// The exported calls that need no device: splitting a run, settings read and written, the device's size.
 use machine::Report;
+use reports::SettingsRead;
 use settings::Settings;
-use wire::Split;
-use writing::Wrote;
 ghost use mathlib.Core.Path.{_≡_};
 ghost use lib.ListN.{length};
 ghost use Rattle.wire.specs.Splitting.{standingOf, firstFrame};
 ghost use Rattle.settings.specs.Grammar.{readText};
 ghost use Rattle.settings.specs.Values.{valueOf};
 ghost use Rattle.writing.specs.Reports.{writtenTo};
-ghost use Rattle.zilborteka.specs.Reports.{splitTold, readTold, textSeen, writeTold, stateSize};
-
-// What reading a settings text gives: C's zb_read.
-#[repr(C)]
-pub struct SettingsRead {
-    pub answer: Report,
-    pub settings: Settings,
-}
+ghost use Rattle.reports.specs.Reports.{splitTold, readTold, textSeen, writeTold};
+ghost use Rattle.zilborteka.specs.Device.{stateSize};
 
 // Splits a run: the first frame's length, more needed, or refusal 4.
 #[no_mangle]
 pub extern "C" fn zb_split(run: &[u8]) -> Report
     ensures { λ r. ⌜ r ≡ splitTold (standingOf (now (run .entry))) (length (firstFrame (now (run .entry)))) ⌝ }
 {
-    match wire::standing(run) {
-        Split::Frame => {
-            let size = wire::first_frame(run).len();
-            said(0, 0, FRAME, size as u32)
-        }
-        Split::MoreNeeded => said(0, 0, MORE, 0),
-        Split::Refused => said(4, 0, 0, 0),
-    }
+    reports::split(run)
 }
 
 // Reads a settings text: the value, or refusal 10 with the first wrong line and the usual value.
@@ -42,15 +24,7 @@ pub extern "C" fn zb_split(run: &[u8]) -> Report
 pub extern "C" fn zb_settings_read(text: &[u8]) -> SettingsRead
     ensures { λ r. ⌜ r ≡ readTold (readText (now (text .entry))) ⌝ }
 {
-    let read = reading::read_text(text);
-    let line = read.line;
-    let settings = read.settings;
-    if line == 0 {
-        let answer = said(0, 0, DONE, 0);
-        return SettingsRead { answer, settings };
-    }
-    let answer = said(10, line, 0, 0);
-    SettingsRead { answer, settings }
+    reports::read(text)
 }
 
 // Writes the text of a settings value: its length, refusal 10 for an invalid value, or refusal 1 for a short buffer.
@@ -58,11 +32,7 @@ pub extern "C" fn zb_settings_read(text: &[u8]) -> SettingsRead
 pub extern "C" fn zb_settings_write(from: Settings, text: &mut [u8]) -> Report
     ensures { λ r. ⌜ textSeen r (now (text .exit)) ≡ writeTold (writtenTo (valueOf from) (now (text .entry))) ⌝ }
 {
-    match writing::write_text(from, text) {
-        Wrote::Text(size) => said(0, 0, DONE, size as u32),
-        Wrote::TooShort => said(1, 0, 0, 0),
-        Wrote::Invalid => said(10, 0, 0, 0),
-    }
+    reports::write(from, text)
 }
 
 // The fields' sizes in order, each at a multiple of its element's: 256 + 512 + 64 + 512 + 64 + 512 + 1024 bytes of columns, then at 2944

@@ -1,7 +1,6 @@
 // The C boundary: the device that a host lends, and the calls on it.
 mod cores;
 pub mod deviceless;
-mod reports;
 
 use machine::Report;
 use settings::Settings;

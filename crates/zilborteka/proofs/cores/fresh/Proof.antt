@@ -1,6 +1,6 @@
 -- `zilborteka::cores::fresh` meets its contract: the call below does, and its refusal is told as done or refused.
 -- Assumes nothing.
-use Rattle.zilborteka.specs.Reports.{doneOr}
+use Rattle.reports.specs.Reports.{doneOr}
 use mathlib.Core.Path.{ap, _∙_}
 use borrow.Author.Needs.{needs}
 use Rattle.zilborteka.proofs.cores.fresh.Statement.{statement}

@@ -1,15 +1,15 @@
--- `zilborteka::deviceless::zb_split` meets its contract: each case of what stands at the start of the run.
+-- `reports::split` meets its contract: each case of what stands at the start of the run.
 -- Assumes nothing.
 use mathlib.Core.Path.{sym, ap, _∙_}
 use native.Mathlib.Omega.{arith}
 use lib.ListN.{length}
 use denote.Ref.{now}
 use Rattle.wire.specs.Splitting.{firstFrame}
-use Rattle.zilborteka.specs.Reports.{splitTold}
-use Rattle.zilborteka.proofs.ReportLaws.{first-low, split-is}
+use Rattle.reports.specs.Reports.{splitTold}
+use Rattle.reports.proofs.ReportLaws.{first-low, split-is}
 use borrow.Author.Needs.{needs}
-use Rattle.zilborteka.proofs.deviceless.zb_split.Statement.{statement}
-use Rattle.zilborteka.proofs.deviceless.zb_split.Tie as tie
+use Rattle.reports.proofs.split.Statement.{statement}
+use Rattle.reports.proofs.split.Tie as tie
 
 cast-said : tie.Need-cast-said
 cast-said c =
@@ -30,8 +30,8 @@ returns-3 : tie.Need-returns-3
 unfolding splitTold
 returns-3 c = c .said3 .ensures ∙ split-is _ (c .before .before .before .standing .ensures) (c .before .enum-told3 .given .1)
 
-pub zb-split-spec : {M : Type 1} → statement M
-zb-split-spec =
+pub split-spec : {M : Type 1} → statement M
+split-spec =
     tie.close
     (tie.spec (λ c κs. search needs) (λ c. search needs) (λ c κs. search needs) cast-said (λ c κs. search needs) (λ c. search needs)
     (λ c κs. search needs) (λ c. search needs) (λ c κs. search needs) returns returns-2 returns-3)

@@ -1,4 +1,4 @@
--- What is reported of splitting, of settings read and written, of making a device fresh; and the size of a device.
+-- What is reported of splitting, of settings read and written, and of making a device fresh.
 -- Assumes nothing.
 use Prim.Native.Nat.{ℕ}
 use mathlib.Core.Bool.{cond}
@@ -15,7 +15,7 @@ use Rattle.writing.specs.declared.Wrote.the-variants.{Text, TooShort, Invalid}
 use Rattle.writing.specs.Reports.{Writing}
 use Rattle.machine.specs.Numbers.{isDone}
 use Rattle.machine.specs.declared.Report.{Report}
-use Rattle.zilborteka.specs.declared.deviceless.SettingsRead.{SettingsRead}
+use Rattle.reports.specs.declared.SettingsRead.{SettingsRead}
 
 -- the outcomes' numbers beside the machine's: ZB_FRAME and ZB_MORE
 abbrev pub isFrame : ℕ
@@ -61,7 +61,3 @@ wroteTold Invalid = told 10 0 0 0
 
 abbrev pub writeTold : Writing → TextSeen
 writeTold w = textSeen (wroteTold (w .says)) (w .buffer)
-
--- how many bytes a device has
-abbrev pub stateSize : ℕ
-stateSize = 5032

@@ -1,14 +1,14 @@
--- `zilborteka::deviceless::zb_settings_write` meets its contract: each case of what writing comes to.
+-- `reports::write` meets its contract: each case of what writing comes to.
 -- Assumes nothing.
 use mathlib.Core.Path.{ap, _∙_}
 use native.Mathlib.Omega.{arith}
 use denote.Ref.{now}
 use Rattle.settings.specs.Values.{valueOf}
-use Rattle.zilborteka.specs.Reports.{wroteTold}
-use Rattle.zilborteka.proofs.ReportLaws.{written-low, write-is}
+use Rattle.reports.specs.Reports.{wroteTold}
+use Rattle.reports.proofs.ReportLaws.{written-low, write-is}
 use borrow.Author.Needs.{needs}
-use Rattle.zilborteka.proofs.deviceless.zb_settings_write.Statement.{statement}
-use Rattle.zilborteka.proofs.deviceless.zb_settings_write.Tie as tie
+use Rattle.reports.proofs.write.Statement.{statement}
+use Rattle.reports.proofs.write.Tie as tie
 
 cast-said : tie.Need-cast-said
 cast-said c =
@@ -28,8 +28,8 @@ returns-3 : tie.Need-returns-3
 unfolding wroteTold
 returns-3 c = write-is _ (c .said3 .ensures) (c .before .enum-told2 .given .1) (c .before .before .before .before .before .write-text .ensures)
 
-pub zb-settings-write-spec : {M : Type 1} → statement M
-zb-settings-write-spec =
+pub write-spec : {M : Type 1} → statement M
+write-spec =
     tie.close
     (tie.spec (λ c κs. search needs) (λ c. search needs) cast-said (λ c κs. search needs) (λ c. search needs) (λ c κs. search needs)
     (λ c. search needs) (λ c κs. search needs) (λ c. search needs) returns (λ c. search needs) returns-2 (λ c. search needs) returns-3)

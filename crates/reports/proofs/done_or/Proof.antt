@@ -1,11 +1,11 @@
--- `zilborteka::reports::done_or` meets its contract: the test decides.
+-- `reports::done_or` meets its contract: the test decides.
 -- Assumes nothing.
 use mathlib.Core.Path.{_∙_}
 use borrow.Author.Tests.{eq-eqb, ne-eqb}
-use Rattle.zilborteka.specs.Reports.{doneOr}
+use Rattle.reports.specs.Reports.{doneOr}
 use borrow.Author.Needs.{needs}
-use Rattle.zilborteka.proofs.reports.done_or.Statement.{statement}
-use Rattle.zilborteka.proofs.reports.done_or.Tie as tie
+use Rattle.reports.proofs.done_or.Statement.{statement}
+use Rattle.reports.proofs.done_or.Tie as tie
 
 returns : tie.Need-returns
 unfolding doneOr

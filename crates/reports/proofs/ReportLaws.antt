@@ -23,7 +23,7 @@ use Rattle.reading.specs.Reports.{reported}
 use Rattle.writing.specs.Reports.{Writing, writing, writtenTo}
 use Rattle.machine.specs.Numbers.{isDone}
 use Rattle.machine.specs.declared.Report.{Report}
-use Rattle.zilborteka.specs.Reports.{told, splitTold, settingsRead, readTold, textSeen, wroteTold, writeTold}
+use Rattle.reports.specs.Reports.{told, splitTold, settingsRead, readTold, textSeen, wroteTold, writeTold}
 
 -- A first frame is no longer than a frame may be.
 pub first-low : (r : List ℕ) → standingOf r ≡ Frame → length (firstFrame r) ≤ mostFrame
