@@ -8,6 +8,7 @@
 #         requires: the entry point requires `before` of the struct; a core that is lent less requires what `core` says, if anything
 #   before RELATION                                what every entry point with `requires` needs of the struct
 #   entry FN SHAPE CORE RELATION                   FN's body is the one call CORE(&mut st.A, &mut st.B, .., p, f, o); RELATION: λ h p.. r h′ slices′. what FN ensures
+#         CORE is a path in the crate, or CRATE/PATH
 #   core FN PRE LAW                                what FN's core requires, λ lent p.. ; and the law to it from `before`, h p.. before
 # The core ensures the same RELATION, at the struct made of its lent fields and any others with which `before` holds.
 # It writes proofs/Fields.antt, proofs/SHAPE.antt and proofs/FN/Proof.antt, over the hand-written proofs/Lend.antt. Add them to proofs/Lib.antt; then rt fmt.
@@ -491,8 +492,9 @@ def seqofT(xs): return ' ⊛ '.join(xs) if len(xs) == 1 else '(' + ' ⊛ '.join(
 def entry(fn, sh, core, rel):
     lent, ps, res, req, creq = shapes[sh]
     path = fn.replace('::', '.')
-    cpath = P + '.' + core.replace('::', '.')
-    calls = f"calls-{crate}·{core.replace('::', '·').replace('_', '-')}"
+    other, _, own = core.rpartition('/')
+    cpath = (f'Rattle.{other}.proofs' if other else P) + '.' + own.replace('::', '.')
+    calls = f"calls-{other or crate}·{own.replace('::', '·').replace('_', '-')}"
     muts = [f'z{i}' for i, p in enumerate(ps) if p[1] == 'mut']
     pn = [f'p{i}' for i in range(len(ps))]
     rest = [x for x in names if x not in lent]

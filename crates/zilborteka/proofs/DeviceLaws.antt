@@ -2,15 +2,16 @@
 -- Assumes nothing.
 use prog.Memory.{size}
 use Prim.Native.Nat.{ℕ, _≤_}
-use mathlib.Core.Path.{_≡_, refl}
+use mathlib.Core.Path.{_≡_, refl, ap}
 use mathlib.Core.Bool.{false}
 use Rattle.laws.specs.Numbers.{places}
 use Rattle.laws.specs.Bits.{has}
 use Rattle.table.specs.Changes.{Runs}
 use Rattle.table.proofs.EntryLaws.{runs-of}
+use Rattle.proxy.specs.State.{State}
 use Rattle.proxy.proofs.MakingLaws.{zeros-sound}
 use Rattle.zilborteka.specs.declared.Device.{Device}
-use Rattle.zilborteka.specs.Device.{stateOf, Made, zeros, stateSize}
+use Rattle.zilborteka.specs.Device.{device, stateOf, Made, zeros, stateSize}
 use Rattle.zilborteka.proofs.Device.Laws.{mir}
 
 pub may-detach : (d : Device) → Made d → Runs (d .counts) (d .clients) (d .originals) × (d .top ≤ places)
@@ -23,3 +24,15 @@ zeros-made = zeros-sound
 -- The size that a host is told is that of a device in memory.
 pub state-size : size mir ≡ stateSize
 state-size = refl
+
+-- the device whose state it is: stateOf read backwards
+abbrev deviceOf : State → Device
+deviceOf s =
+    let t = s .table in
+    let k = s .settings in
+    device (t .ids) (t .asked) (t .notes) (t .deadlines) (t .counts) (t .clients) (t .originals) (t .top) (s .cursor) (s .attached) (s .clock) (k .timeout) (k .join)
+    (k .tagged) (k .tags)
+
+-- Two devices of one state are one device, field by field.
+pub same-device : (d e : Device) → stateOf d ≡ stateOf e → d ≡ e
+same-device d e h = ap deviceOf h

@@ -1,4 +1,3 @@
-pub mod SeenLaws
 pub mod DeviceLaws
 pub mod Lend
 pub mod Fields

@@ -14,9 +14,10 @@ use Rattle.machine.specs.declared.Report.{Report}
 use Rattle.proxy.specs.State.{machineOf}
 use Rattle.zilborteka.specs.declared.Device.{Device}
 use Rattle.reports.specs.declared.SettingsRead.{SettingsRead}
-use Rattle.zilborteka.specs.Seen.{Seen, seen}
+use Rattle.cores.specs.Seen.{Seen, seen}
 use Rattle.reports.specs.Reports.{TextSeen, textSeen, splitTold, readTold, writeTold}
 use Rattle.zilborteka.specs.Device.{stateOf, Served, Freshly}
+use Rattle.zilborteka.proofs.DeviceLaws.{same-device}
 
 -- Attach, detach, request, reply, tick, link lost: from one device, one call has one report, one machine afterwards, and one content of each lent buffer;
 -- and a refusal leaves only one device: the one that was lent.
@@ -25,7 +26,7 @@ pub one-outcome : (d : Device) (x : Call) {r q : Report} {e f : Device} {w v l m
 one-outcome d x s t =
     let p = s .0 ∙ sym (t .0) in
     let same = ap (λ (y : Seen). y .says) p in
-    (same, ap (λ (y : Seen). y .after) p, ap (λ (y : Seen). y .written) p, ap (λ (y : Seen). y .listed) p, λ h. (s .2 h, t .2 (rw same at h)))
+    (same, ap (λ (y : Seen). y .after) p, ap (λ (y : Seen). y .written) p, ap (λ (y : Seen). y .listed) p, λ h. (same-device _ d (s .2 h), same-device _ d (t .2 (rw same at h))))
 
 -- Fresh: from one settings value, one report and one machine.
 pub one-fresh : (from : Settings) {r q : Report} {e f : Device} → Freshly from r e → Freshly from q f → (r ≡ q) × (machineOf (stateOf e) ≡ machineOf (stateOf f))

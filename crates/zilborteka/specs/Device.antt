@@ -1,22 +1,15 @@
 -- The machine that a lent device is, what every device has that these calls made, and what an entry point does to it.
 -- Assumes nothing.
 use Prim.Native.Nat.{ℕ}
-use mathlib.Core.Path.{_≡_}
 use mathlib.Core.List.{List}
 use lib.ListN.{replicate}
 use Rattle.laws.specs.Numbers.{places, partyPlaces, mostTags}
 use Rattle.settings.specs.declared.Settings.{Settings}
-use Rattle.settings.specs.Values.{valueOf}
-use Rattle.machine.specs.Machine.{made}
 use Rattle.machine.specs.Calls.{Call}
-use Rattle.machine.specs.Outcomes.{outcome}
 use Rattle.machine.specs.declared.Report.{Report}
-use Rattle.table.specs.Columns.{columns}
-use Rattle.proxy.specs.State.{State, kept, state, machineOf, Sounds}
-use Rattle.proxy.specs.Gates.{adopted, makingRefusal}
+use Rattle.proxy.specs.State.{State, Sounds}
 use Rattle.zilborteka.specs.declared.Device.{Device}
-use Rattle.zilborteka.specs.Seen.{seen, numbered}
-use Rattle.reports.specs.Reports.{doneOr}
+use Rattle.cores.specs.Told.{lent, Told, Freshened}
 
 -- a device of its fields
 abbrev pub device : (ids asked notes deadlines counts clients originals : List ℕ) (top cursor attached clock timeout join tagged : ℕ) (tags : List ℕ) → Device
@@ -42,21 +35,21 @@ device ids asked notes deadlines counts clients originals top cursor attached cl
 -- the state that its columns and numbers are
 abbrev pub stateOf : Device → State
 stateOf d =
-    state (columns (d .ids) (d .asked) (d .notes) (d .deadlines) (d .counts) (d .clients) (d .originals) (d .top)) (d .cursor) (d .attached) (d .clock)
-    (kept (d .timeout) (d .join) (d .tagged) (d .tags))
+    lent (d .ids) (d .asked) (d .notes) (d .deadlines) (d .counts) (d .clients) (d .originals) (d .top) (d .cursor) (d .attached) (d .clock) (d .timeout) (d .join)
+    (d .tagged) (d .tags)
 
 -- every device that these calls made
 abbrev pub Made : Device → Type 0
 Made d = Sounds (stateOf d)
 
--- from the device d a call comes to this report, this device and these buffers, as document 01 says, and these calls made the device;
--- a refusal leaves every field of the device as it was, also where the machine would not show it
+-- from the device d a call comes to this report, this device and these buffers, as document 01 says, and these calls made the device; a refusal leaves every field of the
+-- device as it was (a state has the fields of its device: `same-device`)
 abbrev pub Served : Device → Call → Report → Device → (written listed : List ℕ) → Type 0
-Served d x r d′ w l = (seen r (machineOf (stateOf d′)) w l ≡ numbered (outcome (machineOf (stateOf d)) x)) × Made d′ × ((r .refusal ≡ 0 → ⊥) → d′ ≡ d)
+Served d x r d′ w l = Told (stateOf d) x r (stateOf d′) w l
 
 -- a fresh device: the machine that document 01 makes from the value, or from the usual one beside refusal 10
 abbrev pub Freshly : Settings → Report → Device → Type 0
-Freshly from r d = (r ≡ doneOr (makingRefusal (valueOf from))) × (machineOf (stateOf d) ≡ made (adopted (valueOf from))) × Made d
+Freshly from r d = Freshened from r (stateOf d)
 
 -- the device that is all zeros
 abbrev pub zeros : Device

@@ -1,5 +1,4 @@
 // The C boundary: the device that a host lends, and the calls on it.
-mod cores;
 pub mod deviceless;
 
 use machine::Report;

@@ -13,8 +13,8 @@ use Rattle.table.specs.Changes.{Runs}
 use Rattle.laws.specs.Numbers.{places}
 use Prim.Native.Nat.{_≤_}
 use Rattle.zilborteka.proofs.EntryFresh.{Core, entry-meets, Rel, CoreRel}
-use Rattle.zilborteka.proofs.cores.fresh.Symbol as g
-use Rattle.zilborteka.proofs.cores.fresh.Met as g-thm
+use Rattle.cores.proofs.fresh.Symbol as g
+use Rattle.cores.proofs.fresh.Met as g-thm
 use Rattle.zilborteka.proofs.zb_fresh.Key.{name as #f}
 use Rattle.zilborteka.proofs.zb_fresh as f
 use Rattle.zilborteka.proofs.zb_fresh.Statement as stated
@@ -33,4 +33,4 @@ zb-fresh-spec 𝓤 H 𝓜 𝓖 𝓡 =
     entered 𝓤 H (tripleOf 𝓤 H (𝓖 .A) f.signature (f.spec 𝓤 H (𝓖 .A) (𝓜 .mem) (𝓡 .run)))
     (tables 𝓤 H 𝓜 𝓡 code.env .C) (tables 𝓤 H 𝓜 𝓡 code.env .Λ) #f code.function (code.unfolded 𝓤 H 𝓜 𝓡)
     (entry-meets 𝓤 H (𝓖 .A) (givenOf 𝓤 H 𝓜 𝓖) g.name R Rc (λ h p0 r w0 w1 w2 w3 w4 w5 w6 w7 w8 w9 w10 w11 w12 w13 w14 e. e) (tablesOf 𝓤 H 𝓜 (tables 𝓤 H 𝓜 𝓡 code.env))
-    (cited 𝓤 H (Core 𝓤 Rc H (𝓖 .A)) 𝓜 𝓡 code.env g.name g.routine code.calls-zilborteka·cores·fresh (g-thm.met 𝓤 H 𝓜 𝓖 𝓡)))
+    (cited 𝓤 H (Core 𝓤 Rc H (𝓖 .A)) 𝓜 𝓡 code.env g.name g.routine code.calls-cores·fresh (g-thm.met 𝓤 H 𝓜 𝓖 𝓡)))

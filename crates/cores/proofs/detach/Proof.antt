@@ -1,10 +1,10 @@
--- `zilborteka::cores::detach` meets its contract: the call below does, and its answer is told in numbers.
+-- `cores::detach` meets its contract: the call below does, and its answer is told in numbers.
 -- Assumes nothing.
 use Rattle.proxy.specs.State.{kept}
-use Rattle.zilborteka.proofs.SeenLaws.{as-seen}
+use Rattle.cores.proofs.SeenLaws.{as-seen}
 use borrow.Author.Needs.{needs}
-use Rattle.zilborteka.proofs.cores.detach.Statement.{statement}
-use Rattle.zilborteka.proofs.cores.detach.Tie as tie
+use Rattle.cores.proofs.detach.Statement.{statement}
+use Rattle.cores.proofs.detach.Tie as tie
 
 returns : tie.Need-returns
 returns c ids asked notes deadlines cursor clock timeout join tagged tags made =

@@ -1,10 +1,10 @@
--- `zilborteka::cores::attach` meets its contract: the call below does, and its answer is told in numbers.
+-- `cores::attach` meets its contract: the call below does, and its answer is told in numbers.
 -- Assumes nothing.
 use Rattle.proxy.proofs.AttachLaws.{attach-does}
-use Rattle.zilborteka.proofs.SeenLaws.{as-seen}
+use Rattle.cores.proofs.SeenLaws.{as-seen}
 use borrow.Author.Needs.{needs}
-use Rattle.zilborteka.proofs.cores.attach.Statement.{statement}
-use Rattle.zilborteka.proofs.cores.attach.Tie as tie
+use Rattle.cores.proofs.attach.Statement.{statement}
+use Rattle.cores.proofs.attach.Tie as tie
 
 returns : tie.Need-returns
 returns c ids asked notes deadlines counts clients originals top cursor clock timeout join tagged tags made =

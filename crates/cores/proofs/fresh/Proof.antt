@@ -1,10 +1,10 @@
--- `zilborteka::cores::fresh` meets its contract: the call below does, and its refusal is told as done or refused.
+-- `cores::fresh` meets its contract: the call below does, and its refusal is told as done or refused.
 -- Assumes nothing.
 use Rattle.reports.specs.Reports.{doneOr}
 use mathlib.Core.Path.{ap, _∙_}
 use borrow.Author.Needs.{needs}
-use Rattle.zilborteka.proofs.cores.fresh.Statement.{statement}
-use Rattle.zilborteka.proofs.cores.fresh.Tie as tie
+use Rattle.cores.proofs.fresh.Statement.{statement}
+use Rattle.cores.proofs.fresh.Tie as tie
 
 returns : tie.Need-returns
 returns c =

@@ -1,4 +1,4 @@
-// The cores of the entry points: each call over lent fields, its answer in the C host's numbers.
+// The cores of the entry points: each call over the fields that a device lends, its answer in the C host's numbers.
 use machine::Report;
 use reports::done_or;
 use settings::Settings;
@@ -7,7 +7,8 @@ ghost use Prim.Native.Nat.{ℕ, _≤_};
 ghost use Rattle.laws.specs.Numbers.{places};
 ghost use Rattle.machine.specs.Calls.Call.{attach as attaches, detach as detaches, request as asks, reply as replies, tick as ticks, linkLost};
 ghost use Rattle.table.specs.Changes.{Runs};
-ghost use Rattle.zilborteka.specs.Device.{device, Made, Served, Freshly};
+ghost use Rattle.proxy.specs.State.{Sounds};
+ghost use Rattle.cores.specs.Told.{lent, Told, Freshened};
 
 // Makes the device fresh, whatever it was.
 pub fn fresh<'a>(
@@ -28,7 +29,7 @@ pub fn fresh<'a>(
     tags: &'a mut [u64; laws::MOST_TAGS],
     from: Settings,
 ) -> Report
-    ensures { λ r. ⌜ Freshly from r (device (now (ids .exit)) (now (asked .exit)) (now (notes .exit)) (now (deadlines .exit)) (now (counts .exit)) (now (clients .exit)) (now (originals .exit)) (now (top .exit)) (now (cursor .exit)) (now (attached .exit)) (now (clock .exit)) (now (timeout .exit)) (now (join .exit)) (now (tagged .exit)) (now (tags .exit))) ⌝ }
+    ensures { λ r. ⌜ Freshened from r (lent (now (ids .exit)) (now (asked .exit)) (now (notes .exit)) (now (deadlines .exit)) (now (counts .exit)) (now (clients .exit)) (now (originals .exit)) (now (top .exit)) (now (cursor .exit)) (now (attached .exit)) (now (clock .exit)) (now (timeout .exit)) (now (join .exit)) (now (tagged .exit)) (now (tags .exit))) ⌝ }
 {
     let refused = proxy::making::fresh(
         ids,
@@ -54,9 +55,9 @@ pub fn fresh<'a>(
 // Attaches a client.
 pub fn attach<'a>(attached: &'a mut u32, client: u32) -> Report
     ensures { λ r. ⌜ ((ids asked notes deadlines counts clients originals : List ℕ) (top cursor clock timeout join tagged : ℕ) (tags : List ℕ)
-        → Made (device ids asked notes deadlines counts clients originals top cursor (now (attached .entry)) clock timeout join tagged tags)
-        → Served (device ids asked notes deadlines counts clients originals top cursor (now (attached .entry)) clock timeout join tagged tags) (attaches client) r
-        (device ids asked notes deadlines counts clients originals top cursor (now (attached .exit)) clock timeout join tagged tags) [] []) ⌝ }
+        → Sounds (lent ids asked notes deadlines counts clients originals top cursor (now (attached .entry)) clock timeout join tagged tags)
+        → Told (lent ids asked notes deadlines counts clients originals top cursor (now (attached .entry)) clock timeout join tagged tags) (attaches client) r
+        (lent ids asked notes deadlines counts clients originals top cursor (now (attached .exit)) clock timeout join tagged tags) [] []) ⌝ }
 {
     machine::report_of(proxy::attaching::attach(attached, client))
 }
@@ -72,9 +73,9 @@ pub fn detach<'a>(
 ) -> Report
     requires { ⌜ Runs (now counts) (now clients) (now originals) × (now top ≤ places) ⌝ }
     ensures { λ r. ⌜ ((ids asked notes deadlines : List ℕ) (cursor clock timeout join tagged : ℕ) (tags : List ℕ)
-        → Made (device ids asked notes deadlines (now (counts .entry)) (now (clients .entry)) (now (originals .entry)) (now (top .entry)) cursor (now (attached .entry)) clock timeout join tagged tags)
-        → Served (device ids asked notes deadlines (now (counts .entry)) (now (clients .entry)) (now (originals .entry)) (now (top .entry)) cursor (now (attached .entry)) clock timeout join tagged tags) (detaches client) r
-        (device ids asked notes deadlines (now (counts .exit)) (now (clients .exit)) (now (originals .exit)) (now (top .exit)) cursor (now (attached .exit)) clock timeout join tagged tags) [] []) ⌝ }
+        → Sounds (lent ids asked notes deadlines (now (counts .entry)) (now (clients .entry)) (now (originals .entry)) (now (top .entry)) cursor (now (attached .entry)) clock timeout join tagged tags)
+        → Told (lent ids asked notes deadlines (now (counts .entry)) (now (clients .entry)) (now (originals .entry)) (now (top .entry)) cursor (now (attached .entry)) clock timeout join tagged tags) (detaches client) r
+        (lent ids asked notes deadlines (now (counts .exit)) (now (clients .exit)) (now (originals .exit)) (now (top .exit)) cursor (now (attached .exit)) clock timeout join tagged tags) [] []) ⌝ }
 {
     machine::report_of(proxy::attaching::detach(counts, clients, originals, top, attached, client))
 }
@@ -101,9 +102,9 @@ pub fn request<'a>(
     frame: &[u8],
     out: &mut [u8],
 ) -> Report
-    requires { ⌜ Made (device (now ids) (now asked) (now notes) (now deadlines) (now counts) (now clients) (now originals) (now top) (now cursor) (now attached) (now clock) (now timeout) (now join) (now tagged) (now tags)) ⌝ }
-    ensures { λ r. ⌜ Served (device (now (ids .entry)) (now (asked .entry)) (now (notes .entry)) (now (deadlines .entry)) (now (counts .entry)) (now (clients .entry)) (now (originals .entry)) (now (top .entry)) (now (cursor .entry)) (now (attached .entry)) (now (clock .entry)) (now (timeout .entry)) (now (join .entry)) (now (tagged .entry)) (now (tags .entry))) (asks client time (now (frame .entry)) (now (out .entry))) r
-        (device (now (ids .exit)) (now (asked .exit)) (now (notes .exit)) (now (deadlines .exit)) (now (counts .exit)) (now (clients .exit)) (now (originals .exit)) (now (top .exit)) (now (cursor .exit)) (now (attached .exit)) (now (clock .exit)) (now (timeout .exit)) (now (join .exit)) (now (tagged .exit)) (now (tags .exit))) (now (out .exit)) [] ⌝ }
+    requires { ⌜ Sounds (lent (now ids) (now asked) (now notes) (now deadlines) (now counts) (now clients) (now originals) (now top) (now cursor) (now attached) (now clock) (now timeout) (now join) (now tagged) (now tags)) ⌝ }
+    ensures { λ r. ⌜ Told (lent (now (ids .entry)) (now (asked .entry)) (now (notes .entry)) (now (deadlines .entry)) (now (counts .entry)) (now (clients .entry)) (now (originals .entry)) (now (top .entry)) (now (cursor .entry)) (now (attached .entry)) (now (clock .entry)) (now (timeout .entry)) (now (join .entry)) (now (tagged .entry)) (now (tags .entry))) (asks client time (now (frame .entry)) (now (out .entry))) r
+        (lent (now (ids .exit)) (now (asked .exit)) (now (notes .exit)) (now (deadlines .exit)) (now (counts .exit)) (now (clients .exit)) (now (originals .exit)) (now (top .exit)) (now (cursor .exit)) (now (attached .exit)) (now (clock .exit)) (now (timeout .exit)) (now (join .exit)) (now (tagged .exit)) (now (tags .exit))) (now (out .exit)) [] ⌝ }
 {
     machine::report_of(requesting::request(
         ids,
@@ -150,9 +151,9 @@ pub fn reply<'a>(
     out: &mut [u8],
     list: &mut [u16],
 ) -> Report
-    requires { ⌜ Made (device (now ids) (now asked) (now notes) (now deadlines) (now counts) (now clients) (now originals) (now top) (now cursor) (now attached) (now clock) (now timeout) (now join) (now tagged) (now tags)) ⌝ }
-    ensures { λ r. ⌜ Served (device (now (ids .entry)) (now (asked .entry)) (now (notes .entry)) (now (deadlines .entry)) (now (counts .entry)) (now (clients .entry)) (now (originals .entry)) (now (top .entry)) (now (cursor .entry)) (now (attached .entry)) (now (clock .entry)) (now (timeout .entry)) (now (join .entry)) (now (tagged .entry)) (now (tags .entry))) (replies time (now (frame .entry)) (now (out .entry)) (now (list .entry))) r
-        (device (now (ids .exit)) (now (asked .exit)) (now (notes .exit)) (now (deadlines .exit)) (now (counts .exit)) (now (clients .exit)) (now (originals .exit)) (now (top .exit)) (now (cursor .exit)) (now (attached .exit)) (now (clock .exit)) (now (timeout .exit)) (now (join .exit)) (now (tagged .exit)) (now (tags .exit))) (now (out .exit)) (now (list .exit)) ⌝ }
+    requires { ⌜ Sounds (lent (now ids) (now asked) (now notes) (now deadlines) (now counts) (now clients) (now originals) (now top) (now cursor) (now attached) (now clock) (now timeout) (now join) (now tagged) (now tags)) ⌝ }
+    ensures { λ r. ⌜ Told (lent (now (ids .entry)) (now (asked .entry)) (now (notes .entry)) (now (deadlines .entry)) (now (counts .entry)) (now (clients .entry)) (now (originals .entry)) (now (top .entry)) (now (cursor .entry)) (now (attached .entry)) (now (clock .entry)) (now (timeout .entry)) (now (join .entry)) (now (tagged .entry)) (now (tags .entry))) (replies time (now (frame .entry)) (now (out .entry)) (now (list .entry))) r
+        (lent (now (ids .exit)) (now (asked .exit)) (now (notes .exit)) (now (deadlines .exit)) (now (counts .exit)) (now (clients .exit)) (now (originals .exit)) (now (top .exit)) (now (cursor .exit)) (now (attached .exit)) (now (clock .exit)) (now (timeout .exit)) (now (join .exit)) (now (tagged .exit)) (now (tags .exit))) (now (out .exit)) (now (list .exit)) ⌝ }
 {
     machine::report_of(replying::reply(
         ids,
@@ -198,9 +199,9 @@ pub fn tick<'a>(
     out: &mut [u8],
     list: &mut [u16],
 ) -> Report
-    requires { ⌜ Made (device (now ids) (now asked) (now notes) (now deadlines) (now counts) (now clients) (now originals) (now top) (now cursor) (now attached) (now clock) (now timeout) (now join) (now tagged) (now tags)) ⌝ }
-    ensures { λ r. ⌜ Served (device (now (ids .entry)) (now (asked .entry)) (now (notes .entry)) (now (deadlines .entry)) (now (counts .entry)) (now (clients .entry)) (now (originals .entry)) (now (top .entry)) (now (cursor .entry)) (now (attached .entry)) (now (clock .entry)) (now (timeout .entry)) (now (join .entry)) (now (tagged .entry)) (now (tags .entry))) (ticks time (now (out .entry)) (now (list .entry))) r
-        (device (now (ids .exit)) (now (asked .exit)) (now (notes .exit)) (now (deadlines .exit)) (now (counts .exit)) (now (clients .exit)) (now (originals .exit)) (now (top .exit)) (now (cursor .exit)) (now (attached .exit)) (now (clock .exit)) (now (timeout .exit)) (now (join .exit)) (now (tagged .exit)) (now (tags .exit))) (now (out .exit)) (now (list .exit)) ⌝ }
+    requires { ⌜ Sounds (lent (now ids) (now asked) (now notes) (now deadlines) (now counts) (now clients) (now originals) (now top) (now cursor) (now attached) (now clock) (now timeout) (now join) (now tagged) (now tags)) ⌝ }
+    ensures { λ r. ⌜ Told (lent (now (ids .entry)) (now (asked .entry)) (now (notes .entry)) (now (deadlines .entry)) (now (counts .entry)) (now (clients .entry)) (now (originals .entry)) (now (top .entry)) (now (cursor .entry)) (now (attached .entry)) (now (clock .entry)) (now (timeout .entry)) (now (join .entry)) (now (tagged .entry)) (now (tags .entry))) (ticks time (now (out .entry)) (now (list .entry))) r
+        (lent (now (ids .exit)) (now (asked .exit)) (now (notes .exit)) (now (deadlines .exit)) (now (counts .exit)) (now (clients .exit)) (now (originals .exit)) (now (top .exit)) (now (cursor .exit)) (now (attached .exit)) (now (clock .exit)) (now (timeout .exit)) (now (join .exit)) (now (tagged .exit)) (now (tags .exit))) (now (out .exit)) (now (list .exit)) ⌝ }
 {
     machine::report_of(replying::tick(
         ids,
@@ -231,9 +232,9 @@ pub fn link_lost<'a>(
     attached: &'a mut u32,
 ) -> Report
     ensures { λ r. ⌜ ((asked notes deadlines counts clients originals : List ℕ) (cursor clock timeout join tagged : ℕ) (tags : List ℕ)
-        → Made (device (now (ids .entry)) asked notes deadlines counts clients originals (now (top .entry)) cursor (now (attached .entry)) clock timeout join tagged tags)
-        → Served (device (now (ids .entry)) asked notes deadlines counts clients originals (now (top .entry)) cursor (now (attached .entry)) clock timeout join tagged tags) (linkLost) r
-        (device (now (ids .exit)) asked notes deadlines counts clients originals (now (top .exit)) cursor (now (attached .exit)) clock timeout join tagged tags) [] []) ⌝ }
+        → Sounds (lent (now (ids .entry)) asked notes deadlines counts clients originals (now (top .entry)) cursor (now (attached .entry)) clock timeout join tagged tags)
+        → Told (lent (now (ids .entry)) asked notes deadlines counts clients originals (now (top .entry)) cursor (now (attached .entry)) clock timeout join tagged tags) (linkLost) r
+        (lent (now (ids .exit)) asked notes deadlines counts clients originals (now (top .exit)) cursor (now (attached .exit)) clock timeout join tagged tags) [] []) ⌝ }
 {
     machine::report_of(proxy::attaching::link_lost(ids, top, attached))
 }

@@ -1,10 +1,10 @@
--- `zilborteka::cores::link_lost` meets its contract: the call below does, and its answer is told in numbers.
+-- `cores::link_lost` meets its contract: the call below does, and its answer is told in numbers.
 -- Assumes nothing.
 use Rattle.proxy.specs.State.{kept}
-use Rattle.zilborteka.proofs.SeenLaws.{as-seen}
+use Rattle.cores.proofs.SeenLaws.{as-seen}
 use borrow.Author.Needs.{needs}
-use Rattle.zilborteka.proofs.cores.link_lost.Statement.{statement}
-use Rattle.zilborteka.proofs.cores.link_lost.Tie as tie
+use Rattle.cores.proofs.link_lost.Statement.{statement}
+use Rattle.cores.proofs.link_lost.Tie as tie
 
 returns : tie.Need-returns
 returns c asked notes deadlines counts clients originals cursor clock timeout join tagged tags made =
