@@ -14,6 +14,9 @@ def fact(log):
         found = re.match(r"(?:note: )?\S*?/(src|specs|proofs)/(\S+?):\d+:\d+: (error: )?(?:`([^`]+)`)?", line)
         if not found or not (found.group(3) or line.startswith('note: ')):
             continue
+        # a proof that waits for another function's: the fact is that function's
+        if 'was not admitted' in line:
+            continue
         part, path, _, name = found.groups()
         if part == 'proofs' and path.endswith('/Proof.antt'):
             return f'the promise of `{path.split("/")[-2]}`, at `{name}` of its proof'
