@@ -4,17 +4,15 @@ use Prim.Native.Nat.{ℕ}
 use mathlib.Core.Path.{_≡_, ap, sym, subst, _∙_}
 use mathlib.Core.List.{List}
 use Rattle.settings.specs.declared.Settings.{Settings}
-use Rattle.settings.specs.Values.{valueOf}
-use Rattle.machine.specs.Machine.{made}
 use Rattle.machine.specs.Calls.{Call, done}
 use Rattle.machine.specs.Outcomes.{outcome}
 use Rattle.machine.specs.declared.Answer.{Answer}
-use Rattle.proxy.specs.State.{State as Columned, machineOf, Sounds}
-use Rattle.proxy.specs.Gates.{adopted, makingRefusal}
+use Rattle.proxy.specs.State.{State as Columned, lent, machineOf, Sounds}
+use Rattle.proxy.specs.Calls.{Freshened}
 use Rattle.state.specs.States.{Made, stateOf, gathered}
 use Rattle.state.specs.declared.State.{State}
-use Rattle.state.proofs.GatherLaws.{lent, machine-back, made-back, spread-is}
-use Rattle.calls.specs.Stepped.{Carried, Served, Freshly, doneOr, AreOf}
+use Rattle.state.proofs.GatherLaws.{machine-back, made-back, spread-is}
+use Rattle.calls.specs.Stepped.{Carried, Served, Freshly, AreOf}
 use Rattle.calls.specs.declared.Columns.{Columns}
 use Rattle.calls.specs.declared.Stepped.{Stepped}
 
@@ -34,8 +32,8 @@ module _ (is ws bs ds ns cs os : List ℕ) (top cursor attached clock timeout jo
   carried c x a w l e = (ap (λ m. done a m w l) same ∙ e, kept-made)
 
   -- What making left in the columns is the fresh state.
-  pub freshly : (from : Settings) (n : ℕ) (a : Answer) → a ≡ doneOr n → n ≡ makingRefusal (valueOf from) → machineOf left ≡ made (adopted (valueOf from)) → Freshly from (record { state = s; answer = a })
-  freshly from n a t r e = (t ∙ ap doneOr r, same ∙ e, kept-made)
+  pub freshly : (from : Settings) (a : Answer) → Freshened from a left → Freshly from (record { state = s; answer = a })
+  freshly from a f = (f .0, same ∙ f .1, kept-made)
 
 -- what stands in the columns that a state was spread into, with the rest of the state
 module _ (s : State) (c : Columns) (spread : AreOf (s .entries) c) where

@@ -2,18 +2,14 @@
 -- Assumes nothing.
 use Prim.Native.Nat.{ℕ}
 use mathlib.Core.Path.{_≡_}
-use mathlib.Core.Bool.{cond}
 use mathlib.Core.List.{List, map}
-use lib.Dec.{eqb}
 use Rattle.settings.specs.declared.Settings.{Settings}
 use Rattle.settings.specs.Values.{valueOf}
 use Rattle.machine.specs.Machine.{made}
 use Rattle.machine.specs.Calls.{Call, done}
 use Rattle.machine.specs.Outcomes.{outcome}
-use Rattle.machine.specs.declared.Answer.{Answer}
-use Rattle.machine.specs.declared.Answer.the-variants.{Refused, Done}
 use Rattle.proxy.specs.State.{State as Columned, machineOf}
-use Rattle.proxy.specs.Gates.{adopted, makingRefusal}
+use Rattle.proxy.specs.Gates.{adopted, makingAnswer}
 use Rattle.state.specs.declared.Place.{Place}
 use Rattle.state.specs.declared.State.{State}
 use Rattle.state.specs.Places.{numberOf, wordIn, callerOf, deadlineOf, countOf}
@@ -34,11 +30,7 @@ Carried c x r w l = (done (r .answer) (machineOf (stateOf (r .state))) w l ≡ o
 abbrev pub Served : State → Call → Stepped → (written listed : List ℕ) → Type 0
 Served s = Carried (stateOf s)
 
--- done where nothing is refused
-unfoldable pub doneOr : ℕ → Answer
-doneOr n = cond (eqb n 0) Done (Refused n)
-
 -- a fresh state: the machine that document 01 makes from the value, or from the usual one beside refusal 10
 abbrev pub Freshly : Settings → Stepped → Type 0
 Freshly from r =
-    (r .answer ≡ doneOr (makingRefusal (valueOf from))) × (machineOf (stateOf (r .state)) ≡ made (adopted (valueOf from))) × Made (r .state)
+    (r .answer ≡ makingAnswer (valueOf from)) × (machineOf (stateOf (r .state)) ≡ made (adopted (valueOf from))) × Made (r .state)

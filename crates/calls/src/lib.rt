@@ -7,7 +7,7 @@ ghost use mathlib.Core.Path.{_≡_};
 ghost use mathlib.Core.List.{[]};
 ghost use Rattle.machine.specs.Calls.Call.{attach as attaches, detach as detaches, linkLost};
 ghost use Rattle.state.specs.States.{Made};
-ghost use Rattle.calls.specs.Stepped.{Served, Freshly, doneOr, AreOf};
+ghost use Rattle.calls.specs.Stepped.{Served, Freshly, AreOf};
 
 // What a call gives: the state afterwards and the answer.
 pub struct Stepped {
@@ -50,16 +50,6 @@ pub fn columns_of(entries: [Place; laws::PLACES]) -> Columns
     }
 }
 
-// Done where nothing is refused.
-fn done_or(refusal: u32) -> Answer
-    ensures { λ r. ⌜ r ≡ doneOr refusal ⌝ }
-{
-    if refusal == 0 {
-        return Answer::Done;
-    }
-    Answer::Refused { number: refusal }
-}
-
 // A fresh state over columns by value, whatever they hold.
 fn freshened(
     mut ids: [u32; laws::PLACES],
@@ -81,7 +71,7 @@ fn freshened(
 ) -> Stepped
     ensures { λ r. ⌜ Freshly from r ⌝ }
 {
-    let refused = proxy::making::fresh(
+    let answer = proxy::making::fresh(
         &mut ids,
         &mut asked,
         &mut notes,
@@ -99,7 +89,6 @@ fn freshened(
         &mut tags,
         from,
     );
-    let answer = done_or(refused);
     let state = state::gather(
         ids,
         asked,

@@ -1,14 +1,13 @@
 // The cores of the entry points: each call over the fields that a device lends, its answer in the C host's numbers.
 use machine::Report;
-use reports::done_or;
 use settings::Settings;
 ghost use mathlib.Core.List.{List, []};
 ghost use Prim.Native.Nat.{ℕ, _≤_};
 ghost use Rattle.laws.specs.Numbers.{places};
 ghost use Rattle.machine.specs.Calls.Call.{attach as attaches, detach as detaches, request as asks, reply as replies, tick as ticks, linkLost};
 ghost use Rattle.table.specs.Changes.{Runs};
-ghost use Rattle.proxy.specs.State.{Sounds};
-ghost use Rattle.cores.specs.Told.{lent, Told, Freshened};
+ghost use Rattle.proxy.specs.State.{lent, Sounds};
+ghost use Rattle.proxy.specs.Calls.{Told, FreshlyTold};
 
 // Makes the device fresh, whatever it was.
 pub fn fresh<'a>(
@@ -29,9 +28,9 @@ pub fn fresh<'a>(
     tags: &'a mut [u64; laws::MOST_TAGS],
     from: Settings,
 ) -> Report
-    ensures { λ r. ⌜ Freshened from r (lent (now (ids .exit)) (now (asked .exit)) (now (notes .exit)) (now (deadlines .exit)) (now (counts .exit)) (now (clients .exit)) (now (originals .exit)) (now (top .exit)) (now (cursor .exit)) (now (attached .exit)) (now (clock .exit)) (now (timeout .exit)) (now (join .exit)) (now (tagged .exit)) (now (tags .exit))) ⌝ }
+    ensures { λ r. ⌜ FreshlyTold from r (lent (now (ids .exit)) (now (asked .exit)) (now (notes .exit)) (now (deadlines .exit)) (now (counts .exit)) (now (clients .exit)) (now (originals .exit)) (now (top .exit)) (now (cursor .exit)) (now (attached .exit)) (now (clock .exit)) (now (timeout .exit)) (now (join .exit)) (now (tagged .exit)) (now (tags .exit))) ⌝ }
 {
-    let refused = proxy::making::fresh(
+    machine::report_of(proxy::making::fresh(
         ids,
         asked,
         notes,
@@ -48,8 +47,7 @@ pub fn fresh<'a>(
         tagged,
         tags,
         from,
-    );
-    done_or(refused)
+    ))
 }
 
 // Attaches a client.

@@ -1,7 +1,10 @@
--- The C host's numbers of each answer.
+-- The C host's numbers of each answer, and of the whole outcome of a call.
 -- Assumes nothing.
 use Prim.Native.Nat.{ℕ}
+use mathlib.Core.List.{List}
 use Rattle.laws.specs.Numbers.{exceptionFrame}
+use Rattle.machine.specs.Machine.{Machine}
+use Rattle.machine.specs.Calls.{Done as Whole}
 use Rattle.machine.specs.declared.Answer.{Answer}
 use Rattle.machine.specs.declared.Answer.the-variants.{Refused, Done, Issued, Joined, Excepted, Answered, TimedOut, NothingDue, Lost}
 use Rattle.machine.specs.declared.Report.{Report}
@@ -42,3 +45,17 @@ numbers (Answered i n k p v) = report 0 isAnswered n k p v 0 (i .0) 0
 numbers (TimedOut i k) = report 0 isTimedOut exceptionFrame k 0 0 0 (i .0) 0
 numbers NothingDue = report 0 isNothingDue 0 0 0 0 0 0 0
 numbers (Lost s) = report 0 isDone 0 0 0 0 s 0 0
+
+-- what a C host sees of a call: the report's numbers, the machine afterwards, and every byte and number of the lent buffers
+pub record Reported : Type 0 where
+  pub says : Report
+  pub after : Machine
+  pub written : List ℕ
+  pub listed : List ℕ
+
+abbrev pub reported : Report → Machine → List ℕ → List ℕ → Reported
+reported r m w l = record { says = r; after = m; written = w; listed = l }
+
+-- the whole outcome of a call, its answer in numbers
+abbrev pub numbered : Whole → Reported
+numbered d = reported (numbers (d .says)) (d .after) (d .written) (d .listed)

@@ -70,7 +70,7 @@ module _ (s : State) (sounds : Sounds s) where
   -- Attach on any book is attach on this state, keeps it sound, and leaves it where it is refused.
   pub attach-does : (client set : ℕ) (answer : Answer) → ((b : Live-book) → done answer (machine b set) [] [] ≡ outcome (machine b (s .attached)) (attach client))
       → ((numbers answer .refusal ≡ 0 → ⊥) → set ≡ s .attached)
-      → Does s (attach client) answer (state (s .table) (s .cursor) set (s .clock) (s .settings))
+      → Does s (attach client) answer (state (s .table) (s .cursor) set (s .clock) (s .settings)) [] []
   attach-does client set answer e stays = (
     e (machineOf s .book),
     record {
@@ -83,14 +83,14 @@ module _ (s : State) (sounds : Sounds s) where
   )
 
   -- Detach of a stranger is refusal 2.
-  pub detach-stranger : (client : ℕ) → isStranger (machineOf s) client ≡ true → Does s (detach client) (Refused 2) s
+  pub detach-stranger : (client : ℕ) → isStranger (machineOf s) client ≡ true → Does s (detach client) (Refused 2) s [] []
   unfolding rows lowest outOf listOf
   detach-stranger client t = (refused-is (machineOf s) (detach client) 2 (rw t) (λ z. omega arith), sounds, λ h. refl)
 
   -- Detach of an attached client strikes its parties out and takes it out of the set.
   pub detach-known : (client : ℕ) (ns cs os : List ℕ) → isStranger (machineOf s) client ≡ false
       → Struck (s .table .top) client (s .table .counts) (s .table .clients) (s .table .originals) ns cs os
-      → Does s (detach client) Finished (state (withParties (s .table) ns cs os) (s .cursor) (without (s .attached) client) (s .clock) (s .settings))
+      → Does s (detach client) Finished (state (withParties (s .table) ns cs os) (s .cursor) (without (s .attached) client) (s .clock) (s .settings)) [] []
   unfolding rows lowest granted numbers
   detach-known client ns cs os t d = (
     ap (λ b. done Finished (machine b (without (s .attached) client)) [] [])
@@ -135,7 +135,7 @@ pub emptied-is : (v : Value) (x t : ℕ) (c : Columns) → bookOf v (emptied c) 
 emptied-is v x t c = ap (λ l. book v l x t) (emptied-table c)
 
 -- Link lost removes every entry and everyone, and tells the former set.
-pub lost : (s : State) → Sounds s → Does s linkLost (Lost (s .attached)) (state (emptied (s .table)) (s .cursor) 0 (s .clock) (s .settings))
+pub lost : (s : State) → Sounds s → Does s linkLost (Lost (s .attached)) (state (emptied (s .table)) (s .cursor) 0 (s .clock) (s .settings)) [] []
 unfolding rows lowest granted numbers
 lost s sounds = (
   ap (λ b. done (Lost (s .attached)) (machine b 0) [] []) (emptied-is (valueIn (s .settings)) (s .cursor) (s .clock) (s .table))

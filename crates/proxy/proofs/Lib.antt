@@ -1,3 +1,4 @@
 pub mod StateLaws
 pub mod AttachLaws
 pub mod MakingLaws
+pub mod ToldLaws

@@ -22,12 +22,14 @@ use Rattle.settings.proofs.ValueLaws.{value-ext}
 use Rattle.settings.proofs.TagLaws.{words-kept, valid-ascends, valid-bounds}
 use Rattle.book.specs.Book.{book, at}
 use Rattle.machine.specs.Machine.{machine, made}
+use Rattle.machine.specs.declared.Answer.{Answer}
+use Rattle.machine.specs.declared.Answer.the-variants.{Refused, Done}
 use Rattle.table.specs.Columns.{Columns, columns, tableOf}
 use Rattle.table.specs.Changes.{blank}
 use Rattle.table.proofs.EntryLaws.{blank-table}
 use Rattle.table.proofs.ChangeLaws.{clear-sound}
 use Rattle.proxy.specs.State.{State, Kept, kept, valueIn, state, machineOf, Settled, Sounds}
-use Rattle.proxy.specs.Gates.{adopted, makingRefusal}
+use Rattle.proxy.specs.Gates.{adopted, makingAnswer}
 
 -- the usual value is valid
 pub usual-valid : valid usual ≡ true
@@ -40,13 +42,13 @@ unfolding adopted
 adopted-valid v = ⊎-elim (λ (t : valid v ≡ true). rw t t) (λ (t : valid v ≡ false). rw t usual-valid) (true-or (valid v))
 
 -- A valid value is adopted, and nothing is refused.
-pub adopts-valid : (v : Value) → valid v ≡ true → (makingRefusal v ≡ 0) × (adopted v ≡ v)
-unfolding adopted makingRefusal
+pub adopts-valid : (v : Value) → valid v ≡ true → (makingAnswer v ≡ Done) × (adopted v ≡ v)
+unfolding adopted makingAnswer
 adopts-valid v t = (rw t, rw t)
 
 -- An invalid one is refusal 10, beside the usual value.
-pub adopts-usual : (v : Value) → valid v ≡ false → (makingRefusal v ≡ 10) × (adopted v ≡ usual)
-unfolding adopted makingRefusal
+pub adopts-usual : (v : Value) → valid v ≡ false → (makingAnswer v ≡ Refused 10) × (adopted v ≡ usual)
+unfolding adopted makingAnswer
 adopts-usual v t = (rw t, rw t)
 
 -- the settings that keep a value: its numbers and its tag words
@@ -82,15 +84,13 @@ listed-tags s = length-tab (s .tags) _
 zeroed-sound : (c : Columns) (k : Kept) → c ≡ blank → Settled k → Sounds (state c 0 0 0 k)
 zeroed-sound c k e q = record { table = clear-sound c e; cursor = omega arith; attached = pow-pos clients; settings = q }
 
--- Columns of zeros with what was adopted are the fresh state, beside the refusal.
-pub made-fresh : (from w : Value) (n : ℕ) (c : Columns) (k : Kept) → (makingRefusal from ≡ n) × (adopted from ≡ w) → c ≡ blank → Keeps k w
-    → (n ≡ makingRefusal from) × ((machineOf (state c 0 0 0 k) ≡ made (adopted from)) × Sounds (state c 0 0 0 k))
-made-fresh from w n c k a e q = (
+-- Columns of zeros with what was adopted are the fresh state, beside the answer.
+pub made-fresh : (from w : Value) (answer : Answer) (c : Columns) (k : Kept) → (makingAnswer from ≡ answer) × (adopted from ≡ w) → c ≡ blank → Keeps k w
+    → (answer ≡ makingAnswer from) × (machineOf (state c 0 0 0 k) ≡ made (adopted from)) × Sounds (state c 0 0 0 k)
+made-fresh from w answer c k a e q = (
   sym (a .0),
-  (
-    ap (λ v. machine (book v (tableOf c) 0 0) 0) (q .0 ∙ sym (a .1)) ∙ ap (λ l. machine (book (adopted from) l 0 0) 0) (ap tableOf e ∙ blank-table),
-    zeroed-sound c k e (q .1),
-  ),
+  ap (λ v. machine (book v (tableOf c) 0 0) 0) (q .0 ∙ sym (a .1)) ∙ ap (λ l. machine (book (adopted from) l 0 0) 0) (ap tableOf e ∙ blank-table),
+  zeroed-sound c k e (q .1),
 )
 
 -- the state that is all zeros

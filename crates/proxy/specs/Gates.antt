@@ -1,4 +1,4 @@
--- The refusals that are told before a frame is looked into, and the settings that a fresh state has.
+-- The refusals that are told before a frame is looked into, and the settings and the answer of a fresh state.
 -- Assumes nothing.
 use Prim.Native.Nat.{ℕ}
 use mathlib.Core.Bool.{Bool, cond, not, _||_}
@@ -10,6 +10,8 @@ use Rattle.wire.specs.Frame.{misframed}
 use Rattle.settings.specs.Grammar.{Value, valid}
 use Rattle.settings.specs.Values.{usual}
 use Rattle.machine.specs.Refusals.{row, lowest}
+use Rattle.machine.specs.declared.Answer.{Answer}
+use Rattle.machine.specs.declared.Answer.the-variants.{Refused, Done}
 
 -- 1 to 4 of a request: the buffer's length, the client, the set of attached clients, the time, the clock, the frame
 unfoldable pub requestGate : (out client attached time clock : ℕ) → List ℕ → ℕ
@@ -34,6 +36,6 @@ replyGate out list time clock f =
 unfoldable pub adopted : Value → Value
 adopted v = cond (valid v) v usual
 
--- refusal 10 beside the fresh state for an invalid value, 0 for a valid one
-unfoldable pub makingRefusal : Value → ℕ
-makingRefusal v = cond (valid v) 0 10
+-- done for a valid value, refusal 10 beside the fresh state for an invalid one
+unfoldable pub makingAnswer : Value → Answer
+makingAnswer v = cond (valid v) Done (Refused 10)

@@ -66,7 +66,7 @@ pub fn detach<'a>(
         → Sounds (state (columns ids asked notes deadlines (now (counts .entry)) (now (clients .entry)) (now (originals .entry)) (now (top .entry))) x (now (attached .entry)) t k)
         → Does (state (columns ids asked notes deadlines (now (counts .entry)) (now (clients .entry)) (now (originals .entry)) (now (top .entry))) x (now (attached .entry)) t k)
         (detaches client) r
-        (state (columns ids asked notes deadlines (now (counts .exit)) (now (clients .exit)) (now (originals .exit)) (now (top .exit))) x (now (attached .exit)) t k)) ⌝ }
+        (state (columns ids asked notes deadlines (now (counts .exit)) (now (clients .exit)) (now (originals .exit)) (now (top .exit))) x (now (attached .exit)) t k) [] []) ⌝ }
 {
     if is_stranger(*attached, client) {
         return Answer::Refused { number: 2 };
@@ -86,7 +86,7 @@ pub fn link_lost<'a>(
         → Sounds (state (columns (now (ids .entry)) asked notes deadlines counts clients originals (now (top .entry))) x (now (attached .entry)) t k)
         → Does (state (columns (now (ids .entry)) asked notes deadlines counts clients originals (now (top .entry))) x (now (attached .entry)) t k)
         linkLost r
-        (state (columns (now (ids .exit)) asked notes deadlines counts clients originals (now (top .exit))) x (now (attached .exit)) t k)) ⌝ }
+        (state (columns (now (ids .exit)) asked notes deadlines counts clients originals (now (top .exit))) x (now (attached .exit)) t k) [] []) ⌝ }
 {
     let former = *attached;
     *ids = [0u32; laws::PLACES];

@@ -1,13 +1,12 @@
 // Making a fresh state from a settings value.
+use machine::Answer;
 use settings::Settings;
 ghost use mathlib.Core.Path.{_≡_};
 ghost use mathlib.Core.Bool.{true};
 ghost use Rattle.settings.specs.Grammar.{valid};
 ghost use Rattle.settings.specs.Values.{valueOf, usual as usualValue};
-ghost use Rattle.machine.specs.Machine.{made};
-ghost use Rattle.table.specs.Columns.{columns};
-ghost use Rattle.proxy.specs.State.{kept, valueIn, state, machineOf, Settled, Sounds};
-ghost use Rattle.proxy.specs.Gates.{adopted, makingRefusal};
+ghost use Rattle.proxy.specs.State.{kept, valueIn, lent, Settled};
+ghost use Rattle.proxy.specs.Calls.{Freshened};
 
 // Timeout 3000, join 1 and no tags.
 fn usual() -> Settings
@@ -40,7 +39,7 @@ fn adopt<'a>(
     settings::tagwords::fill_words(value, tags);
 }
 
-// Makes the lent state fresh, whatever it was. An invalid value is refusal 10, and the state is then made from the usual one; else 0.
+// Makes the lent state fresh, whatever it was. An invalid value is refusal 10, and the state is then made from the usual one.
 pub fn fresh<'a>(
     ids: &'a mut [u32; laws::PLACES],
     asked: &'a mut [u64; laws::PLACES],
@@ -58,13 +57,8 @@ pub fn fresh<'a>(
     tagged: &'a mut u32,
     tags: &'a mut [u64; laws::MOST_TAGS],
     from: Settings,
-) -> u32
-    ensures { λ r. ⌜ r ≡ makingRefusal (valueOf from) ⌝ }
-    ensures { λ r. ⌜ machineOf (state (columns (now (ids .exit)) (now (asked .exit)) (now (notes .exit)) (now (deadlines .exit)) (now (counts .exit)) (now (clients .exit)) (now (originals .exit)) (now (top .exit)))
-        (now (cursor .exit)) (now (attached .exit)) (now (clock .exit)) (kept (now (timeout .exit)) (now (join .exit)) (now (tagged .exit)) (now (tags .exit))))
-        ≡ made (adopted (valueOf from)) ⌝ }
-    ensures { λ r. ⌜ Sounds (state (columns (now (ids .exit)) (now (asked .exit)) (now (notes .exit)) (now (deadlines .exit)) (now (counts .exit)) (now (clients .exit)) (now (originals .exit)) (now (top .exit)))
-        (now (cursor .exit)) (now (attached .exit)) (now (clock .exit)) (kept (now (timeout .exit)) (now (join .exit)) (now (tagged .exit)) (now (tags .exit)))) ⌝ }
+) -> Answer
+    ensures { λ r. ⌜ Freshened from r (lent (now (ids .exit)) (now (asked .exit)) (now (notes .exit)) (now (deadlines .exit)) (now (counts .exit)) (now (clients .exit)) (now (originals .exit)) (now (top .exit)) (now (cursor .exit)) (now (attached .exit)) (now (clock .exit)) (now (timeout .exit)) (now (join .exit)) (now (tagged .exit)) (now (tags .exit))) ⌝ }
 {
     changing::clear(
         ids,
@@ -81,8 +75,8 @@ pub fn fresh<'a>(
     *clock = 0;
     if settings::values::is_valid(from) {
         adopt(timeout, join, tagged, tags, from);
-        return 0;
+        return Answer::Done;
     }
     adopt(timeout, join, tagged, tags, usual());
-    10
+    Answer::Refused { number: 10 }
 }

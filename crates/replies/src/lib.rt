@@ -2,8 +2,7 @@
 use calls::Stepped;
 use state::State;
 ghost use Rattle.machine.specs.Calls.Call.{reply as replies, tick as ticks};
-ghost use Rattle.table.specs.Columns.{columns};
-ghost use Rattle.proxy.specs.State.{state, kept, Sounds};
+ghost use Rattle.proxy.specs.State.{lent, Sounds};
 ghost use Rattle.state.specs.States.{Made};
 ghost use Rattle.calls.specs.Stepped.{Served, Carried};
 
@@ -29,8 +28,8 @@ fn replied(
     out: &mut [u8],
     list: &mut [u16],
 ) -> Stepped
-    requires { ⌜ Sounds (state (columns ids asked notes deadlines counts clients originals top) cursor attached clock (kept timeout join tagged tags)) ⌝ }
-    ensures { λ r. ⌜ Carried (state (columns ids asked notes deadlines counts clients originals top) cursor attached clock (kept timeout join tagged tags)) (replies time (now (frame .entry)) (now (out .entry)) (now (list .entry))) r (now (out .exit)) (now (list .exit)) ⌝ }
+    requires { ⌜ Sounds (lent ids asked notes deadlines counts clients originals top cursor attached clock timeout join tagged tags) ⌝ }
+    ensures { λ r. ⌜ Carried (lent ids asked notes deadlines counts clients originals top cursor attached clock timeout join tagged tags) (replies time (now (frame .entry)) (now (out .entry)) (now (list .entry))) r (now (out .exit)) (now (list .exit)) ⌝ }
 {
     let answer = replying::reply(
         &mut ids,
@@ -132,8 +131,8 @@ fn ticked(
     out: &mut [u8],
     list: &mut [u16],
 ) -> Stepped
-    requires { ⌜ Sounds (state (columns ids asked notes deadlines counts clients originals top) cursor attached clock (kept timeout join tagged tags)) ⌝ }
-    ensures { λ r. ⌜ Carried (state (columns ids asked notes deadlines counts clients originals top) cursor attached clock (kept timeout join tagged tags)) (ticks time (now (out .entry)) (now (list .entry))) r (now (out .exit)) (now (list .exit)) ⌝ }
+    requires { ⌜ Sounds (lent ids asked notes deadlines counts clients originals top cursor attached clock timeout join tagged tags) ⌝ }
+    ensures { λ r. ⌜ Carried (lent ids asked notes deadlines counts clients originals top cursor attached clock timeout join tagged tags) (ticks time (now (out .entry)) (now (list .entry))) r (now (out .exit)) (now (list .exit)) ⌝ }
 {
     let answer = replying::tick(
         &mut ids,

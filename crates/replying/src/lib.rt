@@ -12,14 +12,12 @@ ghost use Rattle.pdu.specs.Words.{whatOf, Proper};
 ghost use Rattle.rewrite.specs.Rewriting.{outcome as rewritten};
 ghost use Rattle.rewrite.specs.Frames.{returned, under};
 ghost use Rattle.rewrite.specs.Lent.{tagsOf, TagWords, Framed};
-ghost use Rattle.machine.specs.Calls.{done};
 ghost use Rattle.machine.specs.Calls.Call.{reply as replyCall, tick as tickCall};
 ghost use Rattle.machine.specs.Replies.{pairs};
-ghost use Rattle.machine.specs.Outcomes.{outcome};
-ghost use Rattle.table.specs.Columns.{columns, partiesAt};
+ghost use Rattle.table.specs.Columns.{partiesAt};
 ghost use Rattle.table.specs.Changes.{reach};
-ghost use Rattle.proxy.specs.State.{kept, state, machineOf, Sounds};
-ghost use Rattle.proxy.specs.Calls.{Untouched};
+ghost use Rattle.proxy.specs.State.{lent, Sounds};
+ghost use Rattle.proxy.specs.Calls.{Does};
 ghost use Rattle.proxy.specs.Gates.{replyGate, tickGate};
 
 // Refusals 1 and 3, which need no frame.
@@ -121,12 +119,9 @@ pub fn reply<'a>(
     out: &mut [u8],
     list: &mut [u16],
 ) -> Answer
-    requires { ⌜ Sounds (state (columns (now ids) (now asked) (now notes) (now deadlines) (now counts) (now clients) (now originals) (now top)) (now cursor) (now attached) (now clock) (kept (now timeout) (now join) (now tagged) (now tags))) ⌝ }
-    ensures { λ r. ⌜ done r (machineOf (state (columns (now (ids .exit)) (now (asked .exit)) (now (notes .exit)) (now (deadlines .exit)) (now (counts .exit)) (now (clients .exit)) (now (originals .exit)) (now (top .exit))) (now (cursor .exit)) (now (attached .exit)) (now (clock .exit)) (kept (now (timeout .exit)) (now (join .exit)) (now (tagged .exit)) (now (tags .exit))))) (now (out .exit)) (now (list .exit))
-        ≡ outcome (machineOf (state (columns (now (ids .entry)) (now (asked .entry)) (now (notes .entry)) (now (deadlines .entry)) (now (counts .entry)) (now (clients .entry)) (now (originals .entry)) (now (top .entry))) (now (cursor .entry)) (now (attached .entry)) (now (clock .entry)) (kept (now (timeout .entry)) (now (join .entry)) (now (tagged .entry)) (now (tags .entry))))) (replyCall time (now (frame .entry)) (now (out .entry)) (now (list .entry))) ⌝ }
-    ensures { λ r. ⌜ Sounds (state (columns (now (ids .exit)) (now (asked .exit)) (now (notes .exit)) (now (deadlines .exit)) (now (counts .exit)) (now (clients .exit)) (now (originals .exit)) (now (top .exit))) (now (cursor .exit)) (now (attached .exit)) (now (clock .exit)) (kept (now (timeout .exit)) (now (join .exit)) (now (tagged .exit)) (now (tags .exit)))) ⌝ }
-    ensures { λ r. ⌜ Untouched r (state (columns (now (ids .entry)) (now (asked .entry)) (now (notes .entry)) (now (deadlines .entry)) (now (counts .entry)) (now (clients .entry)) (now (originals .entry)) (now (top .entry))) (now (cursor .entry)) (now (attached .entry)) (now (clock .entry)) (kept (now (timeout .entry)) (now (join .entry)) (now (tagged .entry)) (now (tags .entry))))
-        (state (columns (now (ids .exit)) (now (asked .exit)) (now (notes .exit)) (now (deadlines .exit)) (now (counts .exit)) (now (clients .exit)) (now (originals .exit)) (now (top .exit))) (now (cursor .exit)) (now (attached .exit)) (now (clock .exit)) (kept (now (timeout .exit)) (now (join .exit)) (now (tagged .exit)) (now (tags .exit)))) ⌝ }
+    requires { ⌜ Sounds (lent (now ids) (now asked) (now notes) (now deadlines) (now counts) (now clients) (now originals) (now top) (now cursor) (now attached) (now clock) (now timeout) (now join) (now tagged) (now tags)) ⌝ }
+    ensures { λ r. ⌜ Does (lent (now (ids .entry)) (now (asked .entry)) (now (notes .entry)) (now (deadlines .entry)) (now (counts .entry)) (now (clients .entry)) (now (originals .entry)) (now (top .entry)) (now (cursor .entry)) (now (attached .entry)) (now (clock .entry)) (now (timeout .entry)) (now (join .entry)) (now (tagged .entry)) (now (tags .entry))) (replyCall time (now (frame .entry)) (now (out .entry)) (now (list .entry))) r
+        (lent (now (ids .exit)) (now (asked .exit)) (now (notes .exit)) (now (deadlines .exit)) (now (counts .exit)) (now (clients .exit)) (now (originals .exit)) (now (top .exit)) (now (cursor .exit)) (now (attached .exit)) (now (clock .exit)) (now (timeout .exit)) (now (join .exit)) (now (tagged .exit)) (now (tags .exit))) (now (out .exit)) (now (list .exit)) ⌝ }
 {
     let refused = reply_refusal(out.len(), list.len(), time, *clock, frame);
     if refused != 0 {
@@ -175,12 +170,9 @@ pub fn tick<'a>(
     out: &mut [u8],
     list: &mut [u16],
 ) -> Answer
-    requires { ⌜ Sounds (state (columns (now ids) (now asked) (now notes) (now deadlines) (now counts) (now clients) (now originals) (now top)) (now cursor) (now attached) (now clock) (kept (now timeout) (now join) (now tagged) (now tags))) ⌝ }
-    ensures { λ r. ⌜ done r (machineOf (state (columns (now (ids .exit)) (now (asked .exit)) (now (notes .exit)) (now (deadlines .exit)) (now (counts .exit)) (now (clients .exit)) (now (originals .exit)) (now (top .exit))) (now (cursor .exit)) (now (attached .exit)) (now (clock .exit)) (kept (now (timeout .exit)) (now (join .exit)) (now (tagged .exit)) (now (tags .exit))))) (now (out .exit)) (now (list .exit))
-        ≡ outcome (machineOf (state (columns (now (ids .entry)) (now (asked .entry)) (now (notes .entry)) (now (deadlines .entry)) (now (counts .entry)) (now (clients .entry)) (now (originals .entry)) (now (top .entry))) (now (cursor .entry)) (now (attached .entry)) (now (clock .entry)) (kept (now (timeout .entry)) (now (join .entry)) (now (tagged .entry)) (now (tags .entry))))) (tickCall time (now (out .entry)) (now (list .entry))) ⌝ }
-    ensures { λ r. ⌜ Sounds (state (columns (now (ids .exit)) (now (asked .exit)) (now (notes .exit)) (now (deadlines .exit)) (now (counts .exit)) (now (clients .exit)) (now (originals .exit)) (now (top .exit))) (now (cursor .exit)) (now (attached .exit)) (now (clock .exit)) (kept (now (timeout .exit)) (now (join .exit)) (now (tagged .exit)) (now (tags .exit)))) ⌝ }
-    ensures { λ r. ⌜ Untouched r (state (columns (now (ids .entry)) (now (asked .entry)) (now (notes .entry)) (now (deadlines .entry)) (now (counts .entry)) (now (clients .entry)) (now (originals .entry)) (now (top .entry))) (now (cursor .entry)) (now (attached .entry)) (now (clock .entry)) (kept (now (timeout .entry)) (now (join .entry)) (now (tagged .entry)) (now (tags .entry))))
-        (state (columns (now (ids .exit)) (now (asked .exit)) (now (notes .exit)) (now (deadlines .exit)) (now (counts .exit)) (now (clients .exit)) (now (originals .exit)) (now (top .exit))) (now (cursor .exit)) (now (attached .exit)) (now (clock .exit)) (kept (now (timeout .exit)) (now (join .exit)) (now (tagged .exit)) (now (tags .exit)))) ⌝ }
+    requires { ⌜ Sounds (lent (now ids) (now asked) (now notes) (now deadlines) (now counts) (now clients) (now originals) (now top) (now cursor) (now attached) (now clock) (now timeout) (now join) (now tagged) (now tags)) ⌝ }
+    ensures { λ r. ⌜ Does (lent (now (ids .entry)) (now (asked .entry)) (now (notes .entry)) (now (deadlines .entry)) (now (counts .entry)) (now (clients .entry)) (now (originals .entry)) (now (top .entry)) (now (cursor .entry)) (now (attached .entry)) (now (clock .entry)) (now (timeout .entry)) (now (join .entry)) (now (tagged .entry)) (now (tags .entry))) (tickCall time (now (out .entry)) (now (list .entry))) r
+        (lent (now (ids .exit)) (now (asked .exit)) (now (notes .exit)) (now (deadlines .exit)) (now (counts .exit)) (now (clients .exit)) (now (originals .exit)) (now (top .exit)) (now (cursor .exit)) (now (attached .exit)) (now (clock .exit)) (now (timeout .exit)) (now (join .exit)) (now (tagged .exit)) (now (tags .exit))) (now (out .exit)) (now (list .exit)) ⌝ }
 {
     let refused = tick_refusal(out.len(), list.len(), time, *clock);
     if refused != 0 {

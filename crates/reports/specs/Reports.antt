@@ -1,9 +1,7 @@
--- What is reported of splitting, of settings read and written, and of making a device fresh.
+-- What is reported of splitting, and of settings read and written.
 -- Assumes nothing.
 use Prim.Native.Nat.{ℕ}
-use mathlib.Core.Bool.{cond}
 use mathlib.Core.List.{List}
-use lib.Dec.{eqb}
 use Rattle.wire.specs.declared.Split.{Split}
 use Rattle.wire.specs.declared.Split.the-variants.{Frame, MoreNeeded, Refused}
 use Rattle.settings.specs.Grammar.{Value, Read}
@@ -27,10 +25,6 @@ isMore = 9
 -- a report that speaks of these four, and has 0 elsewhere
 abbrev pub told : (refusal line outcome length : ℕ) → Report
 told r k o n = record { refusal = r; line = k; outcome = o; length = n; parties = 0; partial = 0; value = 0; set = 0; id = 0; code = 0 }
-
--- done where nothing is refused
-unfoldable pub doneOr : ℕ → Report
-doneOr n = cond (eqb n 0) (told 0 0 isDone 0) (told n 0 0 0)
 
 -- splitting, with the first frame's length
 unfoldable pub splitTold : Split → ℕ → Report

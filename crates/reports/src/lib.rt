@@ -1,4 +1,4 @@
-// What the C host is told of the calls that need no device, and of making one: splitting a run, settings read and written.
+// What the C host is told of the calls that need no device: splitting a run, settings read and written.
 use machine::DONE;
 use machine::Report;
 use settings::Settings;
@@ -10,7 +10,7 @@ ghost use Rattle.wire.specs.Splitting.{standingOf, firstFrame};
 ghost use Rattle.settings.specs.Grammar.{readText};
 ghost use Rattle.settings.specs.Values.{valueOf};
 ghost use Rattle.writing.specs.Reports.{writtenTo};
-ghost use Rattle.reports.specs.Reports.{told, doneOr, splitTold, readTold, textSeen, writeTold};
+ghost use Rattle.reports.specs.Reports.{told, splitTold, readTold, textSeen, writeTold};
 
 // The outcomes' numbers beside the machine's: ZB_FRAME and ZB_MORE.
 const FRAME: u32 = 8;
@@ -33,16 +33,6 @@ fn said(refusal: u32, line: u32, outcome: u32, length: u32) -> Report
         id: 0,
         code: 0,
     }
-}
-
-// Done where nothing is refused.
-pub fn done_or(refusal: u32) -> Report
-    ensures { λ r. ⌜ r ≡ doneOr refusal ⌝ }
-{
-    if refusal == 0 {
-        return said(0, 0, DONE, 0);
-    }
-    said(refusal, 0, 0, 0)
 }
 
 // What reading a settings text gives: C's zb_read.

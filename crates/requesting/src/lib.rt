@@ -19,12 +19,11 @@ ghost use Rattle.machine.specs.Machine.{Machine};
 ghost use Rattle.machine.specs.Calls.{done};
 ghost use Rattle.machine.specs.Calls.Call.{request as asks};
 ghost use Rattle.machine.specs.Requests.{joins, excepted, issuedTo, served};
-ghost use Rattle.machine.specs.Outcomes.{outcome};
 ghost use Rattle.table.specs.Columns.{columns, party, Sound};
 ghost use Rattle.table.specs.Changes.{Runs, Joined};
 ghost use Rattle.table.specs.Places.{isFree};
-ghost use Rattle.proxy.specs.State.{kept, state, machineOf, Settled, Sounds};
-ghost use Rattle.proxy.specs.Calls.{Untouched};
+ghost use Rattle.proxy.specs.State.{kept, lent, Settled, Sounds};
+ghost use Rattle.proxy.specs.Calls.{Does};
 ghost use Rattle.proxy.specs.Gates.{requestGate};
 ghost use Rattle.requesting.specs.Parts.{Admitted, Asks, Came};
 
@@ -264,12 +263,9 @@ pub fn request<'a>(
     frame: &[u8],
     out: &mut [u8],
 ) -> Answer
-    requires { ⌜ Sounds (state (columns (now ids) (now asked) (now notes) (now deadlines) (now counts) (now clients) (now originals) (now top)) (now cursor) (now attached) (now clock) (kept (now timeout) (now join) (now tagged) (now tags))) ⌝ }
-    ensures { λ r. ⌜ done r (machineOf (state (columns (now (ids .exit)) (now (asked .exit)) (now (notes .exit)) (now (deadlines .exit)) (now (counts .exit)) (now (clients .exit)) (now (originals .exit)) (now (top .exit))) (now (cursor .exit)) (now (attached .exit)) (now (clock .exit)) (kept (now (timeout .exit)) (now (join .exit)) (now (tagged .exit)) (now (tags .exit))))) (now (out .exit)) []
-        ≡ outcome (machineOf (state (columns (now (ids .entry)) (now (asked .entry)) (now (notes .entry)) (now (deadlines .entry)) (now (counts .entry)) (now (clients .entry)) (now (originals .entry)) (now (top .entry))) (now (cursor .entry)) (now (attached .entry)) (now (clock .entry)) (kept (now (timeout .entry)) (now (join .entry)) (now (tagged .entry)) (now (tags .entry))))) (asks client time (now (frame .entry)) (now (out .entry))) ⌝ }
-    ensures { λ r. ⌜ Sounds (state (columns (now (ids .exit)) (now (asked .exit)) (now (notes .exit)) (now (deadlines .exit)) (now (counts .exit)) (now (clients .exit)) (now (originals .exit)) (now (top .exit))) (now (cursor .exit)) (now (attached .exit)) (now (clock .exit)) (kept (now (timeout .exit)) (now (join .exit)) (now (tagged .exit)) (now (tags .exit)))) ⌝ }
-    ensures { λ r. ⌜ Untouched r (state (columns (now (ids .entry)) (now (asked .entry)) (now (notes .entry)) (now (deadlines .entry)) (now (counts .entry)) (now (clients .entry)) (now (originals .entry)) (now (top .entry))) (now (cursor .entry)) (now (attached .entry)) (now (clock .entry)) (kept (now (timeout .entry)) (now (join .entry)) (now (tagged .entry)) (now (tags .entry))))
-        (state (columns (now (ids .exit)) (now (asked .exit)) (now (notes .exit)) (now (deadlines .exit)) (now (counts .exit)) (now (clients .exit)) (now (originals .exit)) (now (top .exit))) (now (cursor .exit)) (now (attached .exit)) (now (clock .exit)) (kept (now (timeout .exit)) (now (join .exit)) (now (tagged .exit)) (now (tags .exit)))) ⌝ }
+    requires { ⌜ Sounds (lent (now ids) (now asked) (now notes) (now deadlines) (now counts) (now clients) (now originals) (now top) (now cursor) (now attached) (now clock) (now timeout) (now join) (now tagged) (now tags)) ⌝ }
+    ensures { λ r. ⌜ Does (lent (now (ids .entry)) (now (asked .entry)) (now (notes .entry)) (now (deadlines .entry)) (now (counts .entry)) (now (clients .entry)) (now (originals .entry)) (now (top .entry)) (now (cursor .entry)) (now (attached .entry)) (now (clock .entry)) (now (timeout .entry)) (now (join .entry)) (now (tagged .entry)) (now (tags .entry))) (asks client time (now (frame .entry)) (now (out .entry))) r
+        (lent (now (ids .exit)) (now (asked .exit)) (now (notes .exit)) (now (deadlines .exit)) (now (counts .exit)) (now (clients .exit)) (now (originals .exit)) (now (top .exit)) (now (cursor .exit)) (now (attached .exit)) (now (clock .exit)) (now (timeout .exit)) (now (join .exit)) (now (tagged .exit)) (now (tags .exit))) (now (out .exit)) [] ⌝ }
 {
     let refused = gate(out.len(), client, *attached, time, *clock, frame);
     if refused != 0 {

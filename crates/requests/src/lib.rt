@@ -3,8 +3,7 @@ use calls::Stepped;
 use state::State;
 ghost use mathlib.Core.List.{[]};
 ghost use Rattle.machine.specs.Calls.Call.{request as asks};
-ghost use Rattle.table.specs.Columns.{columns};
-ghost use Rattle.proxy.specs.State.{state, kept, Sounds};
+ghost use Rattle.proxy.specs.State.{lent, Sounds};
 ghost use Rattle.state.specs.States.{Made};
 ghost use Rattle.calls.specs.Stepped.{Served, Carried};
 
@@ -30,8 +29,8 @@ fn requested(
     frame: &[u8],
     out: &mut [u8],
 ) -> Stepped
-    requires { ⌜ Sounds (state (columns ids asked notes deadlines counts clients originals top) cursor attached clock (kept timeout join tagged tags)) ⌝ }
-    ensures { λ r. ⌜ Carried (state (columns ids asked notes deadlines counts clients originals top) cursor attached clock (kept timeout join tagged tags)) (asks client time (now (frame .entry)) (now (out .entry))) r (now (out .exit)) [] ⌝ }
+    requires { ⌜ Sounds (lent ids asked notes deadlines counts clients originals top cursor attached clock timeout join tagged tags) ⌝ }
+    ensures { λ r. ⌜ Carried (lent ids asked notes deadlines counts clients originals top cursor attached clock timeout join tagged tags) (asks client time (now (frame .entry)) (now (out .entry))) r (now (out .exit)) [] ⌝ }
 {
     let answer = requesting::request(
         &mut ids,

@@ -16,7 +16,7 @@ use Rattle.laws.proofs.ListLaws.{tab-ext, tab-getD, map-tab, length-tab, getD-t
 use Rattle.book.specs.Book.{book}
 use Rattle.machine.specs.Machine.{machine}
 use Rattle.table.specs.Columns.{Columns, columns, entryAt, tableOf, Sound}
-use Rattle.proxy.specs.State.{State as Columned, kept, valueIn, state, machineOf, Sounds}
+use Rattle.proxy.specs.State.{kept, lent, valueIn, machineOf, Sounds}
 use Rattle.state.specs.Places.{numberOf, wordIn, callerOf, deadlineOf, countOf}
 use Rattle.state.specs.States.{stateOf, Made, rowAt, gathered}
 use Rattle.state.specs.declared.Place.{Place}
@@ -89,24 +89,19 @@ module _ (is ws bs ds ns cs os : List ℕ) (top : ℕ) (sound : Sound (columns i
       live-low : (k : ℕ) → (getD is k 0 ≡ 0 → ⊥) → k < places
       live-low k live = ⊎-elim (λ l. l) (λ l. absurd (live (sound .above k (omega (arith, sound .within, l))))) (lt-or k places)
 
--- the state that columns and numbers are
-module _ (is ws bs ds ns cs os : List ℕ) (top cursor attached clock timeout join tagged : ℕ) (tags : List ℕ) where
-  abbrev pub lent : Columned
-  lent = state (columns is ws bs ds ns cs os top) cursor attached clock (kept timeout join tagged tags)
+module _ (is ws bs ds ns cs os : List ℕ) (top cursor attached clock timeout join tagged : ℕ) (tags : List ℕ) (sounds : Sounds (lent is ws bs ds ns cs os top cursor attached clock timeout join tagged tags)) where
+  -- The gathered state is the machine that the columns are.
+  pub machine-back : machineOf (stateOf (gathered is ws bs ds ns cs os top cursor attached clock timeout join tagged tags)) ≡ machineOf (lent is ws bs ds ns cs os top cursor attached clock timeout join tagged tags)
+  machine-back = ap (λ t. machine (book (valueIn (kept timeout join tagged tags)) t cursor clock) attached) (table-back is ws bs ds ns cs os top (sounds .table))
 
-  module _ (sounds : Sounds lent) where
-    -- The gathered state is the machine that the columns are.
-    pub machine-back : machineOf (stateOf (gathered is ws bs ds ns cs os top cursor attached clock timeout join tagged tags)) ≡ machineOf lent
-    machine-back = ap (λ t. machine (book (valueIn (kept timeout join tagged tags)) t cursor clock) attached) (table-back is ws bs ds ns cs os top (sounds .table))
-
-    -- And it is sound.
-    pub made-back : Made (gathered is ws bs ds ns cs os top cursor attached clock timeout join tagged tags)
-    made-back = record {
-      table = sound-back is ws bs ds ns cs os top (sounds .table);
-      cursor = sounds .cursor;
-      attached = sounds .attached;
-      settings = sounds .settings;
-    }
+  -- And it is sound.
+  pub made-back : Made (gathered is ws bs ds ns cs os top cursor attached clock timeout join tagged tags)
+  made-back = record {
+    table = sound-back is ws bs ds ns cs os top (sounds .table);
+    cursor = sounds .cursor;
+    attached = sounds .attached;
+    settings = sounds .settings;
+  }
 
 -- The columns that a state was spread into are, with the rest of it, that state.
 pub spread-is : (s : State) (is ws bs ds ns : List ℕ)

@@ -5,8 +5,7 @@ use mathlib.Core.List.{List, map}
 use lib.ListN.{getD}
 use Rattle.laws.specs.Numbers.{places}
 use Rattle.laws.specs.Lists.{tab}
-use Rattle.table.specs.Columns.{columns}
-use Rattle.proxy.specs.State.{State as Columned, kept, state, Sounds}
+use Rattle.proxy.specs.State.{State as Columned, lent, Sounds}
 use Rattle.state.specs.declared.Place.{Place}
 use Rattle.state.specs.declared.State.{State}
 use Rattle.state.specs.Places.{placeOf, numberOf, wordIn, callerOf, deadlineOf, countOf}
@@ -14,10 +13,8 @@ use Rattle.state.specs.Places.{placeOf, numberOf, wordIn, callerOf, dead
 -- the columns and numbers that a state by value is
 abbrev pub stateOf : State → Columned
 stateOf s =
-    state
-    (columns (map numberOf (s .entries)) (map wordIn (s .entries)) (map callerOf (s .entries)) (map deadlineOf (s .entries)) (map countOf (s .entries))
-    (s .clients) (s .originals) (s .top))
-    (s .cursor .0) (s .attached) (s .clock) (kept (s .timeout) (s .join) (s .tagged) (s .tags))
+    lent (map numberOf (s .entries)) (map wordIn (s .entries)) (map callerOf (s .entries)) (map deadlineOf (s .entries)) (map countOf (s .entries))
+    (s .clients) (s .originals) (s .top) (s .cursor .0) (s .attached) (s .clock) (s .timeout) (s .join) (s .tagged) (s .tags)
 
 -- every state by value that the calls made
 abbrev pub Made : State → Type 0

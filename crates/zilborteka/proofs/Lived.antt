@@ -17,7 +17,7 @@ use Rattle.machine.proofs.Histories.{product, afterCalls, toldBy, accounted}
 use Rattle.proxy.specs.State.{machineOf}
 use Rattle.proxy.specs.Gates.{adopted}
 use Rattle.zilborteka.specs.declared.Device.{Device}
-use Rattle.cores.specs.Seen.{Seen as Whole}
+use Rattle.machine.specs.Numbers.{Reported}
 use Rattle.zilborteka.specs.Device.{stateOf, Made, Served, Freshly}
 use Rattle.zilborteka.specs.Lives.{Line, callsOf, Lived, toldIn}
 use Rattle.zilborteka.specs.Lives.Lived.{none, then}
@@ -34,7 +34,7 @@ module _ {d e : Device} (x : Line) (s : Served d (x .call) (x .saw .report) e (x
   seen : x .saw ≡ seenOf (outcome (machineIn d) (x .call))
   seen = ap sees (s .0)
     where
-      sees : Whole → Seen
+      sees : Reported → Seen
       sees y = record { report = y .says; frame = y .written; list = y .listed }
 
 module _ (v : Value) where

@@ -14,7 +14,7 @@ use Rattle.machine.specs.declared.Report.{Report}
 use Rattle.proxy.specs.State.{machineOf}
 use Rattle.zilborteka.specs.declared.Device.{Device}
 use Rattle.reports.specs.declared.SettingsRead.{SettingsRead}
-use Rattle.cores.specs.Seen.{Seen, seen}
+use Rattle.machine.specs.Numbers.{Reported, reported}
 use Rattle.reports.specs.Reports.{TextSeen, textSeen, splitTold, readTold, writeTold}
 use Rattle.zilborteka.specs.Device.{stateOf, Served, Freshly}
 use Rattle.zilborteka.proofs.DeviceLaws.{same-device}
@@ -25,8 +25,8 @@ pub one-outcome : (d : Device) (x : Call) {r q : Report} {e f : Device} {w v l m
     → (r ≡ q) × (machineOf (stateOf e) ≡ machineOf (stateOf f)) × (w ≡ v) × (l ≡ m) × ((r .refusal ≡ 0 → ⊥) → (e ≡ d) × (f ≡ d))
 one-outcome d x s t =
     let p = s .0 ∙ sym (t .0) in
-    let same = ap (λ (y : Seen). y .says) p in
-    (same, ap (λ (y : Seen). y .after) p, ap (λ (y : Seen). y .written) p, ap (λ (y : Seen). y .listed) p, λ h. (same-device _ d (s .2 h), same-device _ d (t .2 (rw same at h))))
+    let same = ap (λ (y : Reported). y .says) p in
+    (same, ap (λ (y : Reported). y .after) p, ap (λ (y : Reported). y .written) p, ap (λ (y : Reported). y .listed) p, λ h. (same-device _ d (s .2 h), same-device _ d (t .2 (rw same at h))))
 
 -- Fresh: from one settings value, one report and one machine.
 pub one-fresh : (from : Settings) {r q : Report} {e f : Device} → Freshly from r e → Freshly from q f → (r ≡ q) × (machineOf (stateOf e) ≡ machineOf (stateOf f))

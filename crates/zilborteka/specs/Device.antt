@@ -7,9 +7,9 @@ use Rattle.laws.specs.Numbers.{places, partyPlaces, mostTags}
 use Rattle.settings.specs.declared.Settings.{Settings}
 use Rattle.machine.specs.Calls.{Call}
 use Rattle.machine.specs.declared.Report.{Report}
-use Rattle.proxy.specs.State.{State, Sounds}
+use Rattle.proxy.specs.State.{State, lent, Sounds}
+use Rattle.proxy.specs.Calls.{Told, FreshlyTold}
 use Rattle.zilborteka.specs.declared.Device.{Device}
-use Rattle.cores.specs.Told.{lent, Told, Freshened}
 
 -- a device of its fields
 abbrev pub device : (ids asked notes deadlines counts clients originals : List ℕ) (top cursor attached clock timeout join tagged : ℕ) (tags : List ℕ) → Device
@@ -49,7 +49,7 @@ Served d x r d′ w l = Told (stateOf d) x r (stateOf d′) w l
 
 -- a fresh device: the machine that document 01 makes from the value, or from the usual one beside refusal 10
 abbrev pub Freshly : Settings → Report → Device → Type 0
-Freshly from r d = Freshened from r (stateOf d)
+Freshly from r d = FreshlyTold from r (stateOf d)
 
 -- the device that is all zeros
 abbrev pub zeros : Device

@@ -7,8 +7,8 @@ use Rattle.calls.proofs.freshened.Tie as tie
 
 returns : tie.Need-returns
 returns c =
-    let made = c .before .before .fresh .ensures in
-    freshly _ _ _ _ _ _ _ _ _ _ _ _ _ _ _ (made .1 .1) _ (c .gather .ensures) _ _ _ (c .before .done-or .ensures) (made .0) (made .1 .0)
+    let made = c .before .fresh .ensures in
+    freshly _ _ _ _ _ _ _ _ _ _ _ _ _ _ _ (made .2) _ (c .gather .ensures) _ _ made
 
 pub freshened-spec : {M : Type 1} → statement M
-freshened-spec = tie.close (tie.spec (λ c κs. search needs) (λ c κs. search needs) (λ c κs. search needs) returns)
+freshened-spec = tie.close (tie.spec (λ c κs. search needs) (λ c κs. search needs) returns)

@@ -1,7 +1,7 @@
 -- `cores::attach` meets its contract: the call below does, and its answer is told in numbers.
 -- Assumes nothing.
 use Rattle.proxy.proofs.AttachLaws.{attach-does}
-use Rattle.cores.proofs.SeenLaws.{as-seen}
+use Rattle.proxy.proofs.ToldLaws.{as-told}
 use borrow.Author.Needs.{needs}
 use Rattle.cores.proofs.attach.Statement.{statement}
 use Rattle.cores.proofs.attach.Tie as tie
@@ -9,7 +9,7 @@ use Rattle.cores.proofs.attach.Tie as tie
 returns : tie.Need-returns
 returns c ids asked notes deadlines counts clients originals top cursor clock timeout join tagged tags made =
     let does = attach-does _ made _ _ _ (c .before .attach .ensures .0) (c .before .attach .ensures .1) in
-    as-seen _ _ _ _ _ _ _ (c .report-of .ensures) (does .0) (does .1) (does .2)
+    as-told _ _ _ _ _ _ _ (c .report-of .ensures) does
 
 pub attach-spec : {M : Type 1} → statement M
 attach-spec = tie.close (tie.spec (λ c κs. search needs) (λ c. search needs) returns)

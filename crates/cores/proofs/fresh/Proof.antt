@@ -1,7 +1,7 @@
--- `cores::fresh` meets its contract: the call below does, and its refusal is told as done or refused.
+-- `cores::fresh` meets its contract: the call below does, and its answer is told in numbers.
 -- Assumes nothing.
-use Rattle.reports.specs.Reports.{doneOr}
 use mathlib.Core.Path.{ap, _∙_}
+use Rattle.machine.specs.Numbers.{numbers}
 use borrow.Author.Needs.{needs}
 use Rattle.cores.proofs.fresh.Statement.{statement}
 use Rattle.cores.proofs.fresh.Tie as tie
@@ -9,7 +9,7 @@ use Rattle.cores.proofs.fresh.Tie as tie
 returns : tie.Need-returns
 returns c =
     let made = c .before .fresh .ensures in
-    (c .done-or .ensures ∙ ap doneOr (made .0), made .1 .0, made .1 .1)
+    (c .report-of .ensures ∙ ap numbers (made .0), made .1, made .2)
 
 pub fresh-spec : {M : Type 1} → statement M
-fresh-spec = tie.close (tie.spec (λ c κs. search needs) (λ c κs. search needs) returns)
+fresh-spec = tie.close (tie.spec (λ c κs. search needs) (λ c. search needs) returns)

@@ -8,7 +8,7 @@ use Rattle.replies.proofs.ticked.Tie as tie
 returns : tie.Need-returns
 returns c =
     let does = c .before .before .before .before .before .tick .ensures in
-    carried _ _ _ _ _ _ _ _ _ _ _ _ _ _ _ (does .1 .0) _ (c .gather .ensures) _ _ _ _ _ (does .0)
+    carried _ _ _ _ _ _ _ _ _ _ _ _ _ _ _ (does .1) _ (c .gather .ensures) _ _ _ _ _ (does .0)
 
 pub ticked-spec : {M : Type 1} → statement M
 ticked-spec = tie.close (tie.spec (λ c κs. search needs) (λ c κs. search needs) (λ c. search needs) (λ c. search needs) returns)

@@ -12,10 +12,9 @@ use Rattle.wire.specs.Frame.{idOf}
 use Rattle.wire.proofs.FrameLaws.{Framed}
 use Rattle.pdu.specs.Replies.{answering}
 use Rattle.machine.specs.Numbers.{numbers}
-use Rattle.table.specs.Columns.{columns}
 use Rattle.table.specs.Places.{holds}
 use Rattle.table.proofs.EntryLaws.{held}
-use Rattle.proxy.specs.State.{State, state, kept, machineOf}
+use Rattle.proxy.specs.State.{State, lent, machineOf}
 use Rattle.proxy.specs.Gates.{replyGate}
 use Rattle.replying.proofs.GateLaws.{Timely, reply-timely}
 use Rattle.proxy.proofs.StateLaws.{tag-words}
@@ -29,8 +28,7 @@ use Rattle.replying.proofs.reply.Tie as tie
 abbrev came : tie.Start → State
 came s =
     let a = s .args in
-    state (columns (now (a .ids)) (now (a .asked)) (now (a .notes)) (now (a .deadlines)) (now (a .counts)) (now (a .clients)) (now (a .originals)) (now (a .top))) (now (a .cursor))
-    (now (a .attached)) (now (a .clock)) (kept (now (a .timeout)) (now (a .join)) (now (a .tagged)) (now (a .tags)))
+    lent (now (a .ids)) (now (a .asked)) (now (a .notes)) (now (a .deadlines)) (now (a .counts)) (now (a .clients)) (now (a .originals)) (now (a .top)) (now (a .cursor)) (now (a .attached)) (now (a .clock)) (now (a .timeout)) (now (a .join)) (now (a .tagged)) (now (a .tags))
 
 -- the gate let it pass
 gate : (c : tie.Else1)
@@ -67,7 +65,8 @@ returns c =
     let a = s .args in (
       was-refused (machineOf (came s)) (a .time) (now (a .frame)) (now (a .out)) (now (a .list))
           (c .before .reply-refusal .result) (c .before .reply-refusal .ensures) (c .if1 .taken),
-      (s .pre, λ h. refl),
+      s .pre,
+      λ h. refl,
     )
 
 returns-2 : tie.Need-returns-2
@@ -76,7 +75,8 @@ returns-2 c =
     let a = s .args in (
       was-unknown (came s) (s .pre) (a .time) (now (a .frame)) (now (a .out)) (now (a .list))
           (gate (c .before .before .before .before .before)) (c .before .find .result) (found (c .before)) (c .if2 .taken),
-      (s .pre, λ h. refl),
+      s .pre,
+      λ h. refl,
     )
 
 mul-word : tie.Need-mul-word
@@ -92,7 +92,8 @@ returns-3 c =
     let a = s .args in (
       was-mismatched (came s) (s .pre) (a .time) (now (a .frame)) (now (a .out)) (now (a .list))
           (gate (e .before .before .before .before .before)) (e .before .find .result) (found (e .before)) (e .if2 .left) (sym (c .before .answers-word .ensures) ∙ not-true _ (c .if3 .taken)),
-      (s .pre, λ h. refl),
+      s .pre,
+      λ h. refl,
     )
 
 id-at-requires : tie.Need-id-at-requires
@@ -135,7 +136,8 @@ returns-4 c =
           (gate (e .before .before .before .before .before)) (e .before .find .result) (found (e .before)) (e .if2 .left) (answered-by g)
           (i .result) (p .result) (w .result .partial) (w .result .value) _ _ _ _
           (i .ensures) (p .ensures .0) (p .ensures .1) (w .ensures),
-      (ended-sound (came s) (s .pre) (e .before .find .result) (lives e) (a .time) _ _ (p .ensures .1), λ h. absurd (h refl)),
+      ended-sound (came s) (s .pre) (e .before .find .result) (lives e) (a .time) _ _ (p .ensures .1),
+      λ h. absurd (h refl),
     )
 
 pub reply-spec : {M : Type 1} → statement M

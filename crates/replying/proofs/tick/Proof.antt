@@ -5,8 +5,7 @@ use native.Mathlib.Omega.{arith}
 use lib.ListN.{length}
 use denote.Ref.{now}
 use Rattle.machine.specs.Numbers.{numbers}
-use Rattle.table.specs.Columns.{columns}
-use Rattle.proxy.specs.State.{State, state, kept, machineOf}
+use Rattle.proxy.specs.State.{State, lent, machineOf}
 use Rattle.proxy.specs.Gates.{tickGate}
 use Rattle.replying.proofs.GateLaws.{Timely, tick-timely}
 use Rattle.proxy.proofs.StateLaws.{timed-sound}
@@ -20,8 +19,7 @@ use Rattle.replying.proofs.tick.Tie as tie
 abbrev came : tie.Start → State
 came s =
     let a = s .args in
-    state (columns (now (a .ids)) (now (a .asked)) (now (a .notes)) (now (a .deadlines)) (now (a .counts)) (now (a .clients)) (now (a .originals)) (now (a .top))) (now (a .cursor))
-    (now (a .attached)) (now (a .clock)) (kept (now (a .timeout)) (now (a .join)) (now (a .tagged)) (now (a .tags)))
+    lent (now (a .ids)) (now (a .asked)) (now (a .notes)) (now (a .deadlines)) (now (a .counts)) (now (a .clients)) (now (a .originals)) (now (a .top)) (now (a .cursor)) (now (a .attached)) (now (a .clock)) (now (a .timeout)) (now (a .join)) (now (a .tagged)) (now (a .tags))
 
 -- the gate let it pass
 gate : (c : tie.Else1)
@@ -49,7 +47,8 @@ returns c =
     let a = s .args in (
       was-refused (machineOf (came s)) (a .time) (now (a .out)) (now (a .list))
           (c .before .tick-refusal .result) (c .before .tick-refusal .ensures) (c .if1 .taken),
-      (s .pre, λ h. refl),
+      s .pre,
+      λ h. refl,
     )
 
 returns-2 : tie.Need-returns-2
@@ -59,7 +58,8 @@ returns-2 c =
     let a = s .args in (
       nothing-due (came s) (s .pre) (a .time) (now (a .out)) (now (a .list))
           (gate (c .before .before .before .before .before)) (c .before .earliest .result) (c .before .earliest .ensures) (c .if2 .taken),
-      (timed-sound (came s) (a .time) (s .pre), λ h. absurd (h refl)),
+      timed-sound (came s) (a .time) (s .pre),
+      λ h. absurd (h refl),
     )
 
 mul-word : tie.Need-mul-word
@@ -97,7 +97,8 @@ returns-3 c =
       was-timed-out (came s) (s .pre) (a .time) (now (a .out)) (now (a .list))
           (gate (e .before .before .before .before .before)) (e .before .earliest .result) (e .before .earliest .ensures) (e .if2 .left) (i .result) (p .result) _ _ _ _ (i .ensures) (p .ensures .0) (p .ensures .1)
           (u .result) (y .result) (u .ensures) (y .ensures) (c .before .before .except .ensures),
-      (ended-sound (came s) (s .pre) (e .before .earliest .result) (lives e) (a .time) _ _ (p .ensures .1), λ h. absurd (h refl)),
+      ended-sound (came s) (s .pre) (e .before .earliest .result) (lives e) (a .time) _ _ (p .ensures .1),
+      λ h. absurd (h refl),
     )
 
 pub tick-spec : {M : Type 1} → statement M

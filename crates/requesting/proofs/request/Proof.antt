@@ -3,8 +3,7 @@
 use mathlib.Core.Path.{refl, sym, _∙_}
 use native.Mathlib.Omega.{arith}
 use denote.Ref.{now}
-use Rattle.table.specs.Columns.{columns}
-use Rattle.proxy.specs.State.{State, kept, state, machineOf}
+use Rattle.proxy.specs.State.{State, lent, machineOf}
 use Rattle.requesting.proofs.GateLaws.{Open, gate-refuses, gate-opens, check-function, check-length, has-room, admits}
 use Rattle.proxy.proofs.StateLaws.{timed}
 use Rattle.requesting.proofs.StepLaws.{was-refused, was-excepted, was-served, excepted-no-refusal, served-no-refusal}
@@ -15,11 +14,9 @@ use Rattle.requesting.proofs.request.Tie as tie
 -- the state as it came
 abbrev came : tie.Start → State
 came s =
-    state
-    (columns (now (s .args .ids)) (now (s .args .asked)) (now (s .args .notes)) (now (s .args .deadlines)) (now (s .args .counts)) (now (s .args .clients))
-    (now (s .args .originals)) (now (s .args .top)))
-    (now (s .args .cursor)) (now (s .args .attached)) (now (s .args .clock))
-    (kept (now (s .args .timeout)) (now (s .args .join)) (now (s .args .tagged)) (now (s .args .tags)))
+    let a = s .args in
+    lent (now (a .ids)) (now (a .asked)) (now (a .notes)) (now (a .deadlines)) (now (a .counts)) (now (a .clients)) (now (a .originals)) (now (a .top)) (now (a .cursor)) (now (a .attached)) (now (a .clock))
+    (now (a .timeout)) (now (a .join)) (now (a .tagged)) (now (a .tags))
 
 -- where the function began, from behind the gate
 abbrev start : tie.Else1 → tie.Start
@@ -33,7 +30,7 @@ returns : tie.Need-returns
 returns c =
     let s = c .before .before .before .before .before .before in
     let m = machineOf (came s) in
-    (was-refused m (s .args .client) (s .args .time) (now (s .args .frame)) (now (s .args .out)) (c .before .gate .result) (c .if1 .taken) (gate-refuses m (s .args .client) (s .args .time) (now (s .args .frame)) (now (s .args .out)) (c .before .gate .result) (c .before .gate .ensures) (c .if1 .taken)), (s .pre, λ h. refl))
+    (was-refused m (s .args .client) (s .args .time) (now (s .args .frame)) (now (s .args .out)) (c .before .gate .result) (c .if1 .taken) (gate-refuses m (s .args .client) (s .args .time) (now (s .args .frame)) (now (s .args .out)) (c .before .gate .result) (c .before .gate .ensures) (c .if1 .taken)), s .pre, λ h. refl)
 
 except-caller-requires : tie.Need-except-caller-requires
 except-caller-requires c κs = omega (arith, has-room (opened (c .before .before .before .before .before)))
@@ -54,13 +51,13 @@ returns-2 : tie.Need-returns-2
 returns-2 c =
     let checked = c .before .before in
     let gated = checked .before in
-    (was-refused (machineOf (came (start gated))) _ _ _ _ 5 (λ z. omega arith) (check-function (opened gated) (sym (checked .check-request .ensures) ∙ c .enum-told .given .1)), (start gated .pre, λ h. refl))
+    (was-refused (machineOf (came (start gated))) _ _ _ _ 5 (λ z. omega arith) (check-function (opened gated) (sym (checked .check-request .ensures) ∙ c .enum-told .given .1)), start gated .pre, λ h. refl)
 
 returns-3 : tie.Need-returns-3
 returns-3 c =
     let checked = c .before .before in
     let gated = checked .before in
-    (was-refused (machineOf (came (start gated))) _ _ _ _ 6 (λ z. omega arith) (check-length (opened gated) (sym (checked .check-request .ensures) ∙ c .enum-told2 .given .1)), (start gated .pre, λ h. refl))
+    (was-refused (machineOf (came (start gated))) _ _ _ _ 6 (λ z. omega arith) (check-length (opened gated) (sym (checked .check-request .ensures) ∙ c .enum-told2 .given .1)), start gated .pre, λ h. refl)
 
 returns-4 : tie.Need-returns-4
 returns-4 c =
@@ -69,7 +66,8 @@ returns-4 c =
     let s = start gated in
     let said = c .before .before .except-caller .ensures (machineOf (timed (came s) (s .args .time))) in (
       was-excepted (came s) (opened gated) (sym (checked .check-request .ensures) ∙ c .before .before .before .before .before .code .given .1) said,
-      (record { table = s .pre .table; cursor = s .pre .cursor; attached = s .pre .attached; settings = s .pre .settings }, λ h. absurd (h (excepted-no-refusal _ _ _ _ said))),
+      record { table = s .pre .table; cursor = s .pre .cursor; attached = s .pre .attached; settings = s .pre .settings },
+      λ h. absurd (h (excepted-no-refusal _ _ _ _ said)),
     )
 
 returns-5 : tie.Need-returns-5
@@ -79,10 +77,8 @@ returns-5 c =
     let gated = checked .before in
     let s = start gated in (
       was-served (came s) (opened gated) (sym (checked .check-request .ensures) ∙ c .before .before .before .before .before .before .before .before .before .before .before .before .before .before .before .before .before .before .what .given .1) (served .outcome (now (s .args .attached))),
-      (
-        record { table = served .table; cursor = served .cursor (s .pre .cursor); attached = s .pre .attached; settings = s .pre .settings },
-        λ h. absurd (h (served-no-refusal _ _ _ _ (served .outcome (now (s .args .attached))))),
-      ),
+      record { table = served .table; cursor = served .cursor (s .pre .cursor); attached = s .pre .attached; settings = s .pre .settings },
+      λ h. absurd (h (served-no-refusal _ _ _ _ (served .outcome (now (s .args .attached))))),
     )
 
 pub request-spec : {M : Type 1} → statement M

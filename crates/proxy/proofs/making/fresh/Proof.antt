@@ -2,6 +2,7 @@
 -- Assumes nothing.
 use mathlib.Core.Path.{sym, _∙_}
 use Rattle.settings.specs.Values.{valueOf, usual}
+use Rattle.machine.specs.declared.Answer.the-variants.{Refused, Done}
 use Rattle.proxy.proofs.MakingLaws.{usual-valid, adopts-valid, adopts-usual, made-fresh}
 use borrow.Author.Needs.{needs}
 use Rattle.proxy.proofs.making.fresh.Statement.{statement}
@@ -15,7 +16,7 @@ returns c =
     let b = c .before .before .before .before .before in
     let made = b .before .before .clear .ensures in
     let v = valueOf (b .before .before .before .before .before .before .before .before .before .before .before .args .from) in
-    made-fresh v v 0 _ _ (adopts-valid v (sym (b .before .is-valid .ensures) ∙ b .if1 .taken)) made (c .adopt .ensures)
+    made-fresh v v Done _ _ (adopts-valid v (sym (b .before .is-valid .ensures) ∙ b .if1 .taken)) made (c .adopt .ensures)
 
 adopt-requires-2 : tie.Need-adopt-requires-2
 adopt-requires-2 c κs = rw (c .usual .ensures) usual-valid
@@ -25,7 +26,7 @@ returns-2 c =
     let b = c .before .before .before .before .before .before in
     let made = b .before .before .clear .ensures in
     let v = valueOf (b .before .before .before .before .before .before .before .before .before .before .before .args .from) in
-    made-fresh v usual 10 _ _ (adopts-usual v (sym (b .before .is-valid .ensures) ∙ b .if1 .left)) made (rw (c .before .usual .ensures) at (c .adopt2 .ensures))
+    made-fresh v usual (Refused 10) _ _ (adopts-usual v (sym (b .before .is-valid .ensures) ∙ b .if1 .left)) made (rw (c .before .usual .ensures) at (c .adopt2 .ensures))
 
 pub fresh-spec : {M : Type 1} → statement M
 fresh-spec =
