@@ -3,19 +3,12 @@ use machine::Answer;
 use rewrite::Raw;
 ghost use mathlib.Core.Path.{_≡_};
 ghost use mathlib.Core.Bool.{true};
-ghost use Prim.Native.Nat.{_≤_, _<_};
-ghost use lib.ListN.{length, getD, set};
-ghost use Rattle.laws.specs.Numbers.{places, room, listBuffer};
-ghost use Rattle.laws.specs.Bytes.{over};
 ghost use Rattle.pdu.specs.Replies.{answering};
 ghost use Rattle.pdu.specs.Words.{whatOf, Proper};
 ghost use Rattle.rewrite.specs.Rewriting.{outcome as rewritten};
 ghost use Rattle.rewrite.specs.Frames.{returned, under};
 ghost use Rattle.rewrite.specs.Lent.{tagsOf, TagWords, Framed};
 ghost use Rattle.machine.specs.Calls.Call.{reply as replyCall, tick as tickCall};
-ghost use Rattle.machine.specs.Replies.{pairs};
-ghost use Rattle.table.specs.Columns.{partiesAt};
-ghost use Rattle.table.specs.Changes.{reach};
 ghost use Rattle.proxy.specs.State.{lent, Sounds};
 ghost use Rattle.proxy.specs.Calls.{Does};
 ghost use Rattle.proxy.specs.Gates.{replyGate, tickGate};
@@ -77,26 +70,6 @@ fn write_reply(
     rewrite::give_back(out, frame, function, asked, tags, tagged)
 }
 
-// Ends the entry of a place: its parties go into the list, then the place is free; how many parties there were.
-fn end_at<'a>(
-    ids: &'a mut [u32; laws::PLACES],
-    counts: &'a [u8; laws::PLACES],
-    clients: &'a [u8; laws::PARTY_PLACES],
-    originals: &'a [u16; laws::PARTY_PLACES],
-    top: &'a mut u32,
-    place: usize,
-    list: &mut [u16],
-) -> u32
-    requires { ⌜ (place < places) × (getD (now counts) place 0 ≤ room) × (listBuffer ≤ length (now list)) × (now top ≤ places) ⌝ }
-    ensures { λ r. ⌜ (r ≡ length (partiesAt (now (counts .entry)) (now (clients .entry)) (now (originals .entry)) place))
-        × (now (list .exit) ≡ over (pairs (partiesAt (now (counts .entry)) (now (clients .entry)) (now (originals .entry)) place)) (now (list .entry))) ⌝ }
-    ensures { λ r. ⌜ (now (ids .exit) ≡ set (now (ids .entry)) place 0) × (now (top .exit) ≡ reach (now (ids .exit)) (now (top .entry))) ⌝ }
-{
-    let parties = changing::hand_out(counts, clients, originals, place, list);
-    changing::remove(ids, top, place);
-    parties
-}
-
 // The controller's reply: refused, or the entry that it answers ends with the rewritten frame.
 pub fn reply<'a>(
     ids: &'a mut [u32; laws::PLACES],
@@ -137,7 +110,7 @@ pub fn reply<'a>(
     }
     *clock = time;
     let id = table::id_at(ids, place);
-    let parties = end_at(ids, counts, clients, originals, top, place, list);
+    let parties = ending::end_at(ids, counts, clients, originals, top, place, list);
     let raw = write_reply(out, frame, word, tags, *tagged as usize);
     let length = frame.len() as u32;
     Answer::Answered {
@@ -185,7 +158,7 @@ pub fn tick<'a>(
     }
     let word = asked[place];
     let id = table::id_at(ids, place);
-    let parties = end_at(ids, counts, clients, originals, top, place, list);
+    let parties = ending::end_at(ids, counts, clients, originals, top, place, list);
     wire::except(
         out,
         0,

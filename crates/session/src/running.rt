@@ -37,7 +37,7 @@ fn step(state: State, call: &[u8], frame: &[u8], out: &mut [u8], list: &mut [u16
         Call::Detach => calls::detach(state, client),
         Call::Request => requests::request(state, client, number(call, 1, 0), frame, out),
         Call::Reply => replies::reply(state, time, frame, out, list),
-        Call::Tick => replies::tick(state, time, out, list),
+        Call::Tick => ticks::tick(state, time, out, list),
         _ => calls::link_lost(state),
     }
 }

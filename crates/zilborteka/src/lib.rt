@@ -124,7 +124,7 @@ pub extern "C" fn zb_reply(
     requires { ⌜ Made (now st) ⌝ }
     ensures { λ r. ⌜ Served (now (st .entry)) (replies time (now (frame .entry)) (now (out .entry)) (now (list .entry))) r (now (st .exit)) (now (out .exit)) (now (list .exit)) ⌝ }
 {
-    cores::reply(
+    answering::reply(
         &mut st.ids,
         &mut st.asked,
         &mut st.notes,
@@ -153,7 +153,7 @@ pub extern "C" fn zb_tick(st: &mut Device, time: u64, out: &mut [u8], list: &mut
     requires { ⌜ Made (now st) ⌝ }
     ensures { λ r. ⌜ Served (now (st .entry)) (ticks time (now (out .entry)) (now (list .entry))) r (now (st .exit)) (now (out .exit)) (now (list .exit)) ⌝ }
 {
-    cores::tick(
+    answering::tick(
         &mut st.ids,
         &mut st.asked,
         &mut st.notes,

@@ -13,8 +13,8 @@ use Rattle.table.specs.Changes.{Runs}
 use Rattle.laws.specs.Numbers.{places}
 use Prim.Native.Nat.{_≤_}
 use Rattle.zilborteka.proofs.EntryReply.{Core, entry-meets, Rel, CoreRel, Pre, CorePre}
-use Rattle.cores.proofs.reply.Symbol as g
-use Rattle.cores.proofs.reply.Met as g-thm
+use Rattle.answering.proofs.reply.Symbol as g
+use Rattle.answering.proofs.reply.Met as g-thm
 use Rattle.zilborteka.proofs.zb_reply.Key.{name as #f}
 use Rattle.zilborteka.proofs.zb_reply as f
 use Rattle.zilborteka.proofs.zb_reply.Statement as stated
@@ -42,4 +42,4 @@ zb-reply-spec 𝓤 H 𝓜 𝓖 𝓡 =
     entered 𝓤 H (tripleOf 𝓤 H (𝓖 .A) f.signature (f.spec 𝓤 H (𝓖 .A) (𝓜 .mem) (𝓡 .run)))
     (tables 𝓤 H 𝓜 𝓡 code.env .C) (tables 𝓤 H 𝓜 𝓡 code.env .Λ) #f code.function (code.unfolded 𝓤 H 𝓜 𝓡)
     (entry-meets 𝓤 H (𝓖 .A) (givenOf 𝓤 H 𝓜 𝓖) g.name R Pe Rc Pc (λ h p0 p1 p2 p3 r w0 w1 w2 w3 w4 w5 w6 w7 w8 w9 w10 w11 w12 w13 w14 z2 z3 ok e. e) (λ _ _ _ _ _ ok. ok) (tablesOf 𝓤 H 𝓜 (tables 𝓤 H 𝓜 𝓡 code.env))
-    (cited 𝓤 H (Core 𝓤 Rc Pc H (𝓖 .A)) 𝓜 𝓡 code.env g.name g.routine code.calls-cores·reply (g-thm.met 𝓤 H 𝓜 𝓖 𝓡)))
+    (cited 𝓤 H (Core 𝓤 Rc Pc H (𝓖 .A)) 𝓜 𝓡 code.env g.name g.routine code.calls-answering·reply (g-thm.met 𝓤 H 𝓜 𝓖 𝓡)))
