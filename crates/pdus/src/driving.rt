@@ -33,7 +33,7 @@ pub fn send(frame: &[u8], out: &mut [u8]) -> Given {
     }
     let unit = wire::unit_of(frame);
     let function = wire::function_of(frame);
-    match pdu::check_request(frame) {
+    match checking::check_request(frame) {
         Checked::BadFunction => Given::Refused(5),
         Checked::BadLength => Given::Refused(6),
         Checked::Excepted(code) => {
@@ -47,7 +47,7 @@ pub fn send(frame: &[u8], out: &mut [u8]) -> Given {
         }
         Checked::Legal(asked) => {
             let tags = tag_words();
-            let raw = rewrite::forward(out, frame, ProxyId(ISSUED), asked, &tags, 2);
+            let raw = payloads::forward(out, frame, ProxyId(ISSUED), asked, &tags, 2);
             Given::Frame(frame.len(), raw)
         }
     }
@@ -66,13 +66,13 @@ pub fn bring(request: &[u8], reply: &[u8], out: &mut [u8]) -> Given {
     }
     let unit = wire::unit_of(request);
     let function = wire::function_of(request);
-    let Checked::Legal(asked) = pdu::check_request(request) else {
+    let Checked::Legal(asked) = checking::check_request(request) else {
         return Given::Refused(7);
     };
-    if !pdu::answers(unit, function, asked, reply) {
+    if !matching::answers(unit, function, asked, reply) {
         return Given::Refused(8);
     }
     let tags = tag_words();
-    let raw = rewrite::give_back(out, reply, function, asked, &tags, 2);
+    let raw = payloads::give_back(out, reply, function, asked, &tags, 2);
     Given::Frame(reply.len(), raw)
 }

@@ -44,10 +44,10 @@ fn reply_refusal(out: usize, list: usize, time: u64, clock: u64, frame: &[u8]) -
 fn answers_word(word: u64, frame: &[u8]) -> bool
     ensures { λ r. ⌜ r ≡ answering (whatOf word) (now (frame .entry)) ⌝ }
 {
-    pdu::answers(
-        pdu::unit_in(word),
-        pdu::function_in(word),
-        pdu::asked_in(word),
+    matching::answers(
+        words::unit_in(word),
+        words::function_in(word),
+        words::asked_in(word),
         frame,
     )
 }
@@ -65,9 +65,9 @@ fn write_reply(
     requires { ⌜ TagWords tagged (now tags) ⌝ }
     ensures { λ r. ⌜ rewritten (r .partial) (r .value) (now (out .exit)) ≡ under 0 (now (out .entry)) (returned (tagsOf tagged (now (tags .entry))) (whatOf word) (now (frame .entry))) ⌝ }
 {
-    let function = pdu::function_in(word);
-    let asked = pdu::asked_in(word);
-    rewrite::give_back(out, frame, function, asked, tags, tagged)
+    let function = words::function_in(word);
+    let asked = words::asked_in(word);
+    payloads::give_back(out, frame, function, asked, tags, tagged)
 }
 
 // The controller's reply: refused, or the entry that it answers ends with the rewritten frame.
@@ -162,8 +162,8 @@ pub fn tick<'a>(
     wire::except(
         out,
         0,
-        pdu::unit_in(word),
-        pdu::function_in(word),
+        words::unit_in(word),
+        words::function_in(word),
         laws::NO_RESPONSE,
     );
     Answer::TimedOut { id, parties }

@@ -86,7 +86,7 @@ fn word_asked(frame: &[u8], what: Asked) -> u64
 {
     let unit = frame[laws::UNCOUNTED];
     let function = frame[laws::HEADER_SIZE];
-    pdu::word_of(unit, function, what)
+    words::word_of(unit, function, what)
 }
 
 // Joins a request to the live request at an open place; no frame is written.
@@ -163,7 +163,7 @@ fn issue_request<'a>(
     );
     let next = id.next();
     *cursor = next.0;
-    let raw = rewrite::forward(out, frame, id, what, tags, tagged as usize);
+    let raw = payloads::forward(out, frame, id, what, tags, tagged as usize);
     let length = frame.len() as u32;
     Answer::Issued {
         id,
@@ -271,7 +271,7 @@ pub fn request<'a>(
     if refused != 0 {
         return Answer::Refused { number: refused };
     }
-    match pdu::check_request(frame) {
+    match checking::check_request(frame) {
         Checked::BadFunction => Answer::Refused { number: 5 },
         Checked::BadLength => Answer::Refused { number: 6 },
         Checked::Excepted(code) => {

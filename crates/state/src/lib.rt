@@ -42,7 +42,7 @@ fn number_of(p: Place) -> u32
 fn word_in(p: Place) -> u64
     ensures { λ r. ⌜ r ≡ wordIn p ⌝ }
 {
-    pdu::word_of_entry(p.entry)
+    words::word_of_entry(p.entry)
 }
 
 // The id that a number in the column of ids stands for; 0 for a free place.
@@ -60,7 +60,7 @@ fn id_in(number: u32) -> ProxyId
 fn place_of(number: u32, word: u64, caller: u8, deadline: u64, count: u8) -> Place
     ensures { λ r. ⌜ r ≡ placeOf number word caller deadline count ⌝ }
 {
-    let entry = pdu::entry_of(id_in(number), word, deadline);
+    let entry = words::entry_of(id_in(number), word, deadline);
     Place {
         live: number != 0,
         entry,

@@ -4,7 +4,7 @@ ghost use Prim.Native.Nat.{_+_, _%_, _<_, _≤_};
 ghost use lib.ListN.{length, getD};
 ghost use Rattle.laws.specs.Numbers.{exceptionBit, exceptionFrame};
 ghost use Rattle.laws.specs.Bytes.{over, pairAt, putAt};
-ghost use Rattle.wire.specs.Frame.{unitOf, functionOf, misframed, laid, exception};
+ghost use Rattle.wire.specs.Frame.{unitOf, functionOf, pduSize, misframed, laid, exception};
 ghost use Rattle.wire.specs.Splitting.{standingOf, firstFrame};
 
 // What stands at the start of a run of received bytes.
@@ -47,6 +47,17 @@ pub fn function_of(frame: &[u8]) -> u8
     ensures { λ r. ⌜ r ≡ functionOf (now (frame .entry)) ⌝ }
 {
     byte_at(frame, laws::HEADER_SIZE)
+}
+
+// How many bytes the PDU has; 0 where the header is not whole.
+pub fn pdu_size(frame: &[u8]) -> usize
+    ensures { λ r. ⌜ r ≡ pduSize (now (frame .entry)) ⌝ }
+{
+    if frame.len() < laws::HEADER_SIZE {
+        0
+    } else {
+        frame.len() - laws::HEADER_SIZE
+    }
 }
 
 // Puts a 16-bit number at k, the high byte first.

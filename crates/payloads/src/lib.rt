@@ -1,0 +1,128 @@
+// What a frame's payload becomes: a request's on its way to the controller, a reply's on its way back.
+ghost use mathlib.Core.Path.{_≡_};
+ghost use mathlib.Core.Bool.{false};
+ghost use Prim.Native.Nat.{ℕ};
+ghost use Rattle.pdu.specs.Replies.{what, excepts};
+ghost use Rattle.rewrite.specs.Rewriting.{outcome};
+ghost use Rattle.rewrite.specs.Frames.{forwarded, returned, under};
+ghost use Rattle.rewrite.specs.Lent.{tagsOf, TagWords, Sent, Brought, Framed};
+use pdu::Asked;
+use pdu::ProxyId;
+use rewrite::Raw;
+use rewrite::Way;
+
+// The bytes at which registers begin: specs/Frames.antt of rewrite has each under the same name.
+const READ_BASE: usize = 9;
+
+const SINGLE_BASE: usize = 10;
+
+const MULTIPLE_BASE: usize = 13;
+
+// A request's registers to BCD, in its own frame.
+fn send(frame: &mut [u8], asked: Asked, tags: &[u64; laws::MOST_TAGS], tagged: usize) -> Raw
+    requires { ⌜ Sent asked (now frame) ⌝ }
+    requires { ⌜ TagWords tagged (now tags) ⌝ }
+    ensures { λ r. ⌜ outcome (r .partial) (r .value) (now (frame .exit)) ≡ forwarded (tagsOf tagged (now (tags .entry))) asked (now (frame .entry)) ⌝ }
+{
+    match asked {
+        Asked::SingleWrite { address } => {
+            registers::rewrite(frame, SINGLE_BASE, address, 1, Way::ToBcd, tags, tagged)
+        }
+        Asked::MultipleWrite { start, quantity } => {
+            registers::rewrite(
+                frame,
+                MULTIPLE_BASE,
+                start,
+                quantity,
+                Way::ToBcd,
+                tags,
+                tagged,
+            )
+        }
+        Asked::Read {
+            start: _,
+            quantity: _,
+        } => rewrite::NOT_RAW,
+        Asked::Other => rewrite::NOT_RAW,
+    }
+}
+
+// A reply's registers to binary, in its own frame; an exception has none.
+fn bring(
+    frame: &mut [u8],
+    function: u8,
+    asked: Asked,
+    tags: &[u64; laws::MOST_TAGS],
+    tagged: usize,
+) -> Raw
+    requires { ⌜ (excepts function (now frame) ≡ false → Brought asked (now frame)) ⌝ }
+    requires { ⌜ TagWords tagged (now tags) ⌝ }
+    ensures { λ r. ⌜ ((unit : ℕ) → outcome (r .partial) (r .value) (now (frame .exit)) ≡ returned (tagsOf tagged (now (tags .entry))) (what unit function asked) (now (frame .entry))) ⌝ }
+{
+    if matching::is_exception(function, frame) {
+        return rewrite::NOT_RAW;
+    }
+    match asked {
+        Asked::Read { start, quantity } => {
+            registers::rewrite(
+                frame,
+                READ_BASE,
+                start,
+                quantity,
+                Way::ToBinary,
+                tags,
+                tagged,
+            )
+        }
+        Asked::SingleWrite { address } => {
+            registers::rewrite(frame, SINGLE_BASE, address, 1, Way::ToBinary, tags, tagged)
+        }
+        Asked::MultipleWrite {
+            start: _,
+            quantity: _,
+        } => rewrite::NOT_RAW,
+        Asked::Other => rewrite::NOT_RAW,
+    }
+}
+
+// Writes a request's frame over the start of out, under the proxy's id, its registers rewritten.
+pub fn forward(
+    out: &mut [u8],
+    frame: &[u8],
+    id: ProxyId,
+    asked: Asked,
+    tags: &[u64; laws::MOST_TAGS],
+    tagged: usize,
+) -> Raw
+    requires { ⌜ Framed (now frame) (now out) ⌝ }
+    requires { ⌜ Sent asked (now frame) ⌝ }
+    requires { ⌜ TagWords tagged (now tags) ⌝ }
+    ensures { λ r. ⌜ outcome (r .partial) (r .value) (now (out .exit)) ≡ under (id .0) (now (out .entry)) (forwarded (tagsOf tagged (now (tags .entry))) asked (now (frame .entry))) ⌝ }
+{
+    let n = frame.len();
+    wire::copy(out, frame);
+    let raw = send(&mut out[..n], asked, tags, tagged);
+    wire::lay_id(out, id.0);
+    raw
+}
+
+// Writes a reply's frame over the start of out, with id 0, its registers rewritten.
+pub fn give_back(
+    out: &mut [u8],
+    frame: &[u8],
+    function: u8,
+    asked: Asked,
+    tags: &[u64; laws::MOST_TAGS],
+    tagged: usize,
+) -> Raw
+    requires { ⌜ Framed (now frame) (now out) ⌝ }
+    requires { ⌜ (excepts function (now frame) ≡ false → Brought asked (now frame)) ⌝ }
+    requires { ⌜ TagWords tagged (now tags) ⌝ }
+    ensures { λ r. ⌜ ((unit : ℕ) → outcome (r .partial) (r .value) (now (out .exit)) ≡ under 0 (now (out .entry)) (returned (tagsOf tagged (now (tags .entry))) (what unit function asked) (now (frame .entry)))) ⌝ }
+{
+    let n = frame.len();
+    wire::copy(out, frame);
+    let raw = bring(&mut out[..n], function, asked, tags, tagged);
+    wire::lay_id(out, 0);
+    raw
+}

@@ -1,0 +1,109 @@
+// What was asked as one word, and from its word again.
+ghost use mathlib.Core.Path.{_≡_};
+ghost use Prim.Native.Nat.{_%_, _<_};
+ghost use Rattle.pdu.specs.Replies.{what};
+ghost use Rattle.pdu.specs.Words.{kept, keptIn, wordOf, whatOf, whatIn, entryOf};
+use pdu::Asked;
+use pdu::Class;
+use pdu::Entry;
+use pdu::ProxyId;
+
+// A word of what was asked: unit and function above 48 bits, in which a class keeps fields of 16 bits.
+const BYTES: u64 = 256;
+
+const FIELDS: u64 = 65536;
+
+const KEPT: u64 = FIELDS * FIELDS * FIELDS;
+
+// What a class keeps of what was asked, in 48 bits.
+fn kept_of(asked: Asked) -> u64
+    ensures { λ r. ⌜ (r ≡ kept asked) × (r < 281474976710656) ⌝ }
+{
+    match asked {
+        Asked::Read { start, quantity } => start as u64 * FIELDS + quantity as u64,
+        Asked::SingleWrite { address } => address as u64 * FIELDS,
+        Asked::MultipleWrite { start, quantity } => start as u64 * FIELDS + quantity as u64,
+        Asked::Other => 0,
+    }
+}
+
+// What was asked as one word.
+pub fn word_of(unit: u8, function: u8, asked: Asked) -> u64
+    ensures { λ r. ⌜ r ≡ wordOf (what unit function asked) ⌝ }
+{
+    let kept = kept_of(asked);
+    (unit as u64 * BYTES + function as u64) * KEPT + kept
+}
+
+// The lowest 8 bits, and the lowest 16.
+fn low_byte(n: u64) -> u8
+    ensures { λ r. ⌜ r ≡ n % 256 ⌝ }
+{
+    (n % BYTES) as u8
+}
+
+fn low_field(n: u64) -> u16
+    ensures { λ r. ⌜ r ≡ n % 65536 ⌝ }
+{
+    (n % FIELDS) as u16
+}
+
+// What was asked, from what its class kept.
+fn kept_in(class: Class, kept: u64) -> Asked
+    ensures { λ r. ⌜ r ≡ keptIn class kept ⌝ }
+{
+    let first = low_field(kept / FIELDS);
+    let second = low_field(kept);
+    match class {
+        Class::Reads => Asked::Read {
+            start: first,
+            quantity: second,
+        },
+        Class::WritesOne => Asked::SingleWrite { address: first },
+        Class::WritesMany => Asked::MultipleWrite {
+            start: first,
+            quantity: second,
+        },
+        Class::Others => Asked::Other,
+    }
+}
+
+// The unit, the function and what was asked, from their word.
+pub fn unit_in(word: u64) -> u8
+    ensures { λ r. ⌜ r ≡ whatOf word .unit ⌝ }
+{
+    low_byte(word / KEPT / BYTES)
+}
+
+pub fn function_in(word: u64) -> u8
+    ensures { λ r. ⌜ r ≡ whatOf word .function ⌝ }
+{
+    low_byte(word / KEPT)
+}
+
+pub fn asked_in(word: u64) -> Asked
+    ensures { λ r. ⌜ r ≡ whatOf word .asked ⌝ }
+{
+    kept_in(pdu::class_of(function_in(word)), word % KEPT)
+}
+
+// The entry that a word makes, and its word again.
+pub fn entry_of(id: ProxyId, word: u64, deadline: u64) -> Entry
+    ensures { λ r. ⌜ r ≡ entryOf id word deadline ⌝ }
+{
+    let asked = asked_in(word);
+    Entry {
+        id,
+        unit: unit_in(word),
+        function: function_in(word),
+        asked,
+        deadline,
+    }
+}
+
+pub fn word_of_entry(e: Entry) -> u64
+    ensures { λ r. ⌜ r ≡ wordOf (whatIn e) ⌝ }
+{
+    let asked = e.asked;
+    word_of(e.unit, e.function, asked)
+}
