@@ -4,8 +4,8 @@ use Prim.Native.Nat.{ℕ}
 use mathlib.Core.Bool.{cond}
 use mathlib.Core.List.{List}
 use lib.Dec.{eqb}
-use Rattle.wire.specs.declared.Split.{Split}
-use Rattle.wire.specs.declared.Split.the-variants.{Frame, MoreNeeded, Refused}
+use Rattle.splitting.specs.declared.Split.{Split}
+use Rattle.splitting.specs.declared.Split.the-variants.{Frame, MoreNeeded, Refused}
 use Rattle.settings.specs.Grammar.{Value, Read}
 use Rattle.settings.specs.Grammar.Read.{got, wrong}
 use Rattle.settings.specs.Values.{settingsOf, usual}

@@ -13,14 +13,14 @@ use lib.Dec.{eqb, ltb}
 use borrow.Author.Tests.{ltb-false, lt-ltb, le-ltb, eqb-true, eqb-false, eq-eqb, ne-eqb, not-false}
 use Rattle.laws.specs.Numbers.{uncounted, leastLength, mostLength}
 use Rattle.laws.proofs.Choice.{true-or, or-left, or-right}
 use Rattle.wire.specs.Frame.{protocolOf, lengthOf, misframed}
-use Rattle.wire.specs.Splitting.{badHeader, standingOf, sizeIf, firstFrame, frames}
-use Rattle.wire.specs.declared.Split.{Split}
-use Rattle.wire.specs.declared.Split.the-variants.{Frame, MoreNeeded, Refused}
+use Rattle.splitting.specs.Splitting.{badHeader, standingOf, sizeIf, firstFrame, frames}
+use Rattle.splitting.specs.declared.Split.{Split}
+use Rattle.splitting.specs.declared.Split.the-variants.{Frame, MoreNeeded, Refused}
 use Rattle.laws.proofs.Choice.{cond-first, cond-second}
 use Rattle.laws.proofs.ListLaws.{take-part, front-rest}
 use Rattle.laws.proofs.ByteLaws.{pair-append}
 use Rattle.wire.proofs.FrameLaws.{framed, not-misframed}
 
 -- what a run with a frame at its start is known to be
 pub record Starts (r : List ℕ) : Type 0 where

@@ -1,11 +1,11 @@
--- `wire::lay_id` meets its contract: a number put at byte 0 is an id laid over.
+-- `frames::lay_id` meets its contract: a number put at byte 0 is an id laid over.
 -- Assumes nothing.
 use mathlib.Core.Path.{_∙_}
 use denote.Ref.{now}
 use Rattle.wire.proofs.FrameLaws.{put-laid}
 use borrow.Author.Needs.{needs}
-use Rattle.wire.proofs.lay_id.Statement.{statement}
-use Rattle.wire.proofs.lay_id.Tie as tie
+use Rattle.frames.proofs.lay_id.Statement.{statement}
+use Rattle.frames.proofs.lay_id.Tie as tie
 
 returns : tie.Need-returns
 returns c =

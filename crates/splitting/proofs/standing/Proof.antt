@@ -1,11 +1,11 @@
--- `wire::standing` meets its contract: each return is one of the definition's four outcomes.
+-- `splitting::standing` meets its contract: each return is one of the definition's four outcomes.
 -- Assumes nothing.
 use mathlib.Core.Path.{sym}
 use denote.Ref.{now}
-use Rattle.wire.proofs.SplittingLaws.{short-waits, six-decide, part-waits, whole-stands}
+use Rattle.splitting.proofs.SplittingLaws.{short-waits, six-decide, part-waits, whole-stands}
 use borrow.Author.Needs.{needs}
-use Rattle.wire.proofs.standing.Statement.{statement}
-use Rattle.wire.proofs.standing.Tie as tie
+use Rattle.splitting.proofs.standing.Statement.{statement}
+use Rattle.splitting.proofs.standing.Tie as tie
 
 returns : tie.Need-returns
 returns c = sym (short-waits (now (c .before .before .args .run)) (c .if1 .taken))

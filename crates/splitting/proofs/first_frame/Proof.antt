@@ -1,16 +1,16 @@
--- `wire::first_frame` meets its contract: the first frame is a part of the run, so that many bytes from the front are it.
+-- `splitting::first_frame` meets its contract: the first frame is a part of the run, so that many bytes from the front are it.
 -- Assumes nothing.
 use Prim.Native.Nat.{ℕ}
 use mathlib.Core.Path.{sym, ap, _∙_}
 use lib.ListN.{take}
 use lib.Seq.{length-take-le}
 use denote.Ref.{now}
-use Rattle.wire.specs.Splitting.{firstFrame}
+use Rattle.splitting.specs.Splitting.{firstFrame}
 use Rattle.laws.proofs.ListLaws.{front, front-length}
-use Rattle.wire.proofs.SplittingLaws.{first-is-part}
+use Rattle.splitting.proofs.SplittingLaws.{first-is-part}
 use borrow.Author.Needs.{needs}
-use Rattle.wire.proofs.first_frame.Statement.{statement}
-use Rattle.wire.proofs.first_frame.Tie as tie
+use Rattle.splitting.proofs.first_frame.Statement.{statement}
+use Rattle.splitting.proofs.first_frame.Tie as tie
 
 returns : tie.Need-returns
 returns c =

@@ -1,15 +1,15 @@
--- `wire::except` meets its contract: its stores, one after the other from the front, write the exception over it.
+-- `frames::except` meets its contract: its stores, one after the other from the front, write the exception over it.
 -- Assumes nothing.
 use mathlib.Core.Path.{sym, _∙_}
 use native.Mathlib.Omega.{arith}
 use lib.ListN.{length-set}
 use denote.Ref.{now}
 use Rattle.laws.proofs.ByteLaws.{written}
 use Rattle.wire.specs.Frame.{exception}
 use Rattle.wire.proofs.FrameLaws.{put-laid}
 use borrow.Author.Needs.{needs}
-use Rattle.wire.proofs.except.Statement.{statement}
-use Rattle.wire.proofs.except.Tie as tie
+use Rattle.frames.proofs.except.Statement.{statement}
+use Rattle.frames.proofs.except.Tie as tie
 
 returns : tie.Need-returns
 unfolding exception

@@ -1,9 +1,9 @@
--- `wire::is_misframed` meets its contract: the definition's tests on the numbers that were read.
+-- `frames::is_misframed` meets its contract: the definition's tests on the numbers that were read.
 -- Assumes nothing.
 use Rattle.wire.specs.Frame.{misframed}
 use borrow.Author.Needs.{needs}
-use Rattle.wire.proofs.is_misframed.Statement.{statement}
-use Rattle.wire.proofs.is_misframed.Tie as tie
+use Rattle.frames.proofs.is_misframed.Statement.{statement}
+use Rattle.frames.proofs.is_misframed.Tie as tie
 
 returns : tie.Need-returns
 unfolding misframed

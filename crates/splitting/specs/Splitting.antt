@@ -6,9 +6,9 @@ use mathlib.Core.List.{List, [], _∷_}
 use lib.ListN.{length, take, drop}
 use lib.Dec.{eqb, ltb}
 use Rattle.laws.specs.Numbers.{uncounted, leastLength, mostLength}
 use Rattle.wire.specs.Frame.{protocolOf, lengthOf}
-use Rattle.wire.specs.declared.Split.{Split}
-use Rattle.wire.specs.declared.Split.the-variants.{Frame, MoreNeeded, Refused}
+use Rattle.splitting.specs.declared.Split.{Split}
+use Rattle.splitting.specs.declared.Split.the-variants.{Frame, MoreNeeded, Refused}
 
 -- protocol not 0, or length not 2 to 254
 abbrev pub badHeader : List ℕ → Bool

@@ -1,13 +1,13 @@
--- `wire::first_size` meets its contract: each arm knows which outcome stands.
+-- `splitting::first_size` meets its contract: each arm knows which outcome stands.
 -- Assumes nothing.
 use mathlib.Core.Path.{sym, ap, _∙_}
 use lib.ListN.{length}
 use denote.Ref.{now}
-use Rattle.wire.specs.Splitting.{sizeIf}
-use Rattle.wire.proofs.SplittingLaws.{first-at, first-size}
+use Rattle.splitting.specs.Splitting.{sizeIf}
+use Rattle.splitting.proofs.SplittingLaws.{first-at, first-size}
 use borrow.Author.Needs.{needs}
-use Rattle.wire.proofs.first_size.Statement.{statement}
-use Rattle.wire.proofs.first_size.Tie as tie
+use Rattle.splitting.proofs.first_size.Statement.{statement}
+use Rattle.splitting.proofs.first_size.Tie as tie
 
 returns : tie.Need-returns
 returns c =
