@@ -3,7 +3,7 @@ ghost use Rattle.rewrite.specs.Lent.{TagWords};
 use pdu::Checked;
 use pdu::ProxyId;
 use rewrite::Raw;
-use settings::tagwords::tag_word;
+use tagwords::tag_word;
 
 // The id that the proxy gives each request here.
 const ISSUED: u16 = 9;

@@ -37,7 +37,7 @@ fn adopt<'a>(
     *timeout = value.timeout;
     *join = value.join;
     *tagged = value.tags;
-    settings::tagwords::fill_words(value, tags);
+    tagwords::fill_words(value, tags);
 }
 
 // Makes the lent state fresh, whatever it was. An invalid value is refusal 10, and the state is then made from the usual one; else 0.
@@ -79,7 +79,7 @@ pub fn fresh<'a>(
     *cursor = 0;
     *attached = 0;
     *clock = 0;
-    if settings::values::is_valid(from) {
+    if values::is_valid(from) {
         adopt(timeout, join, tagged, tags, from);
         return 0;
     }

@@ -18,8 +18,8 @@ use bcd::Encoded;
 use bcd::Kind;
 use pdu::Asked;
 use pdu::ProxyId;
-use settings::tagwords::tag_address;
-use settings::tagwords::tag_kind;
+use tagwords::tag_address;
+use tagwords::tag_kind;
 
 // How many words a register can hold.
 const WORDS: u32 = 65536;
