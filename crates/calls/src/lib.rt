@@ -81,7 +81,7 @@ fn freshened(
 ) -> Stepped
     ensures { λ r. ⌜ Freshly from r ⌝ }
 {
-    let refused = proxy::making::fresh(
+    let refused = making::fresh(
         &mut ids,
         &mut asked,
         &mut notes,

@@ -31,7 +31,7 @@ pub fn fresh<'a>(
 ) -> Report
     ensures { λ r. ⌜ Freshened from r (lent (now (ids .exit)) (now (asked .exit)) (now (notes .exit)) (now (deadlines .exit)) (now (counts .exit)) (now (clients .exit)) (now (originals .exit)) (now (top .exit)) (now (cursor .exit)) (now (attached .exit)) (now (clock .exit)) (now (timeout .exit)) (now (join .exit)) (now (tagged .exit)) (now (tags .exit))) ⌝ }
 {
-    let refused = proxy::making::fresh(
+    let refused = making::fresh(
         ids,
         asked,
         notes,

@@ -1,11 +1,11 @@
--- `proxy::making::fresh` meets its contract: a valid value is adopted, and the usual one beside refusal 10.
+-- `making::fresh` meets its contract: a valid value is adopted, and the usual one beside refusal 10.
 -- Assumes nothing.
 use mathlib.Core.Path.{sym, _∙_}
 use Rattle.settings.specs.Values.{valueOf, usual}
 use Rattle.proxy.proofs.MakingLaws.{usual-valid, adopts-valid, adopts-usual, made-fresh}
 use borrow.Author.Needs.{needs}
-use Rattle.proxy.proofs.making.fresh.Statement.{statement}
-use Rattle.proxy.proofs.making.fresh.Tie as tie
+use Rattle.making.proofs.fresh.Statement.{statement}
+use Rattle.making.proofs.fresh.Tie as tie
 
 adopt-requires : tie.Need-adopt-requires
 adopt-requires c κs = let b = c .before .before .before .before in sym (b .before .is-valid .ensures) ∙ b .if1 .taken

@@ -1,10 +1,10 @@
--- `proxy::making::usual` meets its contract: no tag is listed.
+-- `making::usual` meets its contract: no tag is listed.
 -- Assumes nothing.
 use mathlib.Core.Path.{refl}
 use Rattle.laws.specs.Lists.{tab}
 use Rattle.settings.specs.Values.{valueOf}
-use Rattle.proxy.proofs.making.usual.Statement.{statement}
-use Rattle.proxy.proofs.making.usual.Tie as tie
+use Rattle.making.proofs.usual.Statement.{statement}
+use Rattle.making.proofs.usual.Tie as tie
 
 returns : tie.Need-returns
 unfolding valueOf tab

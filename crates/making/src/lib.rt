@@ -1,4 +1,4 @@
-// Making a fresh state from a settings value.
+// Making a fresh state over lent columns from a settings value.
 use settings::Settings;
 ghost use mathlib.Core.Path.{_≡_};
 ghost use mathlib.Core.Bool.{true};

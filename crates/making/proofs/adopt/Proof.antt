@@ -1,10 +1,10 @@
--- `proxy::making::adopt` meets its contract: what is written keeps the value.
+-- `making::adopt` meets its contract: what is written keeps the value.
 -- Assumes nothing.
 use Rattle.settings.specs.Values.{valueOf}
 use Rattle.proxy.proofs.MakingLaws.{kept-value, listed-tags}
 use borrow.Author.Needs.{needs}
-use Rattle.proxy.proofs.making.adopt.Statement.{statement}
-use Rattle.proxy.proofs.making.adopt.Tie as tie
+use Rattle.making.proofs.adopt.Statement.{statement}
+use Rattle.making.proofs.adopt.Tie as tie
 
 returns : tie.Need-returns
 unfolding valueOf
