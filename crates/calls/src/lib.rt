@@ -71,7 +71,7 @@ fn freshened(
 ) -> Stepped
     ensures { λ r. ⌜ Freshly from r ⌝ }
 {
-    let answer = proxy::making::fresh(
+    let answer = making::fresh(
         &mut ids,
         &mut asked,
         &mut notes,

@@ -102,7 +102,7 @@ pub fn forward(
     let n = frame.len();
     wire::copy(out, frame);
     let raw = send(&mut out[..n], asked, tags, tagged);
-    wire::lay_id(out, id.0);
+    frames::lay_id(out, id.0);
     raw
 }
 
@@ -123,6 +123,6 @@ pub fn give_back(
     let n = frame.len();
     wire::copy(out, frame);
     let raw = bring(&mut out[..n], function, asked, tags, tagged);
-    wire::lay_id(out, 0);
+    frames::lay_id(out, 0);
     raw
 }

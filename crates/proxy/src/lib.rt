@@ -1,3 +1,2 @@
-// The calls that carry no time, over lent columns: attach, detach, link lost, and making a fresh state.
+// What a state in columns is, and the calls on one that carry no time: attach, detach, link lost.
 pub mod attaching;
-pub mod making;

@@ -16,8 +16,8 @@ use bcd::Kind;
 use rewrite::Raw;
 use rewrite::Turned;
 use rewrite::Way;
-use settings::tagwords::tag_address;
-use settings::tagwords::tag_kind;
+use tagwords::tag_address;
+use tagwords::tag_kind;
 
 // How many words a register can hold.
 const WORDS: u32 = 65536;

@@ -34,7 +34,7 @@ fn reply_refusal(out: usize, list: usize, time: u64, clock: u64, frame: &[u8]) -
     if refused != 0 {
         return refused;
     }
-    if wire::is_misframed(frame) {
+    if frames::is_misframed(frame) {
         return 4;
     }
     0
@@ -159,7 +159,7 @@ pub fn tick<'a>(
     let word = asked[place];
     let id = table::id_at(ids, place);
     let parties = ending::end_at(ids, counts, clients, originals, top, place, list);
-    wire::except(
+    frames::except(
         out,
         0,
         words::unit_in(word),

@@ -9,10 +9,10 @@ use lib.ListN.{length}
 use lib.Dec.{ltb}
 use Rattle.laws.specs.Numbers.{mostText, mostFrame}
 use Rattle.laws.specs.Bytes.{over}
-use Rattle.wire.specs.Splitting.{standingOf, firstFrame}
-use Rattle.wire.specs.declared.Split.{Split}
-use Rattle.wire.specs.declared.Split.the-variants.{Frame}
-use Rattle.wire.proofs.SplittingLaws.{starts, first-size}
+use Rattle.splitting.specs.Splitting.{standingOf, firstFrame}
+use Rattle.splitting.specs.declared.Split.{Split}
+use Rattle.splitting.specs.declared.Split.the-variants.{Frame}
+use Rattle.splitting.proofs.SplittingLaws.{starts, first-size}
 use Rattle.settings.specs.Grammar.{Value, Read, newest, textIn, valid, readText}
 use Rattle.settings.specs.Grammar.Read.{got, wrong}
 use Rattle.settings.proofs.GrammarLaws.{wrong-lines, longest}

@@ -2,8 +2,8 @@
 -- Assumes nothing.
 use Prim.Native.Nat.{ℕ}
 use mathlib.Core.List.{List}
-use Rattle.wire.specs.declared.Split.{Split}
-use Rattle.wire.specs.declared.Split.the-variants.{Frame, MoreNeeded, Refused}
+use Rattle.splitting.specs.declared.Split.{Split}
+use Rattle.splitting.specs.declared.Split.the-variants.{Frame, MoreNeeded, Refused}
 use Rattle.settings.specs.Grammar.{Value, Read}
 use Rattle.settings.specs.Grammar.Read.{got, wrong}
 use Rattle.settings.specs.Values.{settingsOf, usual}

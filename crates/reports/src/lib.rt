@@ -2,11 +2,11 @@
 use machine::DONE;
 use machine::Report;
 use settings::Settings;
-use wire::Split;
+use splitting::Split;
 use writing::Wrote;
 ghost use mathlib.Core.Path.{_≡_};
 ghost use lib.ListN.{length};
-ghost use Rattle.wire.specs.Splitting.{standingOf, firstFrame};
+ghost use Rattle.splitting.specs.Splitting.{standingOf, firstFrame};
 ghost use Rattle.settings.specs.Grammar.{readText};
 ghost use Rattle.settings.specs.Values.{valueOf};
 ghost use Rattle.writing.specs.Reports.{writtenTo};
@@ -46,9 +46,9 @@ pub struct SettingsRead {
 pub fn split(run: &[u8]) -> Report
     ensures { λ r. ⌜ r ≡ splitTold (standingOf (now (run .entry))) (length (firstFrame (now (run .entry)))) ⌝ }
 {
-    match wire::standing(run) {
+    match splitting::standing(run) {
         Split::Frame => {
-            let size = wire::first_frame(run).len();
+            let size = splitting::first_frame(run).len();
             said(0, 0, FRAME, size as u32)
         }
         Split::MoreNeeded => said(0, 0, MORE, 0),

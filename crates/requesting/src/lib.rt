@@ -43,7 +43,7 @@ fn gate(out: usize, client: u32, attached: u32, time: u64, clock: u64, frame: &[
     if (laws::LATEST_TIME < time) | (time < clock) {
         return 3;
     }
-    if wire::is_misframed(frame) {
+    if frames::is_misframed(frame) {
         return 4;
     }
     0
@@ -57,7 +57,7 @@ fn except_caller(out: &mut [u8], frame: &[u8], code: u8) -> Answer
     let id = pdu::original_of(frame);
     let unit = wire::unit_of(frame);
     let function = wire::function_of(frame);
-    wire::except(out, id.0, unit, function, code);
+    frames::except(out, id.0, unit, function, code);
     Answer::Excepted { code }
 }
 

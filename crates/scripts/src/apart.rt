@@ -14,7 +14,7 @@ use parts::hex::parse;
 use parts::numbers::append_0x;
 use parts::numbers::append_decimal;
 use settings::Settings;
-use wire::Split;
+use splitting::Split;
 use writing::Wrote;
 
 // The cursor, the clock and the attached clients of a state.
@@ -29,7 +29,7 @@ pub fn cursor(cursor: u16, clock: u64, attached: u32, text: &mut [u8]) -> usize 
 // Puts what stands at the start of a run, and the part that is handed back.
 fn parted(text: &mut [u8], name: &[u8], run: &[u8]) -> usize {
     let at = append(text, 0, name);
-    append_hex(text, at, wire::first_frame(run))
+    append_hex(text, at, splitting::first_frame(run))
 }
 
 // The first frame of a run.
@@ -38,7 +38,7 @@ pub fn split(call: &[u8], bytes: &[u8], text: &mut [u8]) -> usize {
     let parsed = parse(bytes, &mut received);
     let size = length_in(call, b'z', parsed, 300);
     let run = before(&received, size);
-    match wire::standing(run) {
+    match splitting::standing(run) {
         Split::Frame => parted(text, b"frame:", run),
         Split::MoreNeeded => parted(text, b"more needed", run),
         Split::Refused => parted(text, b"refusal 4", run),

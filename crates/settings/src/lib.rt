@@ -1,6 +1,8 @@
-// The settings value, the grammar of its text, and the tag words that the state keeps of it.
-pub mod tagwords;
-pub mod values;
+// The settings value, the grammar of its text, what its tag words are, and the kind of a tag.
+ghost use mathlib.Core.Path.{_≡_};
+ghost use Prim.Native.Nat.{ℕ};
+ghost use Rattle.settings.specs.TagWords.{kindOf};
+use bcd::Kind;
 
 // The boundary's settings: how many of the tag places count, and each tag's address and width.
 #[repr(C)]
@@ -10,4 +12,15 @@ pub struct Settings {
     pub tags: u32,
     pub addr: [u16; laws::MOST_TAGS],
     pub width: [u16; laws::MOST_TAGS],
+}
+
+// The kind of a tag, which its width alone decides.
+pub fn kind_of(width: u16) -> Kind
+    ensures { λ r. ⌜ ((address : ℕ) → r ≡ kindOf (record { address = address; width = width })) ⌝ }
+{
+    if width == 32 {
+        Kind::Width32
+    } else {
+        Kind::Width16
+    }
 }

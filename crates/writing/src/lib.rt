@@ -10,7 +10,7 @@ ghost use Rattle.settings.specs.Values.{valueOf};
 ghost use Rattle.writing.specs.Reports.{writing, writtenTo};
 ghost use Rattle.writing.specs.Parts.{Laid, headText, tagText, tagsText};
 use settings::Settings;
-use settings::values::is_valid;
+use values::is_valid;
 
 // What writing comes to: the text's length, or a refusal: the buffer is too short, the value is invalid.
 pub enum Wrote {

@@ -4,7 +4,7 @@ use Prim.Native.Nat.{ℕ}
 use mathlib.Core.Path.{_≡_, ap, sym, _∙_}
 use mathlib.Core.List.{List}
 use lib.ListN.{length}
-use Rattle.wire.specs.Splitting.{standingOf, firstFrame}
+use Rattle.splitting.specs.Splitting.{standingOf, firstFrame}
 use Rattle.settings.specs.declared.Settings.{Settings}
 use Rattle.settings.specs.Grammar.{readText}
 use Rattle.settings.specs.Values.{valueOf}

@@ -4,7 +4,7 @@ use reports::SettingsRead;
 use settings::Settings;
 ghost use mathlib.Core.Path.{_≡_};
 ghost use lib.ListN.{length};
-ghost use Rattle.wire.specs.Splitting.{standingOf, firstFrame};
+ghost use Rattle.splitting.specs.Splitting.{standingOf, firstFrame};
 ghost use Rattle.settings.specs.Grammar.{readText};
 ghost use Rattle.settings.specs.Values.{valueOf};
 ghost use Rattle.writing.specs.Reports.{writtenTo};

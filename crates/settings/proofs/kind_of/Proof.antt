@@ -1,0 +1,17 @@
+-- `settings::kind_of` meets its contract: a width gives its kind.
+-- Assumes nothing.
+use borrow.Author.Tests.{eq-eqb, ne-eqb}
+use Rattle.settings.specs.TagWords.{kindOf}
+use Rattle.settings.proofs.kind_of.Statement.{statement}
+use Rattle.settings.proofs.kind_of.Tie as tie
+
+returns : tie.Need-returns
+unfolding kindOf
+returns c = λ address. rw (eq-eqb _ 32 (c .if1 .taken))
+
+returns-2 : tie.Need-returns-2
+unfolding kindOf
+returns-2 c = λ address. rw (ne-eqb _ 32 (c .if1 .left))
+
+pub kind-of-spec : {M : Type 1} → statement M
+kind-of-spec = tie.close (tie.spec returns returns-2)

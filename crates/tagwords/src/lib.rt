@@ -1,0 +1,106 @@
+// The word that the state keeps of a tag: tag words of a settings value, and a settings value of tag words.
+ghost use mathlib.Core.Path.{_≡_};
+ghost use mathlib.Core.Bool.{true};
+ghost use mathlib.Core.List.{map};
+ghost use Prim.Native.Nat.{_≤_};
+ghost use lib.ListN.{length, take};
+ghost use Rattle.laws.specs.Numbers.{mostTags};
+ghost use Rattle.settings.specs.Grammar.{valid};
+ghost use Rattle.settings.specs.Values.{valueOf, settingsOf, padded};
+ghost use Rattle.settings.specs.TagWords.{kindOf, kindNumber, kindFrom, widthOf, wordOf, tagOf};
+use bcd::Kind;
+use settings::Settings;
+use settings::kind_of;
+
+fn kind_number(kind: Kind) -> u64
+    ensures { λ r. ⌜ (r ≡ kindNumber kind) × (r ≤ 255) ⌝ }
+{
+    match kind {
+        Kind::Width16 => 0,
+        Kind::Width32 => 1,
+    }
+}
+
+fn kind_from(number: u64) -> Kind
+    ensures { λ r. ⌜ r ≡ kindFrom number ⌝ }
+{
+    if number == 1 {
+        Kind::Width32
+    } else {
+        Kind::Width16
+    }
+}
+
+fn width_of(kind: Kind) -> u16
+    ensures { λ r. ⌜ r ≡ widthOf kind ⌝ }
+{
+    match kind {
+        Kind::Width16 => 16,
+        Kind::Width32 => 32,
+    }
+}
+
+// The word of a tag.
+pub fn tag_word(address: u16, width: u16) -> u64
+    ensures { λ r. ⌜ r ≡ wordOf (record { address = address; width = width }) ⌝ }
+{
+    address as u64 + laws::ADDRESSES as u64 * kind_number(kind_of(width))
+}
+
+pub fn tag_address(word: u64) -> u16
+    ensures { λ r. ⌜ r ≡ tagOf word .address ⌝ }
+{
+    (word % laws::ADDRESSES as u64) as u16
+}
+
+pub fn tag_kind(word: u64) -> Kind
+    ensures { λ r. ⌜ r ≡ kindOf (tagOf word) ⌝ }
+{
+    kind_from(word / laws::ADDRESSES as u64 % 256)
+}
+
+// The words of the listed tags, and 0 in every place beyond.
+pub fn fill_words(s: Settings, words: &mut [u64; laws::MOST_TAGS])
+    requires { ⌜ valid (valueOf s) ≡ true ⌝ }
+    ensures { λ r. ⌜ now (words .exit) ≡ padded (map wordOf (valueOf s .tags)) ⌝ }
+{
+    *words = [0u64; laws::MOST_TAGS];
+    let mut k: usize = 0;
+    while k < s.tags as usize {
+        words[k] = tag_word(s.addr[k], s.width[k]);
+        k += 1;
+    }
+}
+
+// What an array by value tells: its length.
+fn told(words: [u64; laws::MOST_TAGS])
+    ensures { λ r. ⌜ length words ≡ mostTags ⌝ }
+{}
+
+// The boundary's settings of what the state keeps.
+pub fn settings_from(
+    timeout: u32,
+    join: u32,
+    tagged: u32,
+    words: &[u64; laws::MOST_TAGS],
+) -> Settings
+    requires { ⌜ tagged ≤ mostTags ⌝ }
+    ensures { λ r. ⌜ r ≡ settingsOf (record { timeout = timeout; join = join; tags = map tagOf (take tagged (now (words .entry))) }) ⌝ }
+{
+    told(*words);
+    let mut addr = [0u16; laws::MOST_TAGS];
+    let mut width = [0u16; laws::MOST_TAGS];
+    let mut k: usize = 0;
+    while k < tagged as usize {
+        addr[k] = tag_address(words[k]);
+        width[k] = width_of(tag_kind(words[k]));
+        k += 1;
+    }
+    Settings {
+        timeout: timeout,
+        join: join,
+        tags: tagged,
+        addr: addr,
+        width: width,
+    }
+}

@@ -1,0 +1,82 @@
+// Whether a settings value is valid, and whether two are equal.
+ghost use mathlib.Core.Path.{_≡_};
+ghost use mathlib.Core.Bool.{_&&_};
+ghost use mathlib.Core.List.{[], _∷_};
+ghost use Prim.Native.Nat.{_+_, min};
+ghost use lib.Dec.{leb};
+ghost use Rattle.laws.specs.Numbers.{mostTags};
+ghost use Rattle.settings.specs.Grammar.{valid, lastRegister, rightTimeout, rightJoin, rightTags, rightWidth};
+ghost use Rattle.settings.specs.Values.{valueOf, same};
+use settings::Settings;
+
+// The rules of the lines behind the version line.
+fn head_right(timeout: u32, join: u32, tags: u32) -> bool
+    ensures { λ r. ⌜ r ≡ (rightTimeout timeout && (rightJoin join && rightTags tags)) ⌝ }
+{
+    ((laws::LEAST_TIMEOUT <= timeout) & (timeout <= laws::MOST_TIMEOUT))
+        & ((join <= 1) & (tags as usize <= laws::MOST_TAGS))
+}
+
+// The rules of a tag's lines; `from` is the first address above the tag before.
+fn tag_right(from: u32, address: u16, width: u16) -> bool
+    ensures { λ r. ⌜ r ≡ (leb from address && rightWidth (address ∷ []) width) ⌝ }
+{
+    (from <= address as u32)
+        & ((width == 16) | ((width == 32) & (address as u32 + 1 < laws::ADDRESSES)))
+}
+
+// The first address above a tag.
+fn above(address: u16, width: u16) -> u32
+    ensures { λ r. ⌜ r ≡ lastRegister (address ∷ width ∷ []) + 1 ⌝ }
+{
+    if width == 32 {
+        address as u32 + 2
+    } else {
+        address as u32 + 1
+    }
+}
+
+// Every number follows the rule of its line.
+pub fn is_valid(s: Settings) -> bool
+    ensures { λ r. ⌜ r ≡ valid (valueOf s) ⌝ }
+{
+    if !head_right(s.timeout, s.join, s.tags) {
+        return false;
+    }
+    let mut right = true;
+    let mut from: u32 = 0;
+    let mut k: usize = 0;
+    while k < s.tags as usize {
+        let address = s.addr[k];
+        let width = s.width[k];
+        right = right & tag_right(from, address, width);
+        from = above(address, width);
+        k += 1;
+    }
+    right
+}
+
+// How many places there are of so many tags.
+fn places(tags: u32) -> usize
+    ensures { λ r. ⌜ r ≡ min tags mostTags ⌝ }
+{
+    if tags as usize <= laws::MOST_TAGS {
+        tags as usize
+    } else {
+        laws::MOST_TAGS
+    }
+}
+
+// Equal are timeout, join and the listed tags; a place beyond the arrays counts as 0 on both sides.
+pub fn are_equal(a: Settings, b: Settings) -> bool
+    ensures { λ r. ⌜ r ≡ same (valueOf a) (valueOf b) ⌝ }
+{
+    let mut equal = (a.timeout == b.timeout) & ((a.join == b.join) & (a.tags == b.tags));
+    let listed = places(a.tags);
+    let mut k: usize = 0;
+    while k < listed {
+        equal = equal & ((a.addr[k] == b.addr[k]) & (a.width[k] == b.width[k]));
+        k += 1;
+    }
+    equal
+}
