@@ -29,7 +29,7 @@ machineIn d = machineOf (stateOf d)
 -- what a call leaves, and what the host sees of it, are the machine's
 module _ {d e : Device} (x : Line) (s : Served d (x .call) (x .saw .report) e (x .saw .frame) (x .saw .list)) where
   left : machineIn e ≡ outcome (machineIn d) (x .call) .after
-  left = ap (λ (y : Whole). y .after) (s .0)
+  left = ap (λ (y : Reported). y .after) (s .0)
 
   seen : x .saw ≡ seenOf (outcome (machineIn d) (x .call))
   seen = ap sees (s .0)
