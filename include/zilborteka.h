@@ -17,7 +17,7 @@
 typedef struct zb_state {
     uint32_t ids[ZB_PLACES];             /* a live place: its proxy id plus 1; 0: free */
     uint64_t asked[ZB_PLACES];           /* what was asked, in one word */
-    uint8_t  notes[ZB_PLACES];           /* the client that it was issued for */
+    uint8_t  callers[ZB_PLACES];         /* the client that it was issued for */
     uint64_t deadlines[ZB_PLACES];
     uint8_t  counts[ZB_PLACES];          /* parties of the entry */
     uint8_t  clients[ZB_PARTY_PLACES];   /* entry number times eight plus place */

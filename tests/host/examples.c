@@ -114,7 +114,7 @@ static void sizes_and_offsets(void)
     EXPECT(zb_state_size() == 5032 && sizeof(zb_state) == 5032 && ZB_STATE_SIZE == 5032 && _Alignof(zb_state) == 8);
     EXPECT(offsetof(zb_state, ids) == 0 && sizeof((zb_state *)0)->ids == 256);
     EXPECT(offsetof(zb_state, asked) == 256 && sizeof((zb_state *)0)->asked == 512);
-    EXPECT(offsetof(zb_state, notes) == 768 && sizeof((zb_state *)0)->notes == 64);
+    EXPECT(offsetof(zb_state, callers) == 768 && sizeof((zb_state *)0)->callers == 64);
     EXPECT(offsetof(zb_state, deadlines) == 832 && sizeof((zb_state *)0)->deadlines == 512);
     EXPECT(offsetof(zb_state, counts) == 1344 && sizeof((zb_state *)0)->counts == 64);
     EXPECT(offsetof(zb_state, clients) == 1408 && sizeof((zb_state *)0)->clients == 512);

@@ -8,7 +8,7 @@ ghost use Rattle.proxy.specs.Calls.{Told};
 pub fn reply<'a>(
     ids: &'a mut [u32; laws::PLACES],
     asked: &'a mut [u64; laws::PLACES],
-    notes: &'a mut [u8; laws::PLACES],
+    callers: &'a mut [u8; laws::PLACES],
     deadlines: &'a mut [u64; laws::PLACES],
     counts: &'a mut [u8; laws::PLACES],
     clients: &'a mut [u8; laws::PARTY_PLACES],
@@ -26,14 +26,14 @@ pub fn reply<'a>(
     out: &mut [u8],
     list: &mut [u16],
 ) -> Report
-    requires { ⌜ Sounds (lent (now ids) (now asked) (now notes) (now deadlines) (now counts) (now clients) (now originals) (now top) (now cursor) (now attached) (now clock) (now timeout) (now join) (now tagged) (now tags)) ⌝ }
-    ensures { λ r. ⌜ Told (lent (now (ids .entry)) (now (asked .entry)) (now (notes .entry)) (now (deadlines .entry)) (now (counts .entry)) (now (clients .entry)) (now (originals .entry)) (now (top .entry)) (now (cursor .entry)) (now (attached .entry)) (now (clock .entry)) (now (timeout .entry)) (now (join .entry)) (now (tagged .entry)) (now (tags .entry))) (replies time (now (frame .entry)) (now (out .entry)) (now (list .entry))) r
-        (lent (now (ids .exit)) (now (asked .exit)) (now (notes .exit)) (now (deadlines .exit)) (now (counts .exit)) (now (clients .exit)) (now (originals .exit)) (now (top .exit)) (now (cursor .exit)) (now (attached .exit)) (now (clock .exit)) (now (timeout .exit)) (now (join .exit)) (now (tagged .exit)) (now (tags .exit))) (now (out .exit)) (now (list .exit)) ⌝ }
+    requires { ⌜ Sounds (lent (now ids) (now asked) (now callers) (now deadlines) (now counts) (now clients) (now originals) (now top) (now cursor) (now attached) (now clock) (now timeout) (now join) (now tagged) (now tags)) ⌝ }
+    ensures { λ r. ⌜ Told (lent (now (ids .entry)) (now (asked .entry)) (now (callers .entry)) (now (deadlines .entry)) (now (counts .entry)) (now (clients .entry)) (now (originals .entry)) (now (top .entry)) (now (cursor .entry)) (now (attached .entry)) (now (clock .entry)) (now (timeout .entry)) (now (join .entry)) (now (tagged .entry)) (now (tags .entry))) (replies time (now (frame .entry)) (now (out .entry)) (now (list .entry))) r
+        (lent (now (ids .exit)) (now (asked .exit)) (now (callers .exit)) (now (deadlines .exit)) (now (counts .exit)) (now (clients .exit)) (now (originals .exit)) (now (top .exit)) (now (cursor .exit)) (now (attached .exit)) (now (clock .exit)) (now (timeout .exit)) (now (join .exit)) (now (tagged .exit)) (now (tags .exit))) (now (out .exit)) (now (list .exit)) ⌝ }
 {
     machine::report_of(replying::reply(
         ids,
         asked,
-        notes,
+        callers,
         deadlines,
         counts,
         clients,
@@ -57,7 +57,7 @@ pub fn reply<'a>(
 pub fn tick<'a>(
     ids: &'a mut [u32; laws::PLACES],
     asked: &'a mut [u64; laws::PLACES],
-    notes: &'a mut [u8; laws::PLACES],
+    callers: &'a mut [u8; laws::PLACES],
     deadlines: &'a mut [u64; laws::PLACES],
     counts: &'a mut [u8; laws::PLACES],
     clients: &'a mut [u8; laws::PARTY_PLACES],
@@ -74,14 +74,14 @@ pub fn tick<'a>(
     out: &mut [u8],
     list: &mut [u16],
 ) -> Report
-    requires { ⌜ Sounds (lent (now ids) (now asked) (now notes) (now deadlines) (now counts) (now clients) (now originals) (now top) (now cursor) (now attached) (now clock) (now timeout) (now join) (now tagged) (now tags)) ⌝ }
-    ensures { λ r. ⌜ Told (lent (now (ids .entry)) (now (asked .entry)) (now (notes .entry)) (now (deadlines .entry)) (now (counts .entry)) (now (clients .entry)) (now (originals .entry)) (now (top .entry)) (now (cursor .entry)) (now (attached .entry)) (now (clock .entry)) (now (timeout .entry)) (now (join .entry)) (now (tagged .entry)) (now (tags .entry))) (ticks time (now (out .entry)) (now (list .entry))) r
-        (lent (now (ids .exit)) (now (asked .exit)) (now (notes .exit)) (now (deadlines .exit)) (now (counts .exit)) (now (clients .exit)) (now (originals .exit)) (now (top .exit)) (now (cursor .exit)) (now (attached .exit)) (now (clock .exit)) (now (timeout .exit)) (now (join .exit)) (now (tagged .exit)) (now (tags .exit))) (now (out .exit)) (now (list .exit)) ⌝ }
+    requires { ⌜ Sounds (lent (now ids) (now asked) (now callers) (now deadlines) (now counts) (now clients) (now originals) (now top) (now cursor) (now attached) (now clock) (now timeout) (now join) (now tagged) (now tags)) ⌝ }
+    ensures { λ r. ⌜ Told (lent (now (ids .entry)) (now (asked .entry)) (now (callers .entry)) (now (deadlines .entry)) (now (counts .entry)) (now (clients .entry)) (now (originals .entry)) (now (top .entry)) (now (cursor .entry)) (now (attached .entry)) (now (clock .entry)) (now (timeout .entry)) (now (join .entry)) (now (tagged .entry)) (now (tags .entry))) (ticks time (now (out .entry)) (now (list .entry))) r
+        (lent (now (ids .exit)) (now (asked .exit)) (now (callers .exit)) (now (deadlines .exit)) (now (counts .exit)) (now (clients .exit)) (now (originals .exit)) (now (top .exit)) (now (cursor .exit)) (now (attached .exit)) (now (clock .exit)) (now (timeout .exit)) (now (join .exit)) (now (tagged .exit)) (now (tags .exit))) (now (out .exit)) (now (list .exit)) ⌝ }
 {
     machine::report_of(replying::tick(
         ids,
         asked,
-        notes,
+        callers,
         deadlines,
         counts,
         clients,

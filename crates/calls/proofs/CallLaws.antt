@@ -39,11 +39,11 @@ module _ (is ws bs ds ns cs os : List ℕ) (top cursor attached clock timeout jo
 module _ (s : State) (c : Columns) (spread : AreOf (s .entries) c) where
   abbrev columned : Columned
   columned =
-      lent (c .ids) (c .asked) (c .notes) (c .deadlines) (c .counts) (s .clients) (s .originals) (s .top) (s .cursor .0) (s .attached) (s .clock) (s .timeout) (s .join)
+      lent (c .ids) (c .asked) (c .callers) (c .deadlines) (c .counts) (s .clients) (s .originals) (s .top) (s .cursor .0) (s .attached) (s .clock) (s .timeout) (s .join)
       (s .tagged) (s .tags)
 
   same-state : columned ≡ stateOf s
-  same-state = spread-is s (c .ids) (c .asked) (c .notes) (c .deadlines) (c .counts) spread
+  same-state = spread-is s (c .ids) (c .asked) (c .callers) (c .deadlines) (c .counts) spread
 
   -- The columns of a sound state are sound.
   pub spread-sound : Made s → Sounds columned

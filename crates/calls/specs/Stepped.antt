@@ -20,7 +20,7 @@ use Rattle.calls.specs.declared.Stepped.{Stepped}
 -- these are the columns of the entries
 abbrev pub AreOf : List Place → Columns → Type 0
 AreOf es c =
-    (c .ids ≡ map numberOf es) × (c .asked ≡ map wordIn es) × (c .notes ≡ map callerOf es) × (c .deadlines ≡ map deadlineOf es) × (c .counts ≡ map countOf es)
+    (c .ids ≡ map numberOf es) × (c .asked ≡ map wordIn es) × (c .callers ≡ map callerOf es) × (c .deadlines ≡ map deadlineOf es) × (c .counts ≡ map countOf es)
 
 -- from the columns c a call comes to this answer, this state and these buffers, as document 01 says, and these calls made the state
 abbrev pub Carried : Columned → Call → Stepped → (written listed : List ℕ) → Type 0

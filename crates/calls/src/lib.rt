@@ -19,7 +19,7 @@ pub struct Stepped {
 pub struct Columns {
     pub ids: [u32; laws::PLACES],
     pub asked: [u64; laws::PLACES],
-    pub notes: [u8; laws::PLACES],
+    pub callers: [u8; laws::PLACES],
     pub deadlines: [u64; laws::PLACES],
     pub counts: [u8; laws::PLACES],
 }
@@ -30,21 +30,21 @@ pub fn columns_of(entries: [Place; laws::PLACES]) -> Columns
 {
     let mut ids = [0u32; laws::PLACES];
     let mut asked = [0u64; laws::PLACES];
-    let mut notes = [0u8; laws::PLACES];
+    let mut callers = [0u8; laws::PLACES];
     let mut deadlines = [0u64; laws::PLACES];
     let mut counts = [0u8; laws::PLACES];
     state::spread(
         entries,
         &mut ids,
         &mut asked,
-        &mut notes,
+        &mut callers,
         &mut deadlines,
         &mut counts,
     );
     Columns {
         ids,
         asked,
-        notes,
+        callers,
         deadlines,
         counts,
     }
@@ -54,7 +54,7 @@ pub fn columns_of(entries: [Place; laws::PLACES]) -> Columns
 fn freshened(
     mut ids: [u32; laws::PLACES],
     mut asked: [u64; laws::PLACES],
-    mut notes: [u8; laws::PLACES],
+    mut callers: [u8; laws::PLACES],
     mut deadlines: [u64; laws::PLACES],
     mut counts: [u8; laws::PLACES],
     mut clients: [u8; laws::PARTY_PLACES],
@@ -74,7 +74,7 @@ fn freshened(
     let answer = making::fresh(
         &mut ids,
         &mut asked,
-        &mut notes,
+        &mut callers,
         &mut deadlines,
         &mut counts,
         &mut clients,
@@ -92,7 +92,7 @@ fn freshened(
     let state = state::gather(
         ids,
         asked,
-        notes,
+        callers,
         deadlines,
         counts,
         clients,
@@ -154,7 +154,7 @@ pub fn detach(s: State, client: u32) -> Stepped
     let c = columns_of(entries);
     let ids = c.ids;
     let asked = c.asked;
-    let notes = c.notes;
+    let callers = c.callers;
     let deadlines = c.deadlines;
     let mut counts = c.counts;
     let mut clients = s.clients;
@@ -173,7 +173,7 @@ pub fn detach(s: State, client: u32) -> Stepped
     let state = state::gather(
         ids,
         asked,
-        notes,
+        callers,
         deadlines,
         counts,
         clients,
@@ -199,7 +199,7 @@ pub fn link_lost(s: State) -> Stepped
     let c = columns_of(entries);
     let mut ids = c.ids;
     let asked = c.asked;
-    let notes = c.notes;
+    let callers = c.callers;
     let deadlines = c.deadlines;
     let counts = c.counts;
     let clients = s.clients;
@@ -211,7 +211,7 @@ pub fn link_lost(s: State) -> Stepped
     let state = state::gather(
         ids,
         asked,
-        notes,
+        callers,
         deadlines,
         counts,
         clients,

@@ -25,7 +25,7 @@ fn raised(top: u32, place: usize) -> u32
 pub fn issue<'a>(
     ids: &'a mut [u32; laws::PLACES],
     asked: &'a mut [u64; laws::PLACES],
-    notes: &'a mut [u8; laws::PLACES],
+    callers: &'a mut [u8; laws::PLACES],
     deadlines: &'a mut [u64; laws::PLACES],
     counts: &'a mut [u8; laws::PLACES],
     clients: &'a mut [u8; laws::PARTY_PLACES],
@@ -38,17 +38,17 @@ pub fn issue<'a>(
     client: u8,
     original: OriginalId,
 )
-    requires { ⌜ Sound (columns (now ids) (now asked) (now notes) (now deadlines) (now counts) (now clients) (now originals) (now top)) ⌝ }
+    requires { ⌜ Sound (columns (now ids) (now asked) (now callers) (now deadlines) (now counts) (now clients) (now originals) (now top)) ⌝ }
     requires { ⌜ (place < places) × (getD (now ids) place 0 ≡ 0) ⌝ }
     requires { ⌜ Proper (whatOf word) × (wordOf (whatOf word) ≡ word) ⌝ }
-    ensures { λ r. ⌜ tableOf (columns (now (ids .exit)) (now (asked .exit)) (now (notes .exit)) (now (deadlines .exit)) (now (counts .exit)) (now (clients .exit)) (now (originals .exit)) (now (top .exit)))
-        ≡ set (tableOf (columns (now (ids .entry)) (now (asked .entry)) (now (notes .entry)) (now (deadlines .entry)) (now (counts .entry)) (now (clients .entry)) (now (originals .entry)) (now (top .entry))))
+    ensures { λ r. ⌜ tableOf (columns (now (ids .exit)) (now (asked .exit)) (now (callers .exit)) (now (deadlines .exit)) (now (counts .exit)) (now (clients .exit)) (now (originals .exit)) (now (top .exit)))
+        ≡ set (tableOf (columns (now (ids .entry)) (now (asked .entry)) (now (callers .entry)) (now (deadlines .entry)) (now (counts .entry)) (now (clients .entry)) (now (originals .entry)) (now (top .entry))))
         place (some (entry (id .0) (whatOf word) client tt deadline (party client (original .0) ∷ []))) ⌝ }
-    ensures { λ r. ⌜ Sound (columns (now (ids .exit)) (now (asked .exit)) (now (notes .exit)) (now (deadlines .exit)) (now (counts .exit)) (now (clients .exit)) (now (originals .exit)) (now (top .exit))) ⌝ }
+    ensures { λ r. ⌜ Sound (columns (now (ids .exit)) (now (asked .exit)) (now (callers .exit)) (now (deadlines .exit)) (now (counts .exit)) (now (clients .exit)) (now (originals .exit)) (now (top .exit))) ⌝ }
 {
     ids[place] = id.0 as u32 + 1;
     asked[place] = word;
-    notes[place] = client;
+    callers[place] = client;
     deadlines[place] = deadline;
     counts[place] = 1;
     let at = place * laws::ROOM;
@@ -81,18 +81,18 @@ pub fn join<'a>(
 pub fn clear<'a>(
     ids: &'a mut [u32; laws::PLACES],
     asked: &'a mut [u64; laws::PLACES],
-    notes: &'a mut [u8; laws::PLACES],
+    callers: &'a mut [u8; laws::PLACES],
     deadlines: &'a mut [u64; laws::PLACES],
     counts: &'a mut [u8; laws::PLACES],
     clients: &'a mut [u8; laws::PARTY_PLACES],
     originals: &'a mut [u16; laws::PARTY_PLACES],
     top: &'a mut u32,
 )
-    ensures { λ r. ⌜ columns (now (ids .exit)) (now (asked .exit)) (now (notes .exit)) (now (deadlines .exit)) (now (counts .exit)) (now (clients .exit)) (now (originals .exit)) (now (top .exit)) ≡ blank ⌝ }
+    ensures { λ r. ⌜ columns (now (ids .exit)) (now (asked .exit)) (now (callers .exit)) (now (deadlines .exit)) (now (counts .exit)) (now (clients .exit)) (now (originals .exit)) (now (top .exit)) ≡ blank ⌝ }
 {
     *ids = [0u32; laws::PLACES];
     *asked = [0u64; laws::PLACES];
-    *notes = [0u8; laws::PLACES];
+    *callers = [0u8; laws::PLACES];
     *deadlines = [0u64; laws::PLACES];
     *counts = [0u8; laws::PLACES];
     *clients = [0u8; laws::PARTY_PLACES];

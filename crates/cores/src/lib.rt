@@ -13,7 +13,7 @@ ghost use Rattle.proxy.specs.Calls.{Told, FreshlyTold};
 pub fn fresh<'a>(
     ids: &'a mut [u32; laws::PLACES],
     asked: &'a mut [u64; laws::PLACES],
-    notes: &'a mut [u8; laws::PLACES],
+    callers: &'a mut [u8; laws::PLACES],
     deadlines: &'a mut [u64; laws::PLACES],
     counts: &'a mut [u8; laws::PLACES],
     clients: &'a mut [u8; laws::PARTY_PLACES],
@@ -28,12 +28,12 @@ pub fn fresh<'a>(
     tags: &'a mut [u64; laws::MOST_TAGS],
     from: Settings,
 ) -> Report
-    ensures { λ r. ⌜ FreshlyTold from r (lent (now (ids .exit)) (now (asked .exit)) (now (notes .exit)) (now (deadlines .exit)) (now (counts .exit)) (now (clients .exit)) (now (originals .exit)) (now (top .exit)) (now (cursor .exit)) (now (attached .exit)) (now (clock .exit)) (now (timeout .exit)) (now (join .exit)) (now (tagged .exit)) (now (tags .exit))) ⌝ }
+    ensures { λ r. ⌜ FreshlyTold from r (lent (now (ids .exit)) (now (asked .exit)) (now (callers .exit)) (now (deadlines .exit)) (now (counts .exit)) (now (clients .exit)) (now (originals .exit)) (now (top .exit)) (now (cursor .exit)) (now (attached .exit)) (now (clock .exit)) (now (timeout .exit)) (now (join .exit)) (now (tagged .exit)) (now (tags .exit))) ⌝ }
 {
     machine::report_of(making::fresh(
         ids,
         asked,
-        notes,
+        callers,
         deadlines,
         counts,
         clients,
@@ -52,10 +52,10 @@ pub fn fresh<'a>(
 
 // Attaches a client.
 pub fn attach<'a>(attached: &'a mut u32, client: u32) -> Report
-    ensures { λ r. ⌜ ((ids asked notes deadlines counts clients originals : List ℕ) (top cursor clock timeout join tagged : ℕ) (tags : List ℕ)
-        → Sounds (lent ids asked notes deadlines counts clients originals top cursor (now (attached .entry)) clock timeout join tagged tags)
-        → Told (lent ids asked notes deadlines counts clients originals top cursor (now (attached .entry)) clock timeout join tagged tags) (attaches client) r
-        (lent ids asked notes deadlines counts clients originals top cursor (now (attached .exit)) clock timeout join tagged tags) [] []) ⌝ }
+    ensures { λ r. ⌜ ((ids asked callers deadlines counts clients originals : List ℕ) (top cursor clock timeout join tagged : ℕ) (tags : List ℕ)
+        → Sounds (lent ids asked callers deadlines counts clients originals top cursor (now (attached .entry)) clock timeout join tagged tags)
+        → Told (lent ids asked callers deadlines counts clients originals top cursor (now (attached .entry)) clock timeout join tagged tags) (attaches client) r
+        (lent ids asked callers deadlines counts clients originals top cursor (now (attached .exit)) clock timeout join tagged tags) [] []) ⌝ }
 {
     machine::report_of(proxy::attaching::attach(attached, client))
 }
@@ -70,10 +70,10 @@ pub fn detach<'a>(
     client: u32,
 ) -> Report
     requires { ⌜ Runs (now counts) (now clients) (now originals) × (now top ≤ places) ⌝ }
-    ensures { λ r. ⌜ ((ids asked notes deadlines : List ℕ) (cursor clock timeout join tagged : ℕ) (tags : List ℕ)
-        → Sounds (lent ids asked notes deadlines (now (counts .entry)) (now (clients .entry)) (now (originals .entry)) (now (top .entry)) cursor (now (attached .entry)) clock timeout join tagged tags)
-        → Told (lent ids asked notes deadlines (now (counts .entry)) (now (clients .entry)) (now (originals .entry)) (now (top .entry)) cursor (now (attached .entry)) clock timeout join tagged tags) (detaches client) r
-        (lent ids asked notes deadlines (now (counts .exit)) (now (clients .exit)) (now (originals .exit)) (now (top .exit)) cursor (now (attached .exit)) clock timeout join tagged tags) [] []) ⌝ }
+    ensures { λ r. ⌜ ((ids asked callers deadlines : List ℕ) (cursor clock timeout join tagged : ℕ) (tags : List ℕ)
+        → Sounds (lent ids asked callers deadlines (now (counts .entry)) (now (clients .entry)) (now (originals .entry)) (now (top .entry)) cursor (now (attached .entry)) clock timeout join tagged tags)
+        → Told (lent ids asked callers deadlines (now (counts .entry)) (now (clients .entry)) (now (originals .entry)) (now (top .entry)) cursor (now (attached .entry)) clock timeout join tagged tags) (detaches client) r
+        (lent ids asked callers deadlines (now (counts .exit)) (now (clients .exit)) (now (originals .exit)) (now (top .exit)) cursor (now (attached .exit)) clock timeout join tagged tags) [] []) ⌝ }
 {
     machine::report_of(proxy::attaching::detach(counts, clients, originals, top, attached, client))
 }
@@ -82,7 +82,7 @@ pub fn detach<'a>(
 pub fn request<'a>(
     ids: &'a mut [u32; laws::PLACES],
     asked: &'a mut [u64; laws::PLACES],
-    notes: &'a mut [u8; laws::PLACES],
+    callers: &'a mut [u8; laws::PLACES],
     deadlines: &'a mut [u64; laws::PLACES],
     counts: &'a mut [u8; laws::PLACES],
     clients: &'a mut [u8; laws::PARTY_PLACES],
@@ -100,14 +100,14 @@ pub fn request<'a>(
     frame: &[u8],
     out: &mut [u8],
 ) -> Report
-    requires { ⌜ Sounds (lent (now ids) (now asked) (now notes) (now deadlines) (now counts) (now clients) (now originals) (now top) (now cursor) (now attached) (now clock) (now timeout) (now join) (now tagged) (now tags)) ⌝ }
-    ensures { λ r. ⌜ Told (lent (now (ids .entry)) (now (asked .entry)) (now (notes .entry)) (now (deadlines .entry)) (now (counts .entry)) (now (clients .entry)) (now (originals .entry)) (now (top .entry)) (now (cursor .entry)) (now (attached .entry)) (now (clock .entry)) (now (timeout .entry)) (now (join .entry)) (now (tagged .entry)) (now (tags .entry))) (asks client time (now (frame .entry)) (now (out .entry))) r
-        (lent (now (ids .exit)) (now (asked .exit)) (now (notes .exit)) (now (deadlines .exit)) (now (counts .exit)) (now (clients .exit)) (now (originals .exit)) (now (top .exit)) (now (cursor .exit)) (now (attached .exit)) (now (clock .exit)) (now (timeout .exit)) (now (join .exit)) (now (tagged .exit)) (now (tags .exit))) (now (out .exit)) [] ⌝ }
+    requires { ⌜ Sounds (lent (now ids) (now asked) (now callers) (now deadlines) (now counts) (now clients) (now originals) (now top) (now cursor) (now attached) (now clock) (now timeout) (now join) (now tagged) (now tags)) ⌝ }
+    ensures { λ r. ⌜ Told (lent (now (ids .entry)) (now (asked .entry)) (now (callers .entry)) (now (deadlines .entry)) (now (counts .entry)) (now (clients .entry)) (now (originals .entry)) (now (top .entry)) (now (cursor .entry)) (now (attached .entry)) (now (clock .entry)) (now (timeout .entry)) (now (join .entry)) (now (tagged .entry)) (now (tags .entry))) (asks client time (now (frame .entry)) (now (out .entry))) r
+        (lent (now (ids .exit)) (now (asked .exit)) (now (callers .exit)) (now (deadlines .exit)) (now (counts .exit)) (now (clients .exit)) (now (originals .exit)) (now (top .exit)) (now (cursor .exit)) (now (attached .exit)) (now (clock .exit)) (now (timeout .exit)) (now (join .exit)) (now (tagged .exit)) (now (tags .exit))) (now (out .exit)) [] ⌝ }
 {
     machine::report_of(requesting::request(
         ids,
         asked,
-        notes,
+        callers,
         deadlines,
         counts,
         clients,
@@ -133,10 +133,10 @@ pub fn link_lost<'a>(
     top: &'a mut u32,
     attached: &'a mut u32,
 ) -> Report
-    ensures { λ r. ⌜ ((asked notes deadlines counts clients originals : List ℕ) (cursor clock timeout join tagged : ℕ) (tags : List ℕ)
-        → Sounds (lent (now (ids .entry)) asked notes deadlines counts clients originals (now (top .entry)) cursor (now (attached .entry)) clock timeout join tagged tags)
-        → Told (lent (now (ids .entry)) asked notes deadlines counts clients originals (now (top .entry)) cursor (now (attached .entry)) clock timeout join tagged tags) (linkLost) r
-        (lent (now (ids .exit)) asked notes deadlines counts clients originals (now (top .exit)) cursor (now (attached .exit)) clock timeout join tagged tags) [] []) ⌝ }
+    ensures { λ r. ⌜ ((asked callers deadlines counts clients originals : List ℕ) (cursor clock timeout join tagged : ℕ) (tags : List ℕ)
+        → Sounds (lent (now (ids .entry)) asked callers deadlines counts clients originals (now (top .entry)) cursor (now (attached .entry)) clock timeout join tagged tags)
+        → Told (lent (now (ids .entry)) asked callers deadlines counts clients originals (now (top .entry)) cursor (now (attached .entry)) clock timeout join tagged tags) (linkLost) r
+        (lent (now (ids .exit)) asked callers deadlines counts clients originals (now (top .exit)) cursor (now (attached .exit)) clock timeout join tagged tags) [] []) ⌝ }
 {
     machine::report_of(proxy::attaching::link_lost(ids, top, attached))
 }

@@ -26,7 +26,7 @@ use Rattle.book.proofs.DeskLaws.{due-found, due-none, id-found}
 use Rattle.book.proofs.PlaceLaws.{at-low}
 use Rattle.book.proofs.TickLaws.{drains}
 use Rattle.machine.specs.Machine.{Machine, Note, Live-book, rules, settings, clocked}
-use Rattle.machine.specs.Calls.{Call, Done, done}
+use Rattle.machine.specs.Calls.{Call, Outcome, done}
 use Rattle.machine.specs.Calls.Call.{reply, tick}
 use Rattle.machine.specs.Refusals.{rows, refusal, entryFor, isMismatched}
 use Rattle.machine.specs.Replies.{pairs, answeredTo, answered, expiredTo, ticked}
@@ -43,7 +43,7 @@ matched : (f : List ℕ) (q : Option (Live What Note)) (e : Live What Note) → 
 matched f q e n h = not-false (answering (e .what) f) (sym (ap (isMismatched f) h) ∙ n)
 
 -- what a reply that is not refused does: the entry under its id, which it answers, is gone; what is said; its whole frame and list
-pub record Answers (m : Machine) (f o l : List ℕ) (d : Done) : Type 0 where
+pub record Answers (m : Machine) (f o l : List ℕ) (d : Outcome) : Type 0 where
   pub place : ℕ
   pub entry : Live What Note
   pub there : at (m .book) place ≡ some entry
@@ -85,14 +85,14 @@ reply-answers m t f o l g h =
       there = e .1;
       same = ap (λ (y : Live What Note). y .id) (same-entry (sym (e .1) ∙ w .1)) ∙ w .2;
       matches = matched f (entryFor m f) (e .0) (x .0) (e .1);
-      gone = ap (λ (y : Done). at (y .after .book) k) q ∙ ap (λ ps. getD ps k none) (answered-frame (clocked m t) k f o l (e .0) .2) ∙ emptied (m .book .places) k (e .0) (e .1);
-      says = ap (λ (y : Done). y .says) q ∙ answered-frame (clocked m t) k f o l (e .0) .3;
-      frame = ap (λ (y : Done). y .written) q ∙ answered-frame (clocked m t) k f o l (e .0) .0;
-      list = ap (λ (y : Done). y .listed) q ∙ answered-frame (clocked m t) k f o l (e .0) .1;
+      gone = ap (λ (y : Outcome). at (y .after .book) k) q ∙ ap (λ ps. getD ps k none) (answered-frame (clocked m t) k f o l (e .0) .2) ∙ emptied (m .book .places) k (e .0) (e .1);
+      says = ap (λ (y : Outcome). y .says) q ∙ answered-frame (clocked m t) k f o l (e .0) .3;
+      frame = ap (λ (y : Outcome). y .written) q ∙ answered-frame (clocked m t) k f o l (e .0) .0;
+      list = ap (λ (y : Outcome). y .listed) q ∙ answered-frame (clocked m t) k f o l (e .0) .1;
     }
 
 -- what a tick that ends an entry does: the entry was due, no other was due before it, and it is gone; what is said; its whole frame and list
-pub record Expires (m : Machine) (t : ℕ) (o l : List ℕ) (d : Done) : Type 0 where
+pub record Expires (m : Machine) (t : ℕ) (o l : List ℕ) (d : Outcome) : Type 0 where
   pub place : ℕ
   pub entry : Live What Note
   pub there : at (m .book) place ≡ some entry
@@ -149,12 +149,12 @@ tick-expires m t o l g h n =
       there = e .1;
       due = rw (same-entry (sym (w .1) ∙ e .1), clocked-at m (tick t o l) t h refl) at (w .2);
       earliest = rw (same-entry (sym (w .1) ∙ e .1), clocked-at m (tick t o l) t h refl) at (w .3);
-      gone = ap (λ (y : Done). at (y .after .book) k) q ∙ ap (λ ps. getD ps k none) (expired-says (clocked m t) k o l (e .0) .3) ∙ emptied (b .places) k (e .0) (e .1);
-      says = ap (λ (y : Done). y .says) q ∙ expired-says (clocked m t) k o l (e .0) .4;
-      frame = ap (λ (y : Done). y .written) q ∙ expired-says (clocked m t) k o l (e .0) .1;
-      list = ap (λ (y : Done). y .listed) q ∙ expired-says (clocked m t) k o l (e .0) .2;
+      gone = ap (λ (y : Outcome). at (y .after .book) k) q ∙ ap (λ ps. getD ps k none) (expired-says (clocked m t) k o l (e .0) .3) ∙ emptied (b .places) k (e .0) (e .1);
+      says = ap (λ (y : Outcome). y .says) q ∙ expired-says (clocked m t) k o l (e .0) .4;
+      frame = ap (λ (y : Outcome). y .written) q ∙ expired-says (clocked m t) k o l (e .0) .1;
+      list = ap (λ (y : Outcome). y .listed) q ∙ expired-says (clocked m t) k o l (e .0) .2;
     })
-    (λ (e : at b k ≡ none). absurd (n (ap (λ (y : Done). y .says) (ticked-is m t o l h ∙ ap (expiredTo (clocked m t) k o l) e ∙ idle-says (clocked m t) k o l))))
+    (λ (e : at b k ≡ none). absurd (n (ap (λ (y : Outcome). y .says) (ticked-is m t o l h ∙ ap (expiredTo (clocked m t) k o l) e ∙ idle-says (clocked m t) k o l))))
     (spot b k)
 
 -- A tick says that nothing is due exactly when, at its time, nothing is.
@@ -165,10 +165,10 @@ idle-when m t o l g s =
     ⊎-elim
     (λ (h : refusal m (tick t o l) ≡ 0). ⊎-elim
     (λ (e : (e : Live What Note) × (at b k ≡ some e)).
-    absurd (expired-says (clocked m t) k o l (e .0) .0 (sym (ap (λ (y : Done). y .says) (ticked-is m t o l h ∙ ap (expiredTo (clocked m t) k o l) (e .1))) ∙ s)))
+    absurd (expired-says (clocked m t) k o l (e .0) .0 (sym (ap (λ (y : Outcome). y .says) (ticked-is m t o l h ∙ ap (expiredTo (clocked m t) k o l) (e .1))) ∙ s)))
     (λ (e : at b k ≡ none).
-    (h, nothing-there b (good-move rules (m .book) (pass t) g tt) e, ap (λ (y : Done). y .after) (ticked-is m t o l h ∙ ap (expiredTo (clocked m t) k o l) e ∙ idle-says (clocked m t) k o l)))
+    (h, nothing-there b (good-move rules (m .book) (pass t) g tt) e, ap (λ (y : Outcome). y .after) (ticked-is m t o l h ∙ ap (expiredTo (clocked m t) k o l) e ∙ idle-says (clocked m t) k o l)))
     (spot b k))
     (λ (h : refusal m (tick t o l) ≡ 0 → ⊥).
-    absurd (let z : _≡_ {A = ℕ} 0 1 = cc (sym (ap (λ (y : Done). y .says) (refusal-changes-nothing m (tick t o l) h)) ∙ s) in omega arith))
+    absurd (let z : _≡_ {A = ℕ} 0 1 = cc (sym (ap (λ (y : Outcome). y .says) (refusal-changes-nothing m (tick t o l) h)) ∙ s) in omega arith))
     (eq-or (refusal m (tick t o l)) 0)

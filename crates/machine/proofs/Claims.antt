@@ -37,27 +37,34 @@ use Rattle.book.specs.Machine.{Accounted, after, history}
 use Rattle.book.proofs.History.{issues-differ, always-sound}
 use Rattle.book.proofs.LedgerLaws.{successor, successor-of-lost}
 use Rattle.machine.specs.Machine.{Machine, Note, made, rules, settings, clocked}
-use Rattle.machine.specs.Calls.{Call, Done, done, outOf, listOf}
+use Rattle.machine.specs.Calls.{Call, Outcome, done, outOf, listOf}
 use Rattle.machine.specs.Calls.Call.{attach, detach, request, reply, tick, linkLost}
 use Rattle.machine.specs.Refusals.{rows, lowest, refusal}
 use Rattle.machine.specs.Numbers.{numbers}
 use Rattle.machine.specs.Requests.{wanted, partyOf, joins}
 use Rattle.machine.specs.Outcomes.{granted, outcome}
 use Rattle.machine.specs.Histories.{seenOf, events, told}
+use Rattle.machine.specs.declared.Answer.{Answer}
 use Rattle.machine.specs.declared.Answer.the-variants as answer
 use Rattle.machine.proofs.RefusalLaws.{table, Applies, refused-exactly}
 use Rattle.machine.proofs.OutcomeLaws.{clocked-at, says-refusal, refused-is, granted-is}
+use Rattle.machine.proofs.NumberLaws.{Tells, numbers-tell}
 use Rattle.machine.proofs.RequestLaws.{codeOf, no-other-exception, exception-04 as said-exactly}
 use Rattle.machine.proofs.PartyLaws.{Accepts, Stands, accepted-stands}
 use Rattle.machine.proofs.AnswerLaws.{Answers, Expires, reply-answers, tick-expires, idle-when}
 use Rattle.machine.proofs.ReadBack.{Carries, comes-back}
-use Rattle.machine.proofs.TickLaws.{ticked, ticking-ends}
+use Rattle.machine.proofs.TickLaws.{tickedTimes, ticking-ends}
 use Rattle.machine.proofs.Histories.{product, afterCalls, toldBy, ledgerOf, accounted}
 
 -- Tender 3, the sum: accepted = answered by a reply + answered by timeout + dropped by a leaving + dropped by a lost link + held in the party places; each accepted
 -- request is in one group and there once; the held ones are, entry by entry and in order, the parties in the places; each answer's list is exactly those that it answers.
 pub every-request-is-accounted-for : (v : Value) (xs : List Call) → Accounted rules (afterCalls v xs .book) (toldBy v xs) (ledgerOf v xs)
 every-request-is-accounted-for v xs = accounted v xs
+
+-- Tender 1 and 3, as a C host sees them: the report's numbers tell the answer, so that what is claimed of an answer is claimed of its report: a refusal's number, an issue's or
+-- a join's id, an exception's code, whom a reply or a timeout answers, that nothing is due.
+pub the-report-tells-the-answer : (a : Answer) → Tells (numbers a) a
+the-report-tells-the-answer = numbers-tell
 
 module _ (v : Value) (xs : List Call) where
   -- every book of a history is good
@@ -142,7 +149,7 @@ module _ (v : Value) (xs : List Call) where
   a-partys-frame id f = laid-laid id 0 f
 
   -- Tender 3: ticking at one time ends. After as many ticks as there are places the next one says that nothing is due.
-  pub ticking-comes-to-an-end : (t : ℕ) (o l : List ℕ) (n : ℕ) → refusal (afterCalls v xs) (tick t o l) ≡ 0 → places ≤ n → outcome (ticked t o l n (afterCalls v xs)) (tick t o l) .says ≡ answer.NothingDue
+  pub ticking-comes-to-an-end : (t : ℕ) (o l : List ℕ) (n : ℕ) → refusal (afterCalls v xs) (tick t o l) ≡ 0 → places ≤ n → outcome (tickedTimes t o l n (afterCalls v xs)) (tick t o l) .says ≡ answer.NothingDue
   ticking-comes-to-an-end t o l n h p = ticking-ends t o l n (afterCalls v xs) good h p
 
 -- the machine after one call more
@@ -151,7 +158,7 @@ unfolding after
 after-one v m [] x = refl
 after-one v m (y ∷ ys) x = after-one v (outcome m y .after) ys x
 
--- Tender 3: once the host has ticked until nothing is due, at the time t, nothing accepted a full timeout ago waits.
+-- Tender 3: once the host has tickedTimes until nothing is due, at the time t, nothing accepted a full timeout ago waits.
 pub nothing-waits-forever : (v : Value) (xs : List Call) (t : ℕ) (o l : List ℕ) → outcome (afterCalls v xs) (tick t o l) .says ≡ answer.NothingDue
     → (k : Ticket What) → List·Memᴰ k (ledgerOf v (xs ++ (tick t o l ∷ [])) .waiting) → t < k .time + v .timeout
 nothing-waits-forever v xs t o l s k m =
@@ -189,7 +196,7 @@ told-on v m (x ∷ xs) ys = ap (λ vs. events v x (seenOf (outcome m x)) ++ vs) 
 leaving-told : (v : Value) (m : Machine) (c : ℕ) (ys : List Call) → refusal m (detach c) ≡ 0
     → history (product v) m (detach c ∷ ys) ≡ left c ∷ history (product v) (outcome m (detach c) .after) ys
 unfolding history events told granted numbers
-leaving-told v m c ys h = ap (λ (d : Done). events v (detach c) (seenOf d) ++ history (product v) (outcome m (detach c) .after) ys) (granted-is m (detach c) h)
+leaving-told v m c ys h = ap (λ (d : Outcome). events v (detach c) (seenOf d) ++ history (product v) (outcome m (detach c) .after) ys) (granted-is m (detach c) h)
 
 -- link lost is never refused
 never-refused : (m : Machine) → refusal m linkLost ≡ 0
@@ -198,7 +205,7 @@ never-refused m = refl
 
 loss-told : (v : Value) (m : Machine) (ys : List Call) → history (product v) m (linkLost ∷ ys) ≡ lost ∷ history (product v) (outcome m linkLost .after) ys
 unfolding history events told granted numbers
-loss-told v m ys = ap (λ (d : Done). events v linkLost (seenOf d) ++ history (product v) (outcome m linkLost .after) ys) (granted-is m linkLost (never-refused m))
+loss-told v m ys = ap (λ (d : Outcome). events v linkLost (seenOf d) ++ history (product v) (outcome m linkLost .after) ys) (granted-is m linkLost (never-refused m))
 
 -- Tender 3: a client number that is attached again gets nothing that its predecessor asked. Whatever calls come after a client's leaving, what is answered to its number is what
 -- was answered before it left, or was accepted since.

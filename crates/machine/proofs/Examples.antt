@@ -21,7 +21,7 @@ use Rattle.rewrite.specs.Rewriting.{turned, verdict, laidBy, rewrittenFrom, par
 use Rattle.rewrite.specs.Frames.{forwarded, returnedBy, returned}
 use Rattle.book.specs.Book.{liveIn}
 use Rattle.machine.specs.Machine.{Machine, made}
-use Rattle.machine.specs.Calls.{Call, Done, outOf, listOf}
+use Rattle.machine.specs.Calls.{Call, Outcome, outOf, listOf}
 use Rattle.machine.specs.Calls.Call.{attach, request, reply, tick}
 use Rattle.machine.specs.Refusals.{rows, lowest}
 use Rattle.machine.specs.Requests.{sameRead, joins, exhausted, excepted, joinedTo, issuedTo, served, admitted}
@@ -45,27 +45,27 @@ abbrev pub numbers : List ℕ
 numbers = replicate 16 170
 
 -- what the last of some calls says, writes and lists
-pub record Seen : Type 0 where
+pub record Given : Type 0 where
   pub says : Answer
   pub frame : List ℕ
   pub list : List ℕ
 
-abbrev pub seen : Answer → List ℕ → List ℕ → Seen
-seen a f l = record { says = a; frame = f; list = l }
+abbrev pub given : Answer → List ℕ → List ℕ → Given
+given a f l = record { says = a; frame = f; list = l }
 
-unfoldable pub played : Machine → Done → List Call → Done
+unfoldable pub played : Machine → Outcome → List Call → Outcome
 played m d [] = d
 played m d (x ∷ xs) = played (outcome m x .after) (outcome m x) xs
 
 -- an example: calls on a fresh state with clients 3 and 5 attached, and what the last of them comes to
 pub record Example : Type 0 where
   pub calls : List Call
-  pub comes : Seen
+  pub comes : Given
 
 abbrev pub example : List Call → Answer → List ℕ → List ℕ → Example
-example cs a f l = record { calls = cs; comes = seen a f l }
+example cs a f l = record { calls = cs; comes = given a f l }
 
-abbrev pub ready : Done
+abbrev pub ready : Outcome
 ready = record { says = Finished; after = made site; written = []; listed = [] }
 
 -- as much of each buffer that the last call lends as the example shows, the rest untouched
@@ -73,15 +73,15 @@ unfoldable pub lastOf : Call → List Call → Call
 lastOf y [] = y
 lastOf y (x ∷ xs) = lastOf x xs
 
-abbrev pub whole : Example → Seen
+abbrev pub whole : Example → Given
 whole e =
     let x = lastOf (attach 3) (e .calls) in
-    seen (e .comes .says) (over (e .comes .frame) (outOf x)) (over (e .comes .list) (listOf x))
+    given (e .comes .says) (over (e .comes .frame) (outOf x)) (over (e .comes .list) (listOf x))
 
-unfoldable pub shown : Example → Seen
+unfoldable pub shown : Example → Given
 shown e =
     let d = played (made site) ready (attach 3 ∷ attach 5 ∷ (e .calls)) in
-    seen (d .says) (d .written) (d .listed)
+    given (d .says) (d .written) (d .listed)
 
 abbrev pub examples : List Example
 examples =

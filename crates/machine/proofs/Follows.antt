@@ -29,7 +29,7 @@ use Rattle.book.proofs.PlaceLaws.{at-low}
 use Rattle.book.proofs.GoodLaws.{good-move}
 use Rattle.book.proofs.DeskLaws.{join-found, free-found, id-found, due-found, next-free}
 use Rattle.machine.specs.Machine.{Machine, Note, Live-book, machine, made, rules, settings, clocked, moved}
-use Rattle.machine.specs.Calls.{Call, Done, done, outOf, listOf}
+use Rattle.machine.specs.Calls.{Call, Outcome, done, outOf, listOf}
 use Rattle.machine.specs.Calls.Call.{attach, detach, request, reply, tick, linkLost}
 use Rattle.machine.specs.Refusals.{refusal, entryFor}
 use Rattle.machine.specs.Requests.{wanted, partyOf, sameRead, joins, joiningPlace, canJoin, exhausted, excepted, joinedTo, issuedTo, served, admitted}
@@ -120,8 +120,8 @@ pub follows : (m : Machine) (x : Call) → outcome m x .after .book ≡ applies 
 unfolding applies
 follows m x =
     ⊎-elim
-    (λ (z : refusal m x ≡ 0). ap (λ (d : Done). d .after .book) (granted-is m x z) ∙ granted-follows m x z ∙ ap (applies rules (m .book)) (sym (moves-granted m x z)))
-    (λ (z : refusal m x ≡ 0 → ⊥). ap (λ (d : Done). d .after .book) (refusal-changes-nothing m x z) ∙ ap (applies rules (m .book)) (sym (moves-refused m x z)))
+    (λ (z : refusal m x ≡ 0). ap (λ (d : Outcome). d .after .book) (granted-is m x z) ∙ granted-follows m x z ∙ ap (applies rules (m .book)) (sym (moves-granted m x z)))
+    (λ (z : refusal m x ≡ 0 → ⊥). ap (λ (d : Outcome). d .after .book) (refusal-changes-nothing m x z) ∙ ap (applies rules (m .book)) (sym (moves-refused m x z)))
     (eq-or (refusal m x) 0)
 
 -- FITS: every move may be made
@@ -265,7 +265,7 @@ refused-tells : (v : Value) (m : Machine) (x : Call) (n : ℕ) (w l : List ℕ) 
 unfolding events numbers
 refused-tells v m x n w l h = rw (ne-eqb n 0 h)
 
-granted-tells : (v : Value) (x : Call) (d : Done) → isRefusal (d .says) ≡ false → events v x (seenOf d) ≡ told v x (seenOf d)
+granted-tells : (v : Value) (x : Call) (d : Outcome) → isRefusal (d .says) ≡ false → events v x (seenOf d) ≡ told v x (seenOf d)
 unfolding events
 granted-tells v x d h = rw (eq-eqb (numbers (d .says) .refusal) 0 (no-refusal (d .says) h))
 
@@ -274,10 +274,10 @@ unfolding tells
 honest v m x g s =
     ⊎-elim
     (λ (z : refusal m x ≡ 0).
-    ap (λ (d : Done). events v x (seenOf d)) (granted-is m x z) ∙ granted-tells v x (granted m x) (granted-no-refusal m x z)
+    ap (λ (d : Outcome). events v x (seenOf d)) (granted-is m x z) ∙ granted-tells v x (granted m x) (granted-no-refusal m x z)
     ∙ granted-honest v m x g s z ∙ ap tells (sym (moves-granted m x z)))
     (λ (z : refusal m x ≡ 0 → ⊥).
-    ap (λ (d : Done). events v x (seenOf d)) (refusal-changes-nothing m x z) ∙ refused-tells v m x (refusal m x) (outOf x) (listOf x) z ∙ ap tells (sym (moves-refused m x z)))
+    ap (λ (d : Outcome). events v x (seenOf d)) (refusal-changes-nothing m x z) ∙ refused-tells v m x (refusal m x) (outOf x) (listOf x) z ∙ ap tells (sym (moves-refused m x z)))
     (eq-or (refusal m x) 0)
 
 -- the settings stay those that the machine was made with
@@ -306,6 +306,6 @@ granted-rule m linkLost h = refl
 pub rule-stays : (m : Machine) (x : Call) → settings (outcome m x .after) ≡ settings m
 rule-stays m x =
     ⊎-elim
-    (λ (z : refusal m x ≡ 0). ap (λ (d : Done). settings (d .after)) (granted-is m x z) ∙ granted-rule m x z)
-    (λ (z : refusal m x ≡ 0 → ⊥). ap (λ (d : Done). settings (d .after)) (refusal-changes-nothing m x z))
+    (λ (z : refusal m x ≡ 0). ap (λ (d : Outcome). settings (d .after)) (granted-is m x z) ∙ granted-rule m x z)
+    (λ (z : refusal m x ≡ 0 → ⊥). ap (λ (d : Outcome). settings (d .after)) (refusal-changes-nothing m x z))
     (eq-or (refusal m x) 0)

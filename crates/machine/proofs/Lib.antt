@@ -3,6 +3,7 @@ pub mod JoinLaws
 pub mod LowestLaws
 pub mod RefusalLaws
 pub mod OutcomeLaws
+pub mod NumberLaws
 pub mod RequestLaws
 pub mod Follows
 pub mod PartyLaws

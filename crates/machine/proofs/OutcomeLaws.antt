@@ -17,7 +17,7 @@ use Rattle.pdu.specs.Replies.{What}
 use Rattle.book.specs.Book.{Live, Good, at}
 use Rattle.book.specs.Desk.{duePlace}
 use Rattle.machine.specs.Machine.{Machine, Note, machine, rules, clocked, moved}
-use Rattle.machine.specs.Calls.{Call, Done, done, outOf, listOf}
+use Rattle.machine.specs.Calls.{Call, Outcome, done, outOf, listOf}
 use Rattle.machine.specs.Calls.Call.{attach, detach, request, reply, tick, linkLost}
 use Rattle.machine.specs.Refusals.{Row, row, rows, lowest, refusal, entryFor, isUntimely, isDead}
 use Rattle.machine.specs.Requests.{excepted, joinedTo, issuedTo, served, admitted, canJoin, exhausted, joiningPlace}
@@ -29,7 +29,7 @@ use Rattle.machine.proofs.LowestLaws.{none-applies}
 use Rattle.machine.proofs.RefusalLaws.{Applies, table, refused-exactly, refusal-changes-nothing}
 
 -- every outcome of a request that is not refused, as one of three cases
-pub served-cases : (P : Done → Type 0) (m : Machine) (c : ℕ) (f o : List ℕ)
+pub served-cases : (P : Outcome → Type 0) (m : Machine) (c : ℕ) (f o : List ℕ)
     → P (excepted m deviceFailure f o) → ((k : ℕ) (e : Live What Note) → P (joinedTo m k c f o (some e))) → P (issuedTo m c f o) → P (served m c f o)
 unfolding served joinedTo
 served-cases P m c f o x j i =
@@ -43,7 +43,7 @@ served-cases P m c f o x j i =
     into (some e) = j (joiningPlace m f) e
 
 -- and those of a tick, as one of two
-expired-cases : (P : Done → Type 0) (m : Machine) (o l : List ℕ) → ((k : ℕ) → P (expiredTo m k o l none)) → ((k : ℕ) (e : Live What Note) → P (expiredTo m k o l (some e)))
+expired-cases : (P : Outcome → Type 0) (m : Machine) (o l : List ℕ) → ((k : ℕ) → P (expiredTo m k o l none)) → ((k : ℕ) (e : Live What Note) → P (expiredTo m k o l (some e)))
     → (k : ℕ) (q : Option (Live What Note)) → P (expiredTo m k o l q)
 expired-cases P m o l x y k none = x k
 expired-cases P m o l x y k (some e) = y k e
@@ -102,10 +102,10 @@ pub says-refusal : (m : Machine) → Good rules (m .book) → (x : Call) (n : �
 unfolding outcome
 says-refusal m g x n h = (
   λ e. refused-exactly m g x n h .0 (⊎-elim
-      (λ (z : refusal m x ≡ 0). absurd (false≢true (sym (granted-no-refusal m x z) ∙ ap isRefusal (sym (ap (λ (d : Done). d .says) (granted-is m x z)) ∙ e))))
-      (λ (z : refusal m x ≡ 0 → ⊥). same-number (sym (ap (λ (d : Done). d .says) (refusal-changes-nothing m x z)) ∙ e))
+      (λ (z : refusal m x ≡ 0). absurd (false≢true (sym (granted-no-refusal m x z) ∙ ap isRefusal (sym (ap (λ (d : Outcome). d .says) (granted-is m x z)) ∙ e))))
+      (λ (z : refusal m x ≡ 0 → ⊥). same-number (sym (ap (λ (d : Outcome). d .says) (refusal-changes-nothing m x z)) ∙ e))
       (eq-or (refusal m x) 0)),
-  λ w. let e = refused-exactly m g x n h .1 w in ap (λ (d : Done). d .says) (refusal-changes-nothing m x (λ z. h (sym e ∙ z))) ∙ ap answer.Refused e,
+  λ w. let e = refused-exactly m g x n h .1 w in ap (λ (d : Outcome). d .says) (refusal-changes-nothing m x (λ z. h (sym e ∙ z))) ∙ ap answer.Refused e,
 )
   where
     same-number : {i j : ℕ} → answer.Refused i ≡ answer.Refused j → i ≡ j
@@ -172,10 +172,10 @@ granted-clock m linkLost t h e = no-time e
 
 -- A request, a reply or a tick that is not refused sets the clock to its time; no other call moves it, and no refusal does.
 pub clock-set : (m : Machine) (x : Call) (t : ℕ) → refusal m x ≡ 0 → timeOf x ≡ some t → outcome m x .after .book .clock ≡ t
-clock-set m x t h e = ap (λ (d : Done). d .after .book .clock) (granted-is m x h) ∙ granted-clock m x t h e
+clock-set m x t h e = ap (λ (d : Outcome). d .after .book .clock) (granted-is m x h) ∙ granted-clock m x t h e
 
 pub clock-refused : (m : Machine) (x : Call) → (refusal m x ≡ 0 → ⊥) → outcome m x .after .book .clock ≡ m .book .clock
-clock-refused m x h = ap (λ (d : Done). d .after .book .clock) (refusal-changes-nothing m x h)
+clock-refused m x h = ap (λ (d : Outcome). d .after .book .clock) (refusal-changes-nothing m x h)
 
 granted-still : (m : Machine) (x : Call) → timeOf x ≡ none → granted m x .after .book .clock ≡ m .book .clock
 unfolding granted
@@ -189,6 +189,6 @@ granted-still m linkLost e = refl
 pub clock-stays : (m : Machine) (x : Call) → timeOf x ≡ none → outcome m x .after .book .clock ≡ m .book .clock
 clock-stays m x e =
     ⊎-elim
-    (λ (z : refusal m x ≡ 0). ap (λ (d : Done). d .after .book .clock) (granted-is m x z) ∙ granted-still m x e)
+    (λ (z : refusal m x ≡ 0). ap (λ (d : Outcome). d .after .book .clock) (granted-is m x z) ∙ granted-still m x e)
     (clock-refused m x)
     (eq-or (refusal m x) 0)

@@ -23,7 +23,7 @@ use Rattle.book.proofs.GoodLaws.{good-move}
 use Rattle.book.proofs.PlaceLaws.{at-low, map-cases}
 use Rattle.book.proofs.DeskLaws.{join-found, due-found}
 use Rattle.machine.specs.Machine.{Machine, Note, Live-book, rules, settings, clocked, moved}
-use Rattle.machine.specs.Calls.{Call, Done, done, outOf, listOf}
+use Rattle.machine.specs.Calls.{Call, Outcome, done, outOf, listOf}
 use Rattle.machine.specs.Calls.Call.{attach, detach, request, reply, tick, linkLost}
 use Rattle.machine.specs.Refusals.{refusal}
 use Rattle.machine.specs.Requests.{wanted, partyOf, joins, joiningPlace, canJoin, exhausted, excepted, joinedTo, issuedTo, served, admitted}
@@ -174,7 +174,7 @@ pub left-is-nowhere : (m : Machine) (c k : ℕ) (e : Live What Note) → refusal
     → (d : Live What Note) × (at (m .book) k ≡ some d) × (e .parties ≡ without (isOf c) (d .parties)) × ((p : Party) → List·Memᴰ p (e .parties) → p .client ≡ c → ⊥)
 unfolding granted
 left-is-nowhere m c k e h a =
-    let b : at (apply rules (m .book) (strike c)) k ≡ some e = sym (ap (λ (d : Done). at (d .after .book) k) (granted-is m (detach c) h)) ∙ a in
+    let b : at (apply rules (m .book) (strike c)) k ≡ some e = sym (ap (λ (d : Outcome). at (d .after .book) k) (granted-is m (detach c) h)) ∙ a in
     let w = map-cases (struck c) (m .book .places) k e b in
     let s : e .parties ≡ without (isOf c) (w .0 .parties) = ap (λ (x : Live What Note). x .parties) (sym (w .2)) in (
       w .0,

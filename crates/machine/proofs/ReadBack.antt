@@ -34,7 +34,7 @@ use Rattle.rewrite.proofs.FrameLaws.{length-rewriting, length-forwarded, length
 use Rattle.rewrite.proofs.ReadBack.{read-back-frames}
 use Rattle.book.specs.Book.{Live}
 use Rattle.machine.specs.Machine.{Machine, Note, settings, clocked}
-use Rattle.machine.specs.Calls.{Call, Done}
+use Rattle.machine.specs.Calls.{Call, Outcome}
 use Rattle.machine.specs.Calls.Call.{request, reply}
 use Rattle.machine.specs.Refusals.{refusal}
 use Rattle.machine.specs.Requests.{excepted, joinedTo, issuedTo, served, admitted}
@@ -85,7 +85,7 @@ same-issue e = ap idIn e
     idIn (answer.Lost x) = 0
 
 -- what an issued request's buffer holds
-abbrev pub Issues : Machine → List ℕ → List ℕ → Done → Type 0
+abbrev pub Issues : Machine → List ℕ → List ℕ → Outcome → Type 0
 Issues m f o d = (i : ProxyId) (n p v : ℕ) → d .says ≡ answer.Issued i n p v → d .written ≡ over (laid (i .0) (forwarded (settings m .tags) (askedOf f) f .bytes)) o
 
 served-issues : (m : Machine) (c : ℕ) (f o : List ℕ) → Issues m f o (served m c f o)
@@ -105,13 +105,13 @@ request-issues m c t f o i n p v e =
     (λ (h : refusal m (request c t f o) ≡ 0). ⊎-elim
     (λ (z : eqb (faultOf f) 0 ≡ true).
     let q : outcome m (request c t f o) ≡ served (clocked m t) c f o = granted-is m (request c t f o) h ∙ rw z refl in
-    ap (λ (d : Done). d .written) q ∙ served-issues (clocked m t) c f o i n p v (sym (ap (λ (d : Done). d .says) q) ∙ e))
+    ap (λ (d : Outcome). d .written) q ∙ served-issues (clocked m t) c f o i n p v (sym (ap (λ (d : Outcome). d .says) q) ∙ e))
     (λ (z : eqb (faultOf f) 0 ≡ false).
     let q : outcome m (request c t f o) ≡ excepted (clocked m t) (faultOf f) f o = granted-is m (request c t f o) h ∙ rw z refl in
-    ap (λ (d : Done). d .written) q ∙ excepted-issues (clocked m t) (faultOf f) f o i n p v (sym (ap (λ (d : Done). d .says) q) ∙ e))
+    ap (λ (d : Outcome). d .written) q ∙ excepted-issues (clocked m t) (faultOf f) f o i n p v (sym (ap (λ (d : Outcome). d .says) q) ∙ e))
     (true-or (eqb (faultOf f) 0)))
     (λ (h : refusal m (request c t f o) ≡ 0 → ⊥).
-    let s : answer.Refused (refusal m (request c t f o)) ≡ answer.Issued i n p v = sym (ap (λ (d : Done). d .says) (refusal-changes-nothing m (request c t f o) h)) ∙ e in
+    let s : answer.Refused (refusal m (request c t f o)) ≡ answer.Issued i n p v = sym (ap (λ (d : Outcome). d .says) (refusal-changes-nothing m (request c t f o) h)) ∙ e in
     never (cc))
     (eq-or (refusal m (request c t f o)) 0)
 
@@ -138,11 +138,11 @@ issued-legal m c t f o i n p v e =
     (λ (z : eqb (faultOf f) 0 ≡ true). legal-faultless m c t f o h ∙ z)
     (λ (z : eqb (faultOf f) 0 ≡ false).
     let q : outcome m (request c t f o) ≡ excepted (clocked m t) (faultOf f) f o = granted-is m (request c t f o) h ∙ rw z refl in
-    let s : answer.Excepted (faultOf f) ≡ answer.Issued i n p v = sym (excepted-says (clocked m t) (faultOf f) f o) ∙ sym (ap (λ (d : Done). d .says) q) ∙ e in
+    let s : answer.Excepted (faultOf f) ≡ answer.Issued i n p v = sym (excepted-says (clocked m t) (faultOf f) f o) ∙ sym (ap (λ (d : Outcome). d .says) q) ∙ e in
     never (cc))
     (true-or (eqb (faultOf f) 0)))
     (λ (h : refusal m (request c t f o) ≡ 0 → ⊥).
-    let s : answer.Refused (refusal m (request c t f o)) ≡ answer.Issued i n p v = sym (ap (λ (d : Done). d .says) (refusal-changes-nothing m (request c t f o) h)) ∙ e in
+    let s : answer.Refused (refusal m (request c t f o)) ≡ answer.Issued i n p v = sym (ap (λ (d : Outcome). d .says) (refusal-changes-nothing m (request c t f o) h)) ∙ e in
     never (cc))
     (eq-or (refusal m (request c t f o)) 0)
 

@@ -23,7 +23,7 @@ use Rattle.book.specs.Desk.{idPlace}
 use Rattle.book.proofs.PlaceLaws.{at-low}
 use Rattle.book.proofs.DeskLaws.{id-found, id-is}
 use Rattle.machine.specs.Machine.{Machine, Note, rules}
-use Rattle.machine.specs.Calls.{Call, Done, done, outOf, listOf}
+use Rattle.machine.specs.Calls.{Call, Outcome, done, outOf, listOf}
 use Rattle.machine.specs.Calls.Call.{attach, detach, request, reply, tick, linkLost}
 use Rattle.machine.specs.Refusals.{Row, row, rows, lowest, refusal, entryFor, isDead, isMismatched}
 use Rattle.machine.specs.Outcomes.{granted, outcome}

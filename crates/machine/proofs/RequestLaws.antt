@@ -23,7 +23,7 @@ use Rattle.book.proofs.GoodLaws.{good-move}
 use Rattle.book.proofs.PlaceLaws.{at-low}
 use Rattle.book.proofs.DeskLaws.{join-found, join-none, free-found, free-none}
 use Rattle.machine.specs.Machine.{Machine, Note, rules, settings, clocked}
-use Rattle.machine.specs.Calls.{Call, Done, done}
+use Rattle.machine.specs.Calls.{Call, Outcome, done}
 use Rattle.machine.specs.Calls.Call.{attach, detach, request, reply, tick, linkLost}
 use Rattle.machine.specs.Refusals.{rows, refusal}
 use Rattle.machine.specs.Requests.{wanted, partyOf, joins, joiningPlace, canJoin, exhausted, excepted, joinedTo, issuedTo, served, admitted}
@@ -114,7 +114,7 @@ expired-none m k o l (some e) = refl
 
 -- an exception is said by no refused call
 refused-code : (m : Machine) (x : Call) → (refusal m x ≡ 0 → ⊥) → codeOf (outcome m x .says) ≡ 0
-refused-code m x h = ap (λ (d : Done). codeOf (d .says)) (refusal-changes-nothing m x h)
+refused-code m x h = ap (λ (d : Outcome). codeOf (d .says)) (refusal-changes-nothing m x h)
 
 granted-code : (m : Machine) (c t : ℕ) (f o : List ℕ) → refusal m (request c t f o) ≡ 0 → (eqb (faultOf f) 0 ≡ true → outcome m (request c t f o) ≡ served (clocked m t) c f o)
     × (eqb (faultOf f) 0 ≡ false → outcome m (request c t f o) ≡ excepted (clocked m t) (faultOf f) f o)
@@ -135,7 +135,7 @@ exception-04 m c t f o g =
       λ e. ⊎-elim
           (λ (h : refusal m (request c t f o) ≡ 0). ⊎-elim
           (λ (z : eqb (faultOf f) 0 ≡ true).
-          let s : codeOf (served n c f o .says) ≡ 5 = ap (λ (d : Done). codeOf (d .says)) (sym (granted-code m c t f o h .0 z)) ∙ ap codeOf e in
+          let s : codeOf (served n c f o .says) ≡ 5 = ap (λ (d : Outcome). codeOf (d .says)) (sym (granted-code m c t f o h .0 z)) ∙ ap codeOf e in
           ⊎-elim
           (λ (j : canJoin n f ≡ true). absurd (let y = served-joined n c f o gn j in omega arith))
           (λ (j : canJoin n f ≡ false). ⊎-elim
@@ -144,14 +144,14 @@ exception-04 m c t f o g =
           (true-or (exhausted n c)))
           (true-or (canJoin n f)))
           (λ (z : eqb (faultOf f) 0 ≡ false).
-          let s : suc (faultOf f) ≡ 5 = ap codeOf (sym (excepted-says n (faultOf f) f o)) ∙ ap (λ (d : Done). codeOf (d .says)) (sym (granted-code m c t f o h .1 z)) ∙ ap codeOf e in
+          let s : suc (faultOf f) ≡ 5 = ap codeOf (sym (excepted-says n (faultOf f) f o)) ∙ ap (λ (d : Outcome). codeOf (d .says)) (sym (granted-code m c t f o h .1 z)) ∙ ap codeOf e in
           absurd (let y = fault-small f in omega arith))
           (true-or (eqb (faultOf f) 0)))
           (λ (h : refusal m (request c t f o) ≡ 0 → ⊥). absurd (let y = sym (refused-code m (request c t f o) h) ∙ ap codeOf e in omega arith))
           (eq-or (refusal m (request c t f o)) 0),
       λ w.
           let z : eqb (faultOf f) 0 ≡ true = sym (legal-faultless m c t f o (w .0)) ∙ w .1 in
-          ap (λ (d : Done). d .says) (granted-code m c t f o (w .0) .0 z ∙ served-full n c f o (can-join-not n f gn .1 (w .2)) (all-live n c .1 (w .3))) ∙ excepted-says n deviceFailure f o,
+          ap (λ (d : Outcome). d .says) (granted-code m c t f o (w .0) .0 z ∙ served-full n c f o (can-join-not n f gn .1 (w .2)) (all-live n c .1 (w .3))) ∙ excepted-says n deviceFailure f o,
     )
 
 granted-none : (m : Machine) (x : Call) → ((c t : ℕ) (f o : List ℕ) → x ≡ request c t f o → ⊥) → refusal m x ≡ 0 → codeOf (granted m x .says) ≡ 0
@@ -167,6 +167,6 @@ granted-none m linkLost h z = refl
 pub no-other-exception : (m : Machine) (x : Call) → ((c t : ℕ) (f o : List ℕ) → x ≡ request c t f o → ⊥) → codeOf (outcome m x .says) ≡ 0
 no-other-exception m x h =
     ⊎-elim
-    (λ (z : refusal m x ≡ 0). ap (λ (d : Done). codeOf (d .says)) (granted-is m x z) ∙ granted-none m x h z)
+    (λ (z : refusal m x ≡ 0). ap (λ (d : Outcome). codeOf (d .says)) (granted-is m x z) ∙ granted-none m x h z)
     (refused-code m x)
     (eq-or (refusal m x) 0)

@@ -22,7 +22,7 @@ use Rattle.book.proofs.DeskLaws.{due-found}
 use Rattle.book.proofs.PlaceLaws.{at-low}
 use Rattle.book.proofs.TickLaws.{ticks-good, drains}
 use Rattle.machine.specs.Machine.{Machine, Note, Live-book, rules, clocked}
-use Rattle.machine.specs.Calls.{Call, Done, done}
+use Rattle.machine.specs.Calls.{Call, Outcome, done}
 use Rattle.machine.specs.Calls.Call.{tick}
 use Rattle.machine.specs.Refusals.{row, rows, lowest, refusal, shortFrame, shortList, isUntimely}
 use Rattle.machine.specs.Replies.{expiredTo}
@@ -42,9 +42,9 @@ module _ (t : ℕ) (o l : List ℕ) where
   step m = outcome m (tick t o l) .after
 
   -- n ticks
-  unfoldable pub ticked : ℕ → Machine → Machine
-  ticked zero m = m
-  ticked (suc n) m = ticked n (outcome m (tick t o l) .after)
+  unfoldable pub tickedTimes : ℕ → Machine → Machine
+  tickedTimes zero m = m
+  tickedTimes (suc n) m = tickedTimes n (outcome m (tick t o l) .after)
 
   -- a tick that is not refused is not refused again at the same time
   still : (m : Machine) → refusal m (tick t o l) ≡ 0 → refusal (step m) (tick t o l) ≡ 0
@@ -64,14 +64,14 @@ module _ (t : ℕ) (o l : List ℕ) where
       let b = clocked m t .book in
       let c : step m .book .clock ≡ t = clock-set m (tick t o l) t h refl in
       let s : step m .book ≡ apply rules b (expireAt (duePlace rules b) (at b (duePlace rules b))) =
-      ap (λ (d : Done). d .after .book) (ticked-is m t o l h) ∙ expired-book (clocked m t) (duePlace rules b) o l (at b (duePlace rules b)) in
+      ap (λ (d : Outcome). d .after .book) (ticked-is m t o l h) ∙ expired-book (clocked m t) (duePlace rules b) o l (at b (duePlace rules b)) in
       again (step m .book) (max-eq-right (let e = c in omega arith) ∙ sym c) ∙ s
     where
       again : (b : Live-book) → max (b .clock) t ≡ b .clock → apply rules b (pass t) ≡ b
       again b e = ap (λ (n : ℕ). record { rule = b .rule; places = b .places; cursor = b .cursor; clock = n }) e
 
-  many-ticks : (n : ℕ) (m : Machine) → refusal m (tick t o l) ≡ 0 → (refusal (ticked n m) (tick t o l) ≡ 0) × (clocked (ticked n m) t .book ≡ ticks rules n (clocked m t .book))
-  unfolding ticked ticks step
+  many-ticks : (n : ℕ) (m : Machine) → refusal m (tick t o l) ≡ 0 → (refusal (tickedTimes n m) (tick t o l) ≡ 0) × (clocked (tickedTimes n m) t .book ≡ ticks rules n (clocked m t .book))
+  unfolding tickedTimes ticks step
   many-ticks zero m h = (h, refl)
   many-ticks (suc n) m h = let i = many-ticks n (step m) (still m h) in (i .0, i .1 ∙ ap (ticks rules n) (ticks-book m h))
 
@@ -85,11 +85,11 @@ module _ (t : ℕ) (o l : List ℕ) where
       (spot b (duePlace rules b))
 
   -- After as many ticks at one time as there are places, or more, the next tick at that time says that nothing is due.
-  pub ticking-ends : (n : ℕ) (m : Machine) → Good rules (m .book) → refusal m (tick t o l) ≡ 0 → places ≤ n → outcome (ticked n m) (tick t o l) .says ≡ answer.NothingDue
+  pub ticking-ends : (n : ℕ) (m : Machine) → Good rules (m .book) → refusal m (tick t o l) ≡ 0 → places ≤ n → outcome (tickedTimes n m) (tick t o l) .says ≡ answer.NothingDue
   ticking-ends n m g h p =
       let w = many-ticks n m h in
       let gm = good-move rules (m .book) (pass t) g tt in
-      let b = clocked (ticked n m) t .book in
+      let b = clocked (tickedTimes n m) t .book in
       let d : NothingDue b = subst (λ (x : Live-book). NothingDue x) (sym (w .1)) (drains rules (clocked m t .book) gm n p) in
       let gb : Good rules b = subst (λ (x : Live-book). Good rules x) (sym (w .1)) (ticks-good rules n (clocked m t .book) gm) in
-      ap (λ (x : Done). x .says) (ticked-is (ticked n m) t o l (w .0) ∙ ap (expiredTo (clocked (ticked n m) t) (duePlace rules b) o l) (nothing-found b gb d) ∙ idle-says (clocked (ticked n m) t) (duePlace rules b) o l)
+      ap (λ (x : Outcome). x .says) (ticked-is (tickedTimes n m) t o l (w .0) ∙ ap (expiredTo (clocked (tickedTimes n m) t) (duePlace rules b) o l) (nothing-found b gb d) ∙ idle-says (clocked (tickedTimes n m) t) (duePlace rules b) o l)

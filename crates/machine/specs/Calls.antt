@@ -31,11 +31,11 @@ listOf (tick t o l) = l
 listOf linkLost = []
 
 -- the whole outcome: what is said, the machine afterwards, and every byte and number of the lent buffers
-pub record Done : Type 0 where
+pub record Outcome : Type 0 where
   pub says : Answer
   pub after : Machine
   pub written : List ℕ
   pub listed : List ℕ
 
-abbrev pub done : Answer → Machine → List ℕ → List ℕ → Done
+abbrev pub done : Answer → Machine → List ℕ → List ℕ → Outcome
 done a m w l = record { says = a; after = m; written = w; listed = l }

@@ -9,7 +9,7 @@ use Rattle.settings.specs.Grammar.{Value}
 use Rattle.pdu.specs.Replies.{What}
 use Rattle.book.specs.Book.{Party, Event}
 use Rattle.book.specs.Book.Event.{passed, joined, issued, replied, expired, left, lost}
-use Rattle.machine.specs.Calls.{Call, Done}
+use Rattle.machine.specs.Calls.{Call, Outcome}
 use Rattle.machine.specs.Calls.Call.{attach, detach, request, reply, tick, linkLost}
 use Rattle.machine.specs.Requests.{wanted, partyOf}
 use Rattle.machine.specs.Numbers.{numbers, isIssued, isJoined, isTimedOut}
@@ -21,7 +21,7 @@ pub record Seen : Type 0 where
   pub frame : List ℕ
   pub list : List ℕ
 
-abbrev pub seenOf : Done → Seen
+abbrev pub seenOf : Outcome → Seen
 seenOf d = record { report = numbers (d .says); frame = d .written; list = d .listed }
 
 -- the pairs of a list as parties

@@ -4,7 +4,7 @@ use Prim.Native.Nat.{ℕ}
 use mathlib.Core.List.{List}
 use Rattle.laws.specs.Numbers.{exceptionFrame}
 use Rattle.machine.specs.Machine.{Machine}
-use Rattle.machine.specs.Calls.{Done as Whole}
+use Rattle.machine.specs.Calls.{Outcome}
 use Rattle.machine.specs.declared.Answer.{Answer}
 use Rattle.machine.specs.declared.Answer.the-variants.{Refused, Done, Issued, Joined, Excepted, Answered, TimedOut, NothingDue, Lost}
 use Rattle.machine.specs.declared.Report.{Report}
@@ -57,5 +57,5 @@ abbrev pub reported : Report → Machine → List ℕ → List ℕ → Reported
 reported r m w l = record { says = r; after = m; written = w; listed = l }
 
 -- the whole outcome of a call, its answer in numbers
-abbrev pub numbered : Whole → Reported
+abbrev pub numbered : Outcome → Reported
 numbered d = reported (numbers (d .says)) (d .after) (d .written) (d .listed)

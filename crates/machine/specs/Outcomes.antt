@@ -8,7 +8,7 @@ use Rattle.laws.specs.Bits.{with, without}
 use Rattle.book.specs.Book.{apply, Move}
 use Rattle.book.specs.Book.Move.{strike, wipe}
 use Rattle.machine.specs.Machine.{Machine, machine, rules}
-use Rattle.machine.specs.Calls.{Call, Done, done, outOf, listOf}
+use Rattle.machine.specs.Calls.{Call, Outcome, done, outOf, listOf}
 use Rattle.machine.specs.Calls.Call.{attach, detach, request, reply, tick, linkLost}
 use Rattle.machine.specs.Refusals.{refusal}
 use Rattle.machine.specs.Requests.{admitted}
@@ -16,7 +16,7 @@ use Rattle.machine.specs.Replies.{answered, ticked}
 use Rattle.machine.specs.declared.Answer.the-variants.{Refused, Done as Finished, Lost}
 
 -- what a call that is not refused does. Detach strikes the client's parties out; link lost removes all entries and detaches everyone
-unfoldable pub granted : Machine → Call → Done
+unfoldable pub granted : Machine → Call → Outcome
 granted m (attach c) = done Finished (machine (m .book) (with (m .attached) c)) [] []
 granted m (detach c) = done Finished (machine (apply rules (m .book) (strike c)) (without (m .attached) c)) [] []
 granted m (request c t f o) = admitted m c t f o
@@ -25,5 +25,5 @@ granted m (tick t o l) = ticked m t o l
 granted m linkLost = done (Lost (m .attached)) (machine (apply rules (m .book) wipe) 0) [] []
 
 -- a call
-unfoldable pub outcome : Machine → Call → Done
+unfoldable pub outcome : Machine → Call → Outcome
 outcome m x = cond (eqb (refusal m x) 0) (granted m x) (done (Refused (refusal m x)) m (outOf x) (listOf x))

@@ -20,7 +20,7 @@ use Rattle.book.specs.Book.{Party, Live, Move, at}
 use Rattle.book.specs.Book.Move.{join, issue}
 use Rattle.book.specs.Desk.{joinPlace, freePlace, freeId}
 use Rattle.machine.specs.Machine.{Machine, Note, rules, settings, clocked, moved}
-use Rattle.machine.specs.Calls.{Done, done}
+use Rattle.machine.specs.Calls.{Outcome, done}
 use Rattle.machine.specs.declared.Answer.{Answer}
 use Rattle.machine.specs.declared.Answer.the-variants.{Issued, Joined, Excepted}
 
@@ -56,16 +56,16 @@ unfoldable pub exhausted : Machine → ℕ → Bool
 exhausted m c = not (ltb (freePlace rules (m .book)) places)
 
 -- an exception for the caller under its own id; it changes only the clock
-unfoldable pub excepted : Machine → ℕ → List ℕ → List ℕ → Done
+unfoldable pub excepted : Machine → ℕ → List ℕ → List ℕ → Outcome
 excepted m code f o = done (Excepted code) m (over (exception (idOf f) (unitOf f) (functionOf f) code) o) []
 
 -- step 3: join; no frame is written; the place that was found has an entry, so that the first line is never reached
-unfoldable pub joinedTo : Machine → ℕ → ℕ → List ℕ → List ℕ → Option (Live What Note) → Done
+unfoldable pub joinedTo : Machine → ℕ → ℕ → List ℕ → List ℕ → Option (Live What Note) → Outcome
 joinedTo m k c f o none = excepted m deviceFailure f o
 joinedTo m k c f o (some e) = done (Joined (record { 0 = e .id })) (moved m (join k e (wanted f) (partyOf c f))) o []
 
 -- step 4: issue; the frame goes out with the proxy id and its payload rewritten
-unfoldable pub issuedTo : Machine → ℕ → List ℕ → List ℕ → Done
+unfoldable pub issuedTo : Machine → ℕ → List ℕ → List ℕ → Outcome
 issuedTo m c f o =
     let id = freeId rules (m .book) in
     let sent = forwarded (settings m .tags) (askedOf f) f in
@@ -75,14 +75,14 @@ issuedTo m c f o =
     []
 
 -- a legal request: join, else issue, else exception 04
-unfoldable pub served : Machine → ℕ → List ℕ → List ℕ → Done
+unfoldable pub served : Machine → ℕ → List ℕ → List ℕ → Outcome
 served m c f o =
     cond (canJoin m f) (joinedTo m (joiningPlace m f) c f o (at (m .book) (joiningPlace m f)))
     (cond (exhausted m c) (excepted m deviceFailure f o)
     (issuedTo m c f o))
 
 -- after the refusals: the clock is set, then exception 03, exception 02, and what a legal request comes to
-unfoldable pub admitted : Machine → ℕ → ℕ → List ℕ → List ℕ → Done
+unfoldable pub admitted : Machine → ℕ → ℕ → List ℕ → List ℕ → Outcome
 admitted m c t f o =
     cond (eqb (faultOf f) 0) (served (clocked m t) c f o)
     (excepted (clocked m t) (faultOf f) f o)

@@ -20,7 +20,7 @@ use Rattle.settings.specs.Grammar.{Value}
 use Rattle.book.specs.Book.{book, apply}
 use Rattle.book.specs.Book.Move.{wipe}
 use Rattle.machine.specs.Machine.{Live-book, Machine, machine, rules}
-use Rattle.machine.specs.Calls.{Call, Done, done, outOf, listOf}
+use Rattle.machine.specs.Calls.{Call, Outcome, done, outOf, listOf}
 use Rattle.machine.specs.Calls.Call.{attach, detach, linkLost}
 use Rattle.machine.specs.Refusals.{rows, lowest, refusal, isStranger}
 use Rattle.machine.specs.Numbers.{numbers}
@@ -76,7 +76,7 @@ module _ (s : State) (sounds : Sounds s) where
     record {
       table = sounds .table;
       cursor = sounds .cursor;
-      attached = rw (ap (λ (d : Done). d .after .attached) (e (machineOf s .book))) (attached-low (machineOf s .book) (s .attached) client (sounds .attached));
+      attached = rw (ap (λ (d : Outcome). d .after .attached) (e (machineOf s .book))) (attached-low (machineOf s .book) (s .attached) client (sounds .attached));
       settings = sounds .settings;
     },
     λ h. ap (λ (n : ℕ). state (s .table) (s .cursor) n (s .clock) (s .settings)) (stays h),
@@ -107,7 +107,7 @@ module _ (s : State) (sounds : Sounds s) where
 
 -- no id stands at any place; all else is as it was
 abbrev pub emptied : Columns → Columns
-emptied c = columns (replicate places 0) (c .asked) (c .notes) (c .deadlines) (c .counts) (c .clients) (c .originals) 0
+emptied c = columns (replicate places 0) (c .asked) (c .callers) (c .deadlines) (c .counts) (c .clients) (c .originals) 0
 
 -- nothing is live, and the columns stay sound
 emptied-table : (c : Columns) → tableOf (emptied c) ≡ replicate places none
@@ -118,7 +118,7 @@ emptied-sound : (c : Columns) → Sound c → Sound (emptied c)
 emptied-sound c s = record {
   ids-long = length-replicate {A = ℕ} places 0;
   asked-long = s .asked-long;
-  notes-long = s .notes-long;
+  callers-long = s .callers-long;
   deadlines-long = s .deadlines-long;
   counts-long = s .counts-long;
   clients-long = s .clients-long;

@@ -35,9 +35,9 @@ abbrev pub state : Columns → (cursor attached clock : ℕ) → Kept → State
 state c x s t k = record { table = c; cursor = x; attached = s; clock = t; settings = k }
 
 -- the state that lent fields are
-abbrev pub lent : (ids asked notes deadlines counts clients originals : List ℕ) (top cursor attached clock timeout join tagged : ℕ) (tags : List ℕ) → State
-lent ids asked notes deadlines counts clients originals top cursor attached clock timeout join tagged tags =
-    state (columns ids asked notes deadlines counts clients originals top) cursor attached clock (kept timeout join tagged tags)
+abbrev pub lent : (ids asked callers deadlines counts clients originals : List ℕ) (top cursor attached clock timeout join tagged : ℕ) (tags : List ℕ) → State
+lent ids asked callers deadlines counts clients originals top cursor attached clock timeout join tagged tags =
+    state (columns ids asked callers deadlines counts clients originals top) cursor attached clock (kept timeout join tagged tags)
 
 -- the machine that it is
 abbrev pub machineOf : State → Machine

@@ -62,11 +62,11 @@ pub fn detach<'a>(
 ) -> Answer
     requires { ⌜ Runs (now counts) (now clients) (now originals) ⌝ }
     requires { ⌜ now top ≤ places ⌝ }
-    ensures { λ r. ⌜ ((ids asked notes deadlines : List ℕ) (x t : ℕ) (k : Kept)
-        → Sounds (state (columns ids asked notes deadlines (now (counts .entry)) (now (clients .entry)) (now (originals .entry)) (now (top .entry))) x (now (attached .entry)) t k)
-        → Does (state (columns ids asked notes deadlines (now (counts .entry)) (now (clients .entry)) (now (originals .entry)) (now (top .entry))) x (now (attached .entry)) t k)
+    ensures { λ r. ⌜ ((ids asked callers deadlines : List ℕ) (x t : ℕ) (k : Kept)
+        → Sounds (state (columns ids asked callers deadlines (now (counts .entry)) (now (clients .entry)) (now (originals .entry)) (now (top .entry))) x (now (attached .entry)) t k)
+        → Does (state (columns ids asked callers deadlines (now (counts .entry)) (now (clients .entry)) (now (originals .entry)) (now (top .entry))) x (now (attached .entry)) t k)
         (detaches client) r
-        (state (columns ids asked notes deadlines (now (counts .exit)) (now (clients .exit)) (now (originals .exit)) (now (top .exit))) x (now (attached .exit)) t k) [] []) ⌝ }
+        (state (columns ids asked callers deadlines (now (counts .exit)) (now (clients .exit)) (now (originals .exit)) (now (top .exit))) x (now (attached .exit)) t k) [] []) ⌝ }
 {
     if is_stranger(*attached, client) {
         return Answer::Refused { number: 2 };
@@ -82,11 +82,11 @@ pub fn link_lost<'a>(
     top: &'a mut u32,
     attached: &'a mut u32,
 ) -> Answer
-    ensures { λ r. ⌜ ((asked notes deadlines counts clients originals : List ℕ) (x t : ℕ) (k : Kept)
-        → Sounds (state (columns (now (ids .entry)) asked notes deadlines counts clients originals (now (top .entry))) x (now (attached .entry)) t k)
-        → Does (state (columns (now (ids .entry)) asked notes deadlines counts clients originals (now (top .entry))) x (now (attached .entry)) t k)
+    ensures { λ r. ⌜ ((asked callers deadlines counts clients originals : List ℕ) (x t : ℕ) (k : Kept)
+        → Sounds (state (columns (now (ids .entry)) asked callers deadlines counts clients originals (now (top .entry))) x (now (attached .entry)) t k)
+        → Does (state (columns (now (ids .entry)) asked callers deadlines counts clients originals (now (top .entry))) x (now (attached .entry)) t k)
         linkLost r
-        (state (columns (now (ids .exit)) asked notes deadlines counts clients originals (now (top .exit))) x (now (attached .exit)) t k) [] []) ⌝ }
+        (state (columns (now (ids .exit)) asked callers deadlines counts clients originals (now (top .exit))) x (now (attached .exit)) t k) [] []) ⌝ }
 {
     let former = *attached;
     *ids = [0u32; laws::PLACES];

@@ -10,7 +10,7 @@ ghost use Rattle.calls.specs.Stepped.{Served, Carried};
 fn replied(
     mut ids: [u32; laws::PLACES],
     mut asked: [u64; laws::PLACES],
-    mut notes: [u8; laws::PLACES],
+    mut callers: [u8; laws::PLACES],
     mut deadlines: [u64; laws::PLACES],
     mut counts: [u8; laws::PLACES],
     mut clients: [u8; laws::PARTY_PLACES],
@@ -28,13 +28,13 @@ fn replied(
     out: &mut [u8],
     list: &mut [u16],
 ) -> Stepped
-    requires { ⌜ Sounds (lent ids asked notes deadlines counts clients originals top cursor attached clock timeout join tagged tags) ⌝ }
-    ensures { λ r. ⌜ Carried (lent ids asked notes deadlines counts clients originals top cursor attached clock timeout join tagged tags) (replies time (now (frame .entry)) (now (out .entry)) (now (list .entry))) r (now (out .exit)) (now (list .exit)) ⌝ }
+    requires { ⌜ Sounds (lent ids asked callers deadlines counts clients originals top cursor attached clock timeout join tagged tags) ⌝ }
+    ensures { λ r. ⌜ Carried (lent ids asked callers deadlines counts clients originals top cursor attached clock timeout join tagged tags) (replies time (now (frame .entry)) (now (out .entry)) (now (list .entry))) r (now (out .exit)) (now (list .exit)) ⌝ }
 {
     let answer = replying::reply(
         &mut ids,
         &mut asked,
-        &mut notes,
+        &mut callers,
         &mut deadlines,
         &mut counts,
         &mut clients,
@@ -55,7 +55,7 @@ fn replied(
     let state = state::gather(
         ids,
         asked,
-        notes,
+        callers,
         deadlines,
         counts,
         clients,
@@ -81,7 +81,7 @@ pub fn reply(s: State, time: u64, frame: &[u8], out: &mut [u8], list: &mut [u16]
     let c = calls::columns_of(entries);
     let ids = c.ids;
     let asked = c.asked;
-    let notes = c.notes;
+    let callers = c.callers;
     let deadlines = c.deadlines;
     let counts = c.counts;
     let clients = s.clients;
@@ -90,7 +90,7 @@ pub fn reply(s: State, time: u64, frame: &[u8], out: &mut [u8], list: &mut [u16]
     replied(
         ids,
         asked,
-        notes,
+        callers,
         deadlines,
         counts,
         clients,

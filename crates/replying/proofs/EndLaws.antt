@@ -31,7 +31,7 @@ named n = record { 0 = n }
 -- the state with other ids and another top, at another time
 abbrev pub ended : State → List ℕ → ℕ → ℕ → State
 ended s is top t =
-    state (columns is (s .table .asked) (s .table .notes) (s .table .deadlines) (s .table .counts) (s .table .clients) (s .table .originals) top) (s .cursor) (s .attached) t
+    state (columns is (s .table .asked) (s .table .callers) (s .table .deadlines) (s .table .counts) (s .table .clients) (s .table .originals) top) (s .cursor) (s .attached) t
     (s .settings)
 
 -- a live place

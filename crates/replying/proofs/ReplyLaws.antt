@@ -19,7 +19,7 @@ use Rattle.rewrite.specs.Lent.{tagsOf}
 use Rattle.book.specs.Book.{Live, at}
 use Rattle.book.specs.Desk.{idPlace}
 use Rattle.machine.specs.Machine.{Machine, Note, rules}
-use Rattle.machine.specs.Calls.{Done, done, outOf, listOf}
+use Rattle.machine.specs.Calls.{Outcome, done, outOf, listOf}
 use Rattle.machine.specs.Calls.Call.{reply}
 use Rattle.machine.specs.Refusals.{refusal, entryFor}
 use Rattle.machine.specs.Replies.{pairs, answeredTo, answered}
@@ -38,7 +38,7 @@ use Rattle.replying.proofs.GateLaws.{reply-gate, reply-behind, reply-ti
 use Rattle.replying.proofs.EndLaws.{named, ended, Living, holder-lives, ended-is}
 
 -- what is said and written, by its parts
-abbrev sent : ProxyId → (size parties : ℕ) → Machine → List ℕ → Rewritten → Done
+abbrev sent : ProxyId → (size parties : ℕ) → Machine → List ℕ → Rewritten → Outcome
 sent id m n a l x = done (Answered id m n (x .partial) (x .value)) a (x .bytes) l
 
 told : (m : ℕ) {id : ProxyId} {j n n′ : ℕ} {l l′ : List ℕ} {a a′ : Machine} {x x′ : Rewritten} → id .0 ≡ j → n ≡ n′ → a ≡ a′ → l ≡ l′ → x ≡ x′

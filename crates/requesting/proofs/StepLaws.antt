@@ -20,7 +20,7 @@ use Rattle.book.specs.Book.{Live, at, apply}
 use Rattle.book.specs.Book.Move.{join, issue}
 use Rattle.book.specs.Desk.{freePlace, freeId}
 use Rattle.machine.specs.Machine.{Machine, Note, Live-book, machine, rules, settings, clocked, moved}
-use Rattle.machine.specs.Calls.{Done, done, outOf, listOf}
+use Rattle.machine.specs.Calls.{Outcome, done, outOf, listOf}
 use Rattle.machine.specs.Calls.Call.{request}
 use Rattle.machine.specs.Refusals.{refusal}
 use Rattle.machine.specs.Requests.{wanted, partyOf, joiningPlace, canJoin, exhausted, excepted, joinedTo, issuedTo, served, admitted}
@@ -46,14 +46,14 @@ exception-made m f o id unit function code o′ ei eu ef e = rw (e, ei, eu, ef)
 
 module _ (s : State) {c t : ℕ} {f o : List ℕ} (p : Open (machineOf s) c t f o) where
   -- A request with a fault sets the clock and gets the exception.
-  pub was-excepted : {code : ℕ} {d : Done} → checkedOf f ≡ Faulty code → d ≡ excepted (machineOf (timed s t)) code f o → d ≡ outcome (machineOf s) (request c t f o)
+  pub was-excepted : {code : ℕ} {d : Outcome} → checkedOf f ≡ Faulty code → d ≡ excepted (machineOf (timed s t)) code f o → d ≡ outcome (machineOf s) (request c t f o)
   unfolding granted admitted
   was-excepted {code} e q =
       let w = tested f (Faulty code) e in
       q ∙ sym (granted-is (machineOf s) (request c t f o) (check-passes p (w .0) (w .1)) ∙ rw (w .3) (rw (w .2, clock-is s t (not-before p)) refl))
 
   -- A legal request sets the clock and is served.
-  pub was-served : {a : Asked} {d : Done} → checkedOf f ≡ Legal a → d ≡ served (machineOf (timed s t)) c f o → d ≡ outcome (machineOf s) (request c t f o)
+  pub was-served : {a : Asked} {d : Outcome} → checkedOf f ≡ Legal a → d ≡ served (machineOf (timed s t)) c f o → d ≡ outcome (machineOf s) (request c t f o)
   unfolding granted admitted
   was-served {a} e q =
       let w = tested f (Legal a) e in
@@ -71,17 +71,17 @@ module _ (m : Machine) (c : ℕ) (f o : List ℕ) where
     cannot = le-ltb (joiningPlace m f) places none
 
     -- A request that can join nothing is issued where a place is free,
-    pub was-issued : (d : Done) → freePlace rules (m .book) < places → d ≡ issuedTo m c f o → d ≡ served m c f o
+    pub was-issued : (d : Outcome) → freePlace rules (m .book) < places → d ≡ issuedTo m c f o → d ≡ served m c f o
     unfolding served exhausted
     was-issued d l q = rw cannot (rw (lt-ltb (freePlace rules (m .book)) places l) q)
 
     -- and gets exception 04 where none is.
-    pub was-full : (d : Done) → places ≤ freePlace rules (m .book) → d ≡ excepted m deviceFailure f o → d ≡ served m c f o
+    pub was-full : (d : Outcome) → places ≤ freePlace rules (m .book) → d ≡ excepted m deviceFailure f o → d ≡ served m c f o
     unfolding served exhausted
     was-full d l q = rw cannot (rw (le-ltb (freePlace rules (m .book)) places l) q)
 
   -- what is said, kept and written of an issue under an id into a place
-  abbrev sent : ℕ → ℕ → Rewritten → Done
+  abbrev sent : ℕ → ℕ → Rewritten → Outcome
   sent id place r =
       done (Issued (record { 0 = id }) (length f) (r .partial) (r .value)) (moved m (issue place id (wanted f) tt (m .book .clock + settings m .timeout) (partyOf c f)))
       (r .bytes) []
@@ -103,9 +103,9 @@ module _ (m : Machine) (c : ℕ) (f o : List ℕ) where
 -- An exception for the caller, and what a legal request comes to, is no refusal.
 pub excepted-no-refusal : (m : Machine) (code : ℕ) (f o : List ℕ) {a : Answer} {m′ : Machine} {w l : List ℕ} → done a m′ w l ≡ excepted m code f o → numbers a .refusal ≡ 0
 unfolding excepted numbers
-excepted-no-refusal m code f o e = ap (λ (d : Done). numbers (d .says) .refusal) e
+excepted-no-refusal m code f o e = ap (λ (d : Outcome). numbers (d .says) .refusal) e
 
 pub served-no-refusal : (m : Machine) (c : ℕ) (f o : List ℕ) {a : Answer} {m′ : Machine} {w l : List ℕ} → done a m′ w l ≡ served m c f o → numbers a .refusal ≡ 0
 unfolding excepted joinedTo issuedTo numbers
 served-no-refusal m c f o e =
-    ap (λ (d : Done). numbers (d .says) .refusal) e ∙ served-cases (λ d. numbers (d .says) .refusal ≡ 0) m c f o refl (λ k x. refl) refl
+    ap (λ (d : Outcome). numbers (d .says) .refusal) e ∙ served-cases (λ d. numbers (d .says) .refusal ≡ 0) m c f o refl (λ k x. refl) refl

@@ -10,7 +10,7 @@ use Rattle.pdu.specs.Words.{wordOf, Proper}
 use Rattle.pdu.specs.declared.Asked.{Asked}
 use Rattle.pdu.specs.declared.Checked.the-variants.{Legal}
 use Rattle.machine.specs.Machine.{Machine}
-use Rattle.machine.specs.Calls.{Done, done}
+use Rattle.machine.specs.Calls.{Outcome, done}
 use Rattle.machine.specs.Requests.{wanted}
 use Rattle.machine.specs.declared.Answer.{Answer}
 use Rattle.table.specs.Columns.{Columns, Sound}
@@ -32,7 +32,7 @@ pub record Asks (f : List ℕ) (word : ℕ) : Type 0 where
 
 -- the machine of such columns, with that cursor, at the time t under the settings k, came to what `step` says of the machine that it was, whoever is attached;
 -- and the columns are sound and the cursor an id
-pub record Came (r : Answer) (k : Kept) (t : ℕ) (c′ : Columns) (x′ : ℕ) (o′ : List ℕ) (step : Machine → Done) (c : Columns) (x : ℕ) : Type 0 where
+pub record Came (r : Answer) (k : Kept) (t : ℕ) (c′ : Columns) (x′ : ℕ) (o′ : List ℕ) (step : Machine → Outcome) (c : Columns) (x : ℕ) : Type 0 where
   pub outcome : (s : ℕ) → done r (machineOf (state c′ x′ s t k)) o′ [] ≡ step (machineOf (state c x s t k))
   pub table : Sound c′
   pub cursor : x < ids → x′ < ids

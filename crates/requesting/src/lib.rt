@@ -115,7 +115,7 @@ fn join_request<'a>(
 fn issue_request<'a>(
     ids: &'a mut [u32; laws::PLACES],
     asked: &'a mut [u64; laws::PLACES],
-    notes: &'a mut [u8; laws::PLACES],
+    callers: &'a mut [u8; laws::PLACES],
     deadlines: &'a mut [u64; laws::PLACES],
     counts: &'a mut [u8; laws::PLACES],
     clients: &'a mut [u8; laws::PARTY_PLACES],
@@ -133,14 +133,14 @@ fn issue_request<'a>(
     word: u64,
     place: usize,
 ) -> Answer
-    requires { ⌜ Sound (columns (now ids) (now asked) (now notes) (now deadlines) (now counts) (now clients) (now originals) (now top)) ⌝ }
+    requires { ⌜ Sound (columns (now ids) (now asked) (now callers) (now deadlines) (now counts) (now clients) (now originals) (now top)) ⌝ }
     requires { ⌜ TagWords tagged (now tags) ⌝ }
     requires { ⌜ Admitted client time (now frame) (now out) what ⌝ }
     requires { ⌜ Asks (now frame) word ⌝ }
     requires { ⌜ (place ≡ best (isFree (now ids)) (λ j k. false) places places) × (place < places) ⌝ }
-    ensures { λ r. ⌜ ((join : ℕ) → Came r (kept timeout join tagged (now (tags .entry))) time (columns (now (ids .exit)) (now (asked .exit)) (now (notes .exit)) (now (deadlines .exit)) (now (counts .exit)) (now (clients .exit)) (now (originals .exit)) (now (top .exit))) (now (cursor .exit)) (now (out .exit))
+    ensures { λ r. ⌜ ((join : ℕ) → Came r (kept timeout join tagged (now (tags .entry))) time (columns (now (ids .exit)) (now (asked .exit)) (now (callers .exit)) (now (deadlines .exit)) (now (counts .exit)) (now (clients .exit)) (now (originals .exit)) (now (top .exit))) (now (cursor .exit)) (now (out .exit))
         (λ m. issuedTo m client (now (frame .entry)) (now (out .entry)))
-        (columns (now (ids .entry)) (now (asked .entry)) (now (notes .entry)) (now (deadlines .entry)) (now (counts .entry)) (now (clients .entry)) (now (originals .entry)) (now (top .entry))) (now (cursor .entry))) ⌝ }
+        (columns (now (ids .entry)) (now (asked .entry)) (now (callers .entry)) (now (deadlines .entry)) (now (counts .entry)) (now (clients .entry)) (now (originals .entry)) (now (top .entry))) (now (cursor .entry))) ⌝ }
 {
     let id = finding::free_id(ids, *top as usize, ProxyId(*cursor));
     let deadline = time + timeout as u64;
@@ -148,7 +148,7 @@ fn issue_request<'a>(
     changing::issue(
         ids,
         asked,
-        notes,
+        callers,
         deadlines,
         counts,
         clients,
@@ -177,7 +177,7 @@ fn issue_request<'a>(
 fn serve<'a>(
     ids: &'a mut [u32; laws::PLACES],
     asked: &'a mut [u64; laws::PLACES],
-    notes: &'a mut [u8; laws::PLACES],
+    callers: &'a mut [u8; laws::PLACES],
     deadlines: &'a mut [u64; laws::PLACES],
     counts: &'a mut [u8; laws::PLACES],
     clients: &'a mut [u8; laws::PARTY_PLACES],
@@ -194,12 +194,12 @@ fn serve<'a>(
     out: &mut [u8],
     what: Asked,
 ) -> Answer
-    requires { ⌜ Sound (columns (now ids) (now asked) (now notes) (now deadlines) (now counts) (now clients) (now originals) (now top)) ⌝ }
+    requires { ⌜ Sound (columns (now ids) (now asked) (now callers) (now deadlines) (now counts) (now clients) (now originals) (now top)) ⌝ }
     requires { ⌜ Settled (kept timeout join tagged (now tags)) ⌝ }
     requires { ⌜ Admitted client time (now frame) (now out) what ⌝ }
-    ensures { λ r. ⌜ Came r (kept timeout join tagged (now (tags .entry))) time (columns (now (ids .exit)) (now (asked .exit)) (now (notes .exit)) (now (deadlines .exit)) (now (counts .exit)) (now (clients .exit)) (now (originals .exit)) (now (top .exit))) (now (cursor .exit)) (now (out .exit))
+    ensures { λ r. ⌜ Came r (kept timeout join tagged (now (tags .entry))) time (columns (now (ids .exit)) (now (asked .exit)) (now (callers .exit)) (now (deadlines .exit)) (now (counts .exit)) (now (clients .exit)) (now (originals .exit)) (now (top .exit))) (now (cursor .exit)) (now (out .exit))
         (λ m. served m client (now (frame .entry)) (now (out .entry)))
-        (columns (now (ids .entry)) (now (asked .entry)) (now (notes .entry)) (now (deadlines .entry)) (now (counts .entry)) (now (clients .entry)) (now (originals .entry)) (now (top .entry))) (now (cursor .entry)) ⌝ }
+        (columns (now (ids .entry)) (now (asked .entry)) (now (callers .entry)) (now (deadlines .entry)) (now (counts .entry)) (now (clients .entry)) (now (originals .entry)) (now (top .entry))) (now (cursor .entry)) ⌝ }
 {
     let word = word_asked(frame, what);
     let seats = finding::find_seats(
@@ -219,7 +219,7 @@ fn serve<'a>(
         return issue_request(
             ids,
             asked,
-            notes,
+            callers,
             deadlines,
             counts,
             clients,
@@ -245,7 +245,7 @@ fn serve<'a>(
 pub fn request<'a>(
     ids: &'a mut [u32; laws::PLACES],
     asked: &'a mut [u64; laws::PLACES],
-    notes: &'a mut [u8; laws::PLACES],
+    callers: &'a mut [u8; laws::PLACES],
     deadlines: &'a mut [u64; laws::PLACES],
     counts: &'a mut [u8; laws::PLACES],
     clients: &'a mut [u8; laws::PARTY_PLACES],
@@ -263,9 +263,9 @@ pub fn request<'a>(
     frame: &[u8],
     out: &mut [u8],
 ) -> Answer
-    requires { ⌜ Sounds (lent (now ids) (now asked) (now notes) (now deadlines) (now counts) (now clients) (now originals) (now top) (now cursor) (now attached) (now clock) (now timeout) (now join) (now tagged) (now tags)) ⌝ }
-    ensures { λ r. ⌜ Does (lent (now (ids .entry)) (now (asked .entry)) (now (notes .entry)) (now (deadlines .entry)) (now (counts .entry)) (now (clients .entry)) (now (originals .entry)) (now (top .entry)) (now (cursor .entry)) (now (attached .entry)) (now (clock .entry)) (now (timeout .entry)) (now (join .entry)) (now (tagged .entry)) (now (tags .entry))) (asks client time (now (frame .entry)) (now (out .entry))) r
-        (lent (now (ids .exit)) (now (asked .exit)) (now (notes .exit)) (now (deadlines .exit)) (now (counts .exit)) (now (clients .exit)) (now (originals .exit)) (now (top .exit)) (now (cursor .exit)) (now (attached .exit)) (now (clock .exit)) (now (timeout .exit)) (now (join .exit)) (now (tagged .exit)) (now (tags .exit))) (now (out .exit)) [] ⌝ }
+    requires { ⌜ Sounds (lent (now ids) (now asked) (now callers) (now deadlines) (now counts) (now clients) (now originals) (now top) (now cursor) (now attached) (now clock) (now timeout) (now join) (now tagged) (now tags)) ⌝ }
+    ensures { λ r. ⌜ Does (lent (now (ids .entry)) (now (asked .entry)) (now (callers .entry)) (now (deadlines .entry)) (now (counts .entry)) (now (clients .entry)) (now (originals .entry)) (now (top .entry)) (now (cursor .entry)) (now (attached .entry)) (now (clock .entry)) (now (timeout .entry)) (now (join .entry)) (now (tagged .entry)) (now (tags .entry))) (asks client time (now (frame .entry)) (now (out .entry))) r
+        (lent (now (ids .exit)) (now (asked .exit)) (now (callers .exit)) (now (deadlines .exit)) (now (counts .exit)) (now (clients .exit)) (now (originals .exit)) (now (top .exit)) (now (cursor .exit)) (now (attached .exit)) (now (clock .exit)) (now (timeout .exit)) (now (join .exit)) (now (tagged .exit)) (now (tags .exit))) (now (out .exit)) [] ⌝ }
 {
     let refused = gate(out.len(), client, *attached, time, *clock, frame);
     if refused != 0 {
@@ -283,7 +283,7 @@ pub fn request<'a>(
             serve(
                 ids,
                 asked,
-                notes,
+                callers,
                 deadlines,
                 counts,
                 clients,

@@ -11,7 +11,7 @@ ghost use Rattle.calls.specs.Stepped.{Served, Carried};
 fn requested(
     mut ids: [u32; laws::PLACES],
     mut asked: [u64; laws::PLACES],
-    mut notes: [u8; laws::PLACES],
+    mut callers: [u8; laws::PLACES],
     mut deadlines: [u64; laws::PLACES],
     mut counts: [u8; laws::PLACES],
     mut clients: [u8; laws::PARTY_PLACES],
@@ -29,13 +29,13 @@ fn requested(
     frame: &[u8],
     out: &mut [u8],
 ) -> Stepped
-    requires { ⌜ Sounds (lent ids asked notes deadlines counts clients originals top cursor attached clock timeout join tagged tags) ⌝ }
-    ensures { λ r. ⌜ Carried (lent ids asked notes deadlines counts clients originals top cursor attached clock timeout join tagged tags) (asks client time (now (frame .entry)) (now (out .entry))) r (now (out .exit)) [] ⌝ }
+    requires { ⌜ Sounds (lent ids asked callers deadlines counts clients originals top cursor attached clock timeout join tagged tags) ⌝ }
+    ensures { λ r. ⌜ Carried (lent ids asked callers deadlines counts clients originals top cursor attached clock timeout join tagged tags) (asks client time (now (frame .entry)) (now (out .entry))) r (now (out .exit)) [] ⌝ }
 {
     let answer = requesting::request(
         &mut ids,
         &mut asked,
-        &mut notes,
+        &mut callers,
         &mut deadlines,
         &mut counts,
         &mut clients,
@@ -56,7 +56,7 @@ fn requested(
     let state = state::gather(
         ids,
         asked,
-        notes,
+        callers,
         deadlines,
         counts,
         clients,
@@ -82,7 +82,7 @@ pub fn request(s: State, client: u32, time: u64, frame: &[u8], out: &mut [u8]) -
     let c = calls::columns_of(entries);
     let ids = c.ids;
     let asked = c.asked;
-    let notes = c.notes;
+    let callers = c.callers;
     let deadlines = c.deadlines;
     let counts = c.counts;
     let clients = s.clients;
@@ -91,7 +91,7 @@ pub fn request(s: State, client: u32, time: u64, frame: &[u8], out: &mut [u8]) -
     requested(
         ids,
         asked,
-        notes,
+        callers,
         deadlines,
         counts,
         clients,

@@ -45,8 +45,8 @@ module _ (is ws bs ds ns cs os : List ℕ) (top : ℕ) (sound : Sound (columns i
   ids-back : map numberOf rows ≡ is
   ids-back = column numberOf is (sound .ids-long) (λ k. number-back _ _ _ _ _ (sound .low k))
 
-  notes-back : map callerOf rows ≡ bs
-  notes-back = column callerOf bs (sound .notes-long) (λ k. caller-back _ _ _ _ _)
+  callers-back : map callerOf rows ≡ bs
+  callers-back = column callerOf bs (sound .callers-long) (λ k. caller-back _ _ _ _ _)
 
   deadlines-back : map deadlineOf rows ≡ ds
   deadlines-back = column deadlineOf ds (sound .deadlines-long) (λ k. deadline-back _ _ _ _ _)
@@ -61,7 +61,7 @@ module _ (is ws bs ds ns cs os : List ℕ) (top : ℕ) (sound : Sound (columns i
   -- So at every place stands what stood there.
   entry-back : (k : ℕ) → k < places → entryAt back k ≡ entryAt was k
   entry-back k h =
-      rw (ids-back, notes-back, deadlines-back, counts-back)
+      rw (ids-back, callers-back, deadlines-back, counts-back)
       (⊎-elim (λ (t : eqb (getD is k 0) 0 ≡ true). rw t refl) (λ (t : eqb (getD is k 0) 0 ≡ false). rw (t, word-back k h (eqb-false _ _ t)) refl) (true-or (eqb (getD is k 0) 0)))
 
   table-back : tableOf back ≡ tableOf was
@@ -73,7 +73,7 @@ module _ (is ws bs ds ns cs os : List ℕ) (top : ℕ) (sound : Sound (columns i
   sound-back = record {
     ids-long = rw ids-back (sound .ids-long);
     asked-long = length-map rows wordIn ∙ length-tab places row;
-    notes-long = rw notes-back (sound .notes-long);
+    callers-long = rw callers-back (sound .callers-long);
     deadlines-long = rw deadlines-back (sound .deadlines-long);
     counts-long = rw counts-back (sound .counts-long);
     clients-long = sound .clients-long;

@@ -21,11 +21,11 @@ abbrev pub Made : State → Type 0
 Made s = Sounds (stateOf s)
 
 -- the place k of the columns
-abbrev pub rowAt : (ids asked notes deadlines counts : List ℕ) → ℕ → Place
+abbrev pub rowAt : (ids asked callers deadlines counts : List ℕ) → ℕ → Place
 rowAt is ws cs ds ns k = placeOf (getD is k 0) (getD ws k 0) (getD cs k 0) (getD ds k 0) (getD ns k 0)
 
 -- the state by value that columns and numbers are
-abbrev pub gathered : (ids asked notes deadlines counts clients originals : List ℕ) (top cursor attached clock timeout join tagged : ℕ) (tags : List ℕ) → State
+abbrev pub gathered : (ids asked callers deadlines counts clients originals : List ℕ) (top cursor attached clock timeout join tagged : ℕ) (tags : List ℕ) → State
 gathered is ws bs ds ns cs os top cursor attached clock timeout join tagged tags =
     record {
       entries = tab places (rowAt is ws bs ds ns);

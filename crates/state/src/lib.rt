@@ -74,12 +74,12 @@ pub fn spread(
     entries: [Place; laws::PLACES],
     ids: &mut [u32; laws::PLACES],
     asked: &mut [u64; laws::PLACES],
-    notes: &mut [u8; laws::PLACES],
+    callers: &mut [u8; laws::PLACES],
     deadlines: &mut [u64; laws::PLACES],
     counts: &mut [u8; laws::PLACES],
 )
-    requires { ⌜ (length (now ids) ≡ places) × (length (now asked) ≡ places) × (length (now notes) ≡ places) × (length (now deadlines) ≡ places) × (length (now counts) ≡ places) ⌝ }
-    ensures { λ r. ⌜ (now (ids .exit) ≡ map numberOf entries) × (now (asked .exit) ≡ map wordIn entries) × (now (notes .exit) ≡ map callerOf entries)
+    requires { ⌜ (length (now ids) ≡ places) × (length (now asked) ≡ places) × (length (now callers) ≡ places) × (length (now deadlines) ≡ places) × (length (now counts) ≡ places) ⌝ }
+    ensures { λ r. ⌜ (now (ids .exit) ≡ map numberOf entries) × (now (asked .exit) ≡ map wordIn entries) × (now (callers .exit) ≡ map callerOf entries)
         × (now (deadlines .exit) ≡ map deadlineOf entries) × (now (counts .exit) ≡ map countOf entries) ⌝ }
 {
     let mut k: usize = 0;
@@ -87,7 +87,7 @@ pub fn spread(
         let p = entries[k];
         ids[k] = number_of(p);
         asked[k] = word_in(p);
-        notes[k] = p.caller;
+        callers[k] = p.caller;
         deadlines[k] = p.entry.deadline;
         counts[k] = p.count;
         k += 1;
@@ -98,7 +98,7 @@ pub fn spread(
 pub fn gather(
     ids: [u32; laws::PLACES],
     asked: [u64; laws::PLACES],
-    notes: [u8; laws::PLACES],
+    callers: [u8; laws::PLACES],
     deadlines: [u64; laws::PLACES],
     counts: [u8; laws::PLACES],
     clients: [u8; laws::PARTY_PLACES],
@@ -112,12 +112,12 @@ pub fn gather(
     tagged: u32,
     tags: [u64; laws::MOST_TAGS],
 ) -> State
-    ensures { λ r. ⌜ r ≡ gathered ids asked notes deadlines counts clients originals top cursor attached clock timeout join tagged tags ⌝ }
+    ensures { λ r. ⌜ r ≡ gathered ids asked callers deadlines counts clients originals top cursor attached clock timeout join tagged tags ⌝ }
 {
     let mut entries = [place_of(0, 0, 0, 0, 0); laws::PLACES];
     let mut k: usize = 0;
     while k < laws::PLACES {
-        entries[k] = place_of(ids[k], asked[k], notes[k], deadlines[k], counts[k]);
+        entries[k] = place_of(ids[k], asked[k], callers[k], deadlines[k], counts[k]);
         k += 1;
     }
     State {

@@ -52,7 +52,7 @@ module _ (v : Value) (x t : ℕ) (c : Columns) (s : Sound c) where
 
   module _ (place : ℕ) (is : List ℕ) (top : ℕ) (low : place < places) (f : (is ≡ set (c .ids) place 0) × (top ≡ reach is (c .top))) where
     abbrev pub freed : Columns
-    freed = columns is (c .asked) (c .notes) (c .deadlines) (c .counts) (c .clients) (c .originals) top
+    freed = columns is (c .asked) (c .callers) (c .deadlines) (c .counts) (c .clients) (c .originals) top
 
     freed-is : freed ≡ freedAt c s place low
     freed-is = rw (f .1, f .0)

@@ -38,7 +38,7 @@ table-at c k h = getD-tab places (entryAt c) k none h
 -- the entry of a live place
 abbrev pub held : Columns → ℕ → Live What Note
 held c k =
-    entry (getD (c .ids) k 0 - 1) (whatOf (getD (c .asked) k 0)) (getD (c .notes) k 0) tt (getD (c .deadlines) k 0)
+    entry (getD (c .ids) k 0 - 1) (whatOf (getD (c .asked) k 0)) (getD (c .callers) k 0) tt (getD (c .deadlines) k 0)
     (partiesAt (c .counts) (c .clients) (c .originals) k)
 
 -- what stands at a live place of the table
@@ -55,7 +55,7 @@ table-set c c′ place o h here other = tab-set places place (entryAt c) (entryA
 module _ (c : Columns) (s : Sound c) (place id word deadline client original : ℕ) (low : place < places) (short : id < ids) where
   abbrev pub issuedAt : Columns
   issuedAt =
-      columns (set (c .ids) place (id + 1)) (set (c .asked) place word) (set (c .notes) place client) (set (c .deadlines) place deadline)
+      columns (set (c .ids) place (id + 1)) (set (c .asked) place word) (set (c .callers) place client) (set (c .deadlines) place deadline)
       (set (c .counts) place 1) (set (c .clients) (place * room) client) (set (c .originals) (place * room) original) (max (c .top) (place + 1))
 
   issued-parties : partiesAt (issuedAt .counts) (issuedAt .clients) (issuedAt .originals) place ≡ party client original ∷ []
@@ -72,14 +72,14 @@ module _ (c : Columns) (s : Sound c) (place id word deadline client original : �
   issued-table =
       let a = s .ids-long in
       let b = s .asked-long in
-      let n = s .notes-long in
+      let n = s .callers-long in
       let d = s .deadlines-long in
       let back : id + 1 - 1 ≡ id = omega arith in
       table-set c issuedAt place _ low
       (rw (
         getD-set-same (c .ids) place (id + 1) 0 (omega arith),
         getD-set-same (c .asked) place word 0 (omega arith),
-        getD-set-same (c .notes) place client 0 (omega arith),
+        getD-set-same (c .callers) place client 0 (omega arith),
         getD-set-same (c .deadlines) place deadline 0 (omega arith),
         issued-parties,
         ne-eqb (id + 1) 0 (λ z. omega arith),
@@ -88,7 +88,7 @@ module _ (c : Columns) (s : Sound c) (place id word deadline client original : �
       (λ k ne. rw (
         getD-set-other (c .ids) place k (id + 1) 0 ne,
         getD-set-other (c .asked) place k word 0 ne,
-        getD-set-other (c .notes) place k client 0 ne,
+        getD-set-other (c .callers) place k client 0 ne,
         getD-set-other (c .deadlines) place k deadline 0 ne,
         issued-elsewhere k ne,
       ))
@@ -99,7 +99,7 @@ module _ (c : Columns) (s : Sound c) (place id word deadline client original : �
       record {
         ids-long = length-set (c .ids) place (id + 1) ∙ s .ids-long;
         asked-long = length-set (c .asked) place word ∙ s .asked-long;
-        notes-long = length-set (c .notes) place client ∙ s .notes-long;
+        callers-long = length-set (c .callers) place client ∙ s .callers-long;
         deadlines-long = length-set (c .deadlines) place deadline ∙ s .deadlines-long;
         counts-long = issued-runs .counts-long;
         clients-long = issued-runs .clients-long;
@@ -122,14 +122,14 @@ module _ (c : Columns) (s : Sound c) (place id word deadline client original : �
 
 -- other parties, everything else as it was
 abbrev pub withParties : Columns → List ℕ → List ℕ → List ℕ → Columns
-withParties c ns cs os = columns (c .ids) (c .asked) (c .notes) (c .deadlines) ns cs os (c .top)
+withParties c ns cs os = columns (c .ids) (c .asked) (c .callers) (c .deadlines) ns cs os (c .top)
 
 -- other parties, no more than there is room for, keep the columns sound
 pub parties-sound : (c : Columns) (ns cs os : List ℕ) → Sound c → Runs ns cs os → Sound (withParties c ns cs os)
 parties-sound c ns cs os s r = record {
   ids-long = s .ids-long;
   asked-long = s .asked-long;
-  notes-long = s .notes-long;
+  callers-long = s .callers-long;
   deadlines-long = s .deadlines-long;
   counts-long = r .counts-long;
   clients-long = r .clients-long;
@@ -175,7 +175,7 @@ reach-behind is (suc n) k h l =
 module _ (c : Columns) (s : Sound c) (place : ℕ) (low : place < places) where
   abbrev pub freedAt : Columns
   freedAt =
-      columns (set (c .ids) place 0) (c .asked) (c .notes) (c .deadlines) (c .counts) (c .clients) (c .originals) (reach (set (c .ids) place 0) (c .top))
+      columns (set (c .ids) place 0) (c .asked) (c .callers) (c .deadlines) (c .counts) (c .clients) (c .originals) (reach (set (c .ids) place 0) (c .top))
 
   -- the table has nothing there, and the columns stay sound
   pub freed-table : tableOf freedAt ≡ set (tableOf c) place none
@@ -191,7 +191,7 @@ module _ (c : Columns) (s : Sound c) (place : ℕ) (low : place < places) where
       record {
         ids-long = length-set (c .ids) place 0 ∙ s .ids-long;
         asked-long = s .asked-long;
-        notes-long = s .notes-long;
+        callers-long = s .callers-long;
         deadlines-long = s .deadlines-long;
         counts-long = s .counts-long;
         clients-long = s .clients-long;
@@ -221,7 +221,7 @@ unfolding blank
 blank-sound = record {
   ids-long = length-replicate {A = ℕ} places 0;
   asked-long = length-replicate {A = ℕ} places 0;
-  notes-long = length-replicate {A = ℕ} places 0;
+  callers-long = length-replicate {A = ℕ} places 0;
   deadlines-long = length-replicate {A = ℕ} places 0;
   counts-long = length-replicate {A = ℕ} places 0;
   clients-long = length-replicate {A = ℕ} partyPlaces 0;

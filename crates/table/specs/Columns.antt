@@ -15,20 +15,20 @@ use Rattle.pdu.specs.Words.{wordOf, whatOf, Proper}
 use Rattle.book.specs.Book.{Party, Live, Book, book, entry}
 use Rattle.machine.specs.Machine.{Note, Live-book}
 
--- 0 in `ids` is a free place, else the proxy id + 1; `asked` is what was asked as one word; `notes` is the client that it was issued for; the parties of place k
+-- 0 in `ids` is a free place, else the proxy id + 1; `asked` is what was asked as one word; `callers` is the client that it was issued for; the parties of place k
 -- stand from k × 8 on, `counts` of them; no place from `top` on is live
 pub record Columns : Type 0 where
   pub ids : List ℕ
   pub asked : List ℕ
-  pub notes : List ℕ
+  pub callers : List ℕ
   pub deadlines : List ℕ
   pub counts : List ℕ
   pub clients : List ℕ
   pub originals : List ℕ
   pub top : ℕ
 
-abbrev pub columns : (ids asked notes deadlines counts clients originals : List ℕ) → ℕ → Columns
-columns i a n d k c o t = record { ids = i; asked = a; notes = n; deadlines = d; counts = k; clients = c; originals = o; top = t }
+abbrev pub columns : (ids asked callers deadlines counts clients originals : List ℕ) → ℕ → Columns
+columns i a n d k c o t = record { ids = i; asked = a; callers = n; deadlines = d; counts = k; clients = c; originals = o; top = t }
 
 abbrev pub party : ℕ → ℕ → Party
 party c o = record { client = c; original = o }
@@ -44,7 +44,7 @@ partiesAt ns cs os k = run cs os (k * room) (getD ns k 0)
 abbrev pub entryAt : Columns → ℕ → Option (Live What Note)
 entryAt c k =
     cond (eqb (getD (c .ids) k 0) 0) none
-    (some (entry (getD (c .ids) k 0 - 1) (whatOf (getD (c .asked) k 0)) (getD (c .notes) k 0) tt (getD (c .deadlines) k 0) (partiesAt (c .counts) (c .clients) (c .originals) k)))
+    (some (entry (getD (c .ids) k 0 - 1) (whatOf (getD (c .asked) k 0)) (getD (c .callers) k 0) tt (getD (c .deadlines) k 0) (partiesAt (c .counts) (c .clients) (c .originals) k)))
 
 -- the table, place by place; and the book that it is, with the settings, the cursor and the clock
 unfoldable pub tableOf : Columns → List (Option (Live What Note))
@@ -58,7 +58,7 @@ bookOf v c x t = book v (tableOf c) x t
 pub record Sound (c : Columns) : Type 0 where
   pub ids-long : length (c .ids) ≡ places
   pub asked-long : length (c .asked) ≡ places
-  pub notes-long : length (c .notes) ≡ places
+  pub callers-long : length (c .callers) ≡ places
   pub deadlines-long : length (c .deadlines) ≡ places
   pub counts-long : length (c .counts) ≡ places
   pub clients-long : length (c .clients) ≡ partyPlaces

@@ -10,7 +10,7 @@ ghost use Rattle.calls.specs.Stepped.{Served, Carried};
 fn ticked(
     mut ids: [u32; laws::PLACES],
     mut asked: [u64; laws::PLACES],
-    mut notes: [u8; laws::PLACES],
+    mut callers: [u8; laws::PLACES],
     mut deadlines: [u64; laws::PLACES],
     mut counts: [u8; laws::PLACES],
     mut clients: [u8; laws::PARTY_PLACES],
@@ -27,13 +27,13 @@ fn ticked(
     out: &mut [u8],
     list: &mut [u16],
 ) -> Stepped
-    requires { ⌜ Sounds (lent ids asked notes deadlines counts clients originals top cursor attached clock timeout join tagged tags) ⌝ }
-    ensures { λ r. ⌜ Carried (lent ids asked notes deadlines counts clients originals top cursor attached clock timeout join tagged tags) (ticks time (now (out .entry)) (now (list .entry))) r (now (out .exit)) (now (list .exit)) ⌝ }
+    requires { ⌜ Sounds (lent ids asked callers deadlines counts clients originals top cursor attached clock timeout join tagged tags) ⌝ }
+    ensures { λ r. ⌜ Carried (lent ids asked callers deadlines counts clients originals top cursor attached clock timeout join tagged tags) (ticks time (now (out .entry)) (now (list .entry))) r (now (out .exit)) (now (list .exit)) ⌝ }
 {
     let answer = replying::tick(
         &mut ids,
         &mut asked,
-        &mut notes,
+        &mut callers,
         &mut deadlines,
         &mut counts,
         &mut clients,
@@ -53,7 +53,7 @@ fn ticked(
     let state = state::gather(
         ids,
         asked,
-        notes,
+        callers,
         deadlines,
         counts,
         clients,
@@ -79,7 +79,7 @@ pub fn tick(s: State, time: u64, out: &mut [u8], list: &mut [u16]) -> Stepped
     let c = calls::columns_of(entries);
     let ids = c.ids;
     let asked = c.asked;
-    let notes = c.notes;
+    let callers = c.callers;
     let deadlines = c.deadlines;
     let counts = c.counts;
     let clients = s.clients;
@@ -88,7 +88,7 @@ pub fn tick(s: State, time: u64, out: &mut [u8], list: &mut [u16]) -> Stepped
     ticked(
         ids,
         asked,
-        notes,
+        callers,
         deadlines,
         counts,
         clients,

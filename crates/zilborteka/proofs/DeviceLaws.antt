@@ -30,7 +30,7 @@ abbrev deviceOf : State → Device
 deviceOf s =
     let t = s .table in
     let k = s .settings in
-    device (t .ids) (t .asked) (t .notes) (t .deadlines) (t .counts) (t .clients) (t .originals) (t .top) (s .cursor) (s .attached) (s .clock) (k .timeout) (k .join)
+    device (t .ids) (t .asked) (t .callers) (t .deadlines) (t .counts) (t .clients) (t .originals) (t .top) (s .cursor) (s .attached) (s .clock) (k .timeout) (k .join)
     (k .tagged) (k .tags)
 
 -- Two devices of one state are one device, field by field.

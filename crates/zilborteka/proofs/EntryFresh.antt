@@ -1,4 +1,4 @@
--- Every entry point `f(st: &mut Device, from: settings/Settings) -> machine/Report` whose body is one call `g(&mut st.ids, &mut st.asked, &mut st.notes, &mut st.deadlines, &mut st.counts, &mut st.clients, &mut st.originals, &mut st.top, &mut st.cursor, &mut st.attached, &mut st.clock, &mut st.timeout, &mut st.join, &mut st.tagged, &mut st.tags, from)` meets its contract where its core g meets its own at the fields that are lent. Written by tools/gen.py.
+-- Every entry point `f(st: &mut Device, from: settings/Settings) -> machine/Report` whose body is one call `g(&mut st.ids, &mut st.asked, &mut st.callers, &mut st.deadlines, &mut st.counts, &mut st.clients, &mut st.originals, &mut st.top, &mut st.cursor, &mut st.attached, &mut st.clock, &mut st.timeout, &mut st.join, &mut st.tagged, &mut st.tags, from)` meets its contract where its core g meets its own at the fields that are lent. Written by tools/gen.py.
 --     Rel, CoreRel     what the contract of the entry point, and that of the core, is a relation of: Device and parameters at entry, result, Device and slices at exit; the same at the fields that are lent
 --     function g       the MIR of such an entry point
 --     clauses R, core-clauses Rc   the contracts `ensures { λ r. ⌜ R .. ⌝ }`
@@ -51,7 +51,7 @@ use Rattle.settings.proofs.Settings as P0
 use Rattle.settings.proofs.Settings.Laws as P0′
 use Rattle.zilborteka.proofs.Device as T
 use Rattle.zilborteka.proofs.Device.Laws as T′
-use Rattle.zilborteka.proofs.Fields.{ms, m-ids, m-asked, m-notes, m-deadlines, m-counts, m-clients, m-originals, m-top, m-cursor, m-attached, m-clock, m-timeout, m-join, m-tagged, m-tags, tuple, takes, gives}
+use Rattle.zilborteka.proofs.Fields.{ms, m-ids, m-asked, m-callers, m-deadlines, m-counts, m-clients, m-originals, m-top, m-cursor, m-attached, m-clock, m-timeout, m-join, m-tagged, m-tags, tuple, takes, gives}
 use Rattle.zilborteka.proofs.Lend.{Use, lend, stay, Names, after, kept, refs, refsAt, ptrsAt, lents, finals, lend-all, back-all}
 
 abbrev pub Rel : Type 1
@@ -62,7 +62,7 @@ CoreRel = List ℕ → List ℕ → List ℕ → List ℕ → List ℕ → List 
 
 -- what is lent
 abbrev uses : List Use
-uses = lend m-ids ∷ lend m-asked ∷ lend m-notes ∷ lend m-deadlines ∷ lend m-counts ∷ lend m-clients ∷ lend m-originals ∷ lend m-top ∷ lend m-cursor ∷ lend m-attached ∷ lend m-clock ∷ lend m-timeout ∷ lend m-join ∷ lend m-tagged ∷ lend m-tags ∷ []
+uses = lend m-ids ∷ lend m-asked ∷ lend m-callers ∷ lend m-deadlines ∷ lend m-counts ∷ lend m-clients ∷ lend m-originals ∷ lend m-top ∷ lend m-cursor ∷ lend m-attached ∷ lend m-clock ∷ lend m-timeout ∷ lend m-join ∷ lend m-tagged ∷ lend m-tags ∷ []
 
 infixr 1 _$ₛ_
 abbrev _$ₛ_ : (Code → Code) → Code → Code
@@ -157,7 +157,7 @@ with-emp 𝓤 P = via 𝓤 (sep 𝓤 (emp 𝓤) P) (emp∗ 𝓤 P) (comm∗ 𝓤
 with-fact : {M : Type 1} (𝓤 : URA M) (P : SProp 𝓤) {φ : Type 0} → φ → ent 𝓤 P (sep 𝓤 P (fact 𝓤 φ))
 with-fact 𝓤 P {φ} x = via 𝓤 (sep 𝓤 (emp 𝓤) P) (emp∗ 𝓤 P) (via 𝓤 (sep 𝓤 (fact 𝓤 φ) P) (monoL 𝓤 P (factI 𝓤 φ (emp 𝓤) x)) (comm∗ 𝓤 (fact 𝓤 φ) P))
 
-module _ {M : Type 1} (𝓤 : URA M) (H : Heap 𝓤) (A : Atoms 𝓤) (W : Given 𝓤 H A) (g : Name) (R : Rel) (Rc : CoreRel) (imp : ((h : Device) (p0 : Settings) (r : Report) (w0 : List ℕ) (w1 : List ℕ) (w2 : List ℕ) (w3 : List ℕ) (w4 : List ℕ) (w5 : List ℕ) (w6 : List ℕ) (w7 : ℕ) (w8 : ℕ) (w9 : ℕ) (w10 : ℕ) (w11 : ℕ) (w12 : ℕ) (w13 : ℕ) (w14 : List ℕ) → Rc (h .ids) (h .asked) (h .notes) (h .deadlines) (h .counts) (h .clients) (h .originals) (h .top) (h .cursor) (h .attached) (h .clock) (h .timeout) (h .join) (h .tagged) (h .tags) p0 r w0 w1 w2 w3 w4 w5 w6 w7 w8 w9 w10 w11 w12 w13 w14 → R h p0 r (record { ids = w0; asked = w1; notes = w2; deadlines = w3; counts = w4; clients = w5; originals = w6; top = w7; cursor = w8; attached = w9; clock = w10; timeout = w11; join = w12; tagged = w13; tags = w14 }))) (κ0 : Lft) (q0 : Share) (b o : ℕ) (γ : GName) (h : Device) (p0 : Settings) (fit0 : Is P0.the-row p0 (LL.val P0.the-type P0′.the-laws p0 ∷ [])) where
+module _ {M : Type 1} (𝓤 : URA M) (H : Heap 𝓤) (A : Atoms 𝓤) (W : Given 𝓤 H A) (g : Name) (R : Rel) (Rc : CoreRel) (imp : ((h : Device) (p0 : Settings) (r : Report) (w0 : List ℕ) (w1 : List ℕ) (w2 : List ℕ) (w3 : List ℕ) (w4 : List ℕ) (w5 : List ℕ) (w6 : List ℕ) (w7 : ℕ) (w8 : ℕ) (w9 : ℕ) (w10 : ℕ) (w11 : ℕ) (w12 : ℕ) (w13 : ℕ) (w14 : List ℕ) → Rc (h .ids) (h .asked) (h .callers) (h .deadlines) (h .counts) (h .clients) (h .originals) (h .top) (h .cursor) (h .attached) (h .clock) (h .timeout) (h .join) (h .tagged) (h .tags) p0 r w0 w1 w2 w3 w4 w5 w6 w7 w8 w9 w10 w11 w12 w13 w14 → R h p0 r (record { ids = w0; asked = w1; callers = w2; deadlines = w3; counts = w4; clients = w5; originals = w6; top = w7; cursor = w8; attached = w9; clock = w10; timeout = w11; join = w12; tagged = w13; tags = w14 }))) (κ0 : Lft) (q0 : Share) (b o : ℕ) (γ : GName) (h : Device) (p0 : Settings) (fit0 : Is P0.the-row p0 (LL.val P0.the-type P0′.the-laws p0 ∷ [])) where
   -- the parameters that go on to the core as they are
   abbrev Tail : List RattleType
   Tail = P0.the-row ∷ []
@@ -222,17 +222,17 @@ module _ {M : Type 1} (𝓤 : URA M) (H : Heap 𝓤) (A : Atoms 𝓤) (W : Given
         calls-at ! fm (Core 𝓤 Rc H A) known (to-core ν γs)
         (and-then ! (load ! (from ! (stop !)) (look ! 34 refl)) (and-then ! (load ! (from ! (stop !)) (look ! 32 refl)) (and-then ! (load ! (from ! (stop !)) (look ! 30 refl)) (and-then ! (load ! (from ! (stop !)) (look ! 28 refl)) (and-then ! (load ! (from ! (stop !)) (look ! 26 refl)) (and-then ! (load ! (from ! (stop !)) (look ! 24 refl)) (and-then ! (load ! (from ! (stop !)) (look ! 22 refl)) (and-then ! (load ! (from ! (stop !)) (look ! 20 refl)) (and-then ! (load ! (from ! (stop !)) (look ! 18 refl)) (and-then ! (load ! (from ! (stop !)) (look ! 16 refl)) (and-then ! (load ! (from ! (stop !)) (look ! 14 refl)) (and-then ! (load ! (from ! (stop !)) (look ! 12 refl)) (and-then ! (load ! (from ! (stop !)) (look ! 10 refl)) (and-then ! (load ! (from ! (stop !)) (look ! 8 refl)) (and-then ! (load ! (from ! (stop !)) (look ! 6 refl)) (and-then ! (load ! (from ! (stop !)) (look ! 36 refl)) (no-more !))))))))))))))))) (λ v.
         use1 W (later (some (λ (r : Report). ((‵ (flft (ν ∷ []) fullShare) ⊛ ‵ ftrue) ⊛ ‵ (Res.the-row .own r (v ∷ []))) ⊛ raw (ensured 𝓤 H A core-ended (core-clauses 𝓤 Rc) (ν ∷ [], tt) (passed ν γs) tt r)))) (id⊢ 𝓤 _) $ await ! tt $ pick ! (λ r. split ! $ move ! (1 ∷ []) $
-        use1 W (some (λ (ws : (List ℕ × (List ℕ × (List ℕ × (List ℕ × (List ℕ × (List ℕ × (List ℕ × (ℕ × (ℕ × (ℕ × (ℕ × (ℕ × (ℕ × (ℕ × (List ℕ × (Unit {0} × Unit {0}))))))))))))))))). ‵ (finals (named 0) (ν ∷ []) uses γs (ws .0, (ws .1 .0, (ws .1 .1 .0, (ws .1 .1 .1 .0, (ws .1 .1 .1 .1 .0, (ws .1 .1 .1 .1 .1 .0, (ws .1 .1 .1 .1 .1 .1 .0, (ws .1 .1 .1 .1 .1 .1 .1 .0, (ws .1 .1 .1 .1 .1 .1 .1 .1 .0, (ws .1 .1 .1 .1 .1 .1 .1 .1 .1 .0, (ws .1 .1 .1 .1 .1 .1 .1 .1 .1 .1 .0, (ws .1 .1 .1 .1 .1 .1 .1 .1 .1 .1 .1 .0, (ws .1 .1 .1 .1 .1 .1 .1 .1 .1 .1 .1 .1 .0, (ws .1 .1 .1 .1 .1 .1 .1 .1 .1 .1 .1 .1 .1 .0, (ws .1 .1 .1 .1 .1 .1 .1 .1 .1 .1 .1 .1 .1 .1 .0, tt))))))))))))))) (fsep ftrue ftrue)) ⊛ raw (fact 𝓤 (Rc (h .ids) (h .asked) (h .notes) (h .deadlines) (h .counts) (h .clients) (h .originals) (h .top) (h .cursor) (h .attached) (h .clock) (h .timeout) (h .join) (h .tagged) (h .tags) p0 r (ws .0) (ws .1 .0) (ws .1 .1 .0) (ws .1 .1 .1 .0) (ws .1 .1 .1 .1 .0) (ws .1 .1 .1 .1 .1 .0) (ws .1 .1 .1 .1 .1 .1 .0) (ws .1 .1 .1 .1 .1 .1 .1 .0) (ws .1 .1 .1 .1 .1 .1 .1 .1 .0) (ws .1 .1 .1 .1 .1 .1 .1 .1 .1 .0) (ws .1 .1 .1 .1 .1 .1 .1 .1 .1 .1 .0) (ws .1 .1 .1 .1 .1 .1 .1 .1 .1 .1 .1 .0) (ws .1 .1 .1 .1 .1 .1 .1 .1 .1 .1 .1 .1 .0) (ws .1 .1 .1 .1 .1 .1 .1 .1 .1 .1 .1 .1 .1 .0) (ws .1 .1 .1 .1 .1 .1 .1 .1 .1 .1 .1 .1 .1 .1 .0))))) (id⊢ 𝓤 _) $ pick ! (λ ws. split ! $ move ! (1 ∷ []) $
-        heard ! (Rc (h .ids) (h .asked) (h .notes) (h .deadlines) (h .counts) (h .clients) (h .originals) (h .top) (h .cursor) (h .attached) (h .clock) (h .timeout) (h .join) (h .tagged) (h .tags) p0 r (ws .0) (ws .1 .0) (ws .1 .1 .0) (ws .1 .1 .1 .0) (ws .1 .1 .1 .1 .0) (ws .1 .1 .1 .1 .1 .0) (ws .1 .1 .1 .1 .1 .1 .0) (ws .1 .1 .1 .1 .1 .1 .1 .0) (ws .1 .1 .1 .1 .1 .1 .1 .1 .0) (ws .1 .1 .1 .1 .1 .1 .1 .1 .1 .0) (ws .1 .1 .1 .1 .1 .1 .1 .1 .1 .1 .0) (ws .1 .1 .1 .1 .1 .1 .1 .1 .1 .1 .1 .0) (ws .1 .1 .1 .1 .1 .1 .1 .1 .1 .1 .1 .1 .0) (ws .1 .1 .1 .1 .1 .1 .1 .1 .1 .1 .1 .1 .1 .0) (ws .1 .1 .1 .1 .1 .1 .1 .1 .1 .1 .1 .1 .1 .1 .0)) (λ e. move ! (1 ∷ []) $ split ! $ split ! $ lft-end ! tt $ move ! (0 ∷ 4 ∷ 3 ∷ []) $
+        use1 W (some (λ (ws : (List ℕ × (List ℕ × (List ℕ × (List ℕ × (List ℕ × (List ℕ × (List ℕ × (ℕ × (ℕ × (ℕ × (ℕ × (ℕ × (ℕ × (ℕ × (List ℕ × (Unit {0} × Unit {0}))))))))))))))))). ‵ (finals (named 0) (ν ∷ []) uses γs (ws .0, (ws .1 .0, (ws .1 .1 .0, (ws .1 .1 .1 .0, (ws .1 .1 .1 .1 .0, (ws .1 .1 .1 .1 .1 .0, (ws .1 .1 .1 .1 .1 .1 .0, (ws .1 .1 .1 .1 .1 .1 .1 .0, (ws .1 .1 .1 .1 .1 .1 .1 .1 .0, (ws .1 .1 .1 .1 .1 .1 .1 .1 .1 .0, (ws .1 .1 .1 .1 .1 .1 .1 .1 .1 .1 .0, (ws .1 .1 .1 .1 .1 .1 .1 .1 .1 .1 .1 .0, (ws .1 .1 .1 .1 .1 .1 .1 .1 .1 .1 .1 .1 .0, (ws .1 .1 .1 .1 .1 .1 .1 .1 .1 .1 .1 .1 .1 .0, (ws .1 .1 .1 .1 .1 .1 .1 .1 .1 .1 .1 .1 .1 .1 .0, tt))))))))))))))) (fsep ftrue ftrue)) ⊛ raw (fact 𝓤 (Rc (h .ids) (h .asked) (h .callers) (h .deadlines) (h .counts) (h .clients) (h .originals) (h .top) (h .cursor) (h .attached) (h .clock) (h .timeout) (h .join) (h .tagged) (h .tags) p0 r (ws .0) (ws .1 .0) (ws .1 .1 .0) (ws .1 .1 .1 .0) (ws .1 .1 .1 .1 .0) (ws .1 .1 .1 .1 .1 .0) (ws .1 .1 .1 .1 .1 .1 .0) (ws .1 .1 .1 .1 .1 .1 .1 .0) (ws .1 .1 .1 .1 .1 .1 .1 .1 .0) (ws .1 .1 .1 .1 .1 .1 .1 .1 .1 .0) (ws .1 .1 .1 .1 .1 .1 .1 .1 .1 .1 .0) (ws .1 .1 .1 .1 .1 .1 .1 .1 .1 .1 .1 .0) (ws .1 .1 .1 .1 .1 .1 .1 .1 .1 .1 .1 .1 .0) (ws .1 .1 .1 .1 .1 .1 .1 .1 .1 .1 .1 .1 .1 .0) (ws .1 .1 .1 .1 .1 .1 .1 .1 .1 .1 .1 .1 .1 .1 .0))))) (id⊢ 𝓤 _) $ pick ! (λ ws. split ! $ move ! (1 ∷ []) $
+        heard ! (Rc (h .ids) (h .asked) (h .callers) (h .deadlines) (h .counts) (h .clients) (h .originals) (h .top) (h .cursor) (h .attached) (h .clock) (h .timeout) (h .join) (h .tagged) (h .tags) p0 r (ws .0) (ws .1 .0) (ws .1 .1 .0) (ws .1 .1 .1 .0) (ws .1 .1 .1 .1 .0) (ws .1 .1 .1 .1 .1 .0) (ws .1 .1 .1 .1 .1 .1 .0) (ws .1 .1 .1 .1 .1 .1 .1 .0) (ws .1 .1 .1 .1 .1 .1 .1 .1 .0) (ws .1 .1 .1 .1 .1 .1 .1 .1 .1 .0) (ws .1 .1 .1 .1 .1 .1 .1 .1 .1 .1 .0) (ws .1 .1 .1 .1 .1 .1 .1 .1 .1 .1 .1 .0) (ws .1 .1 .1 .1 .1 .1 .1 .1 .1 .1 .1 .1 .0) (ws .1 .1 .1 .1 .1 .1 .1 .1 .1 .1 .1 .1 .1 .0) (ws .1 .1 .1 .1 .1 .1 .1 .1 .1 .1 .1 .1 .1 .1 .0)) (λ e. move ! (1 ∷ []) $ split ! $ split ! $ lft-end ! tt $ move ! (0 ∷ 4 ∷ 3 ∷ []) $
         use3 W (later (‵ (partsAt fullShare ms zero (after uses (tuple h) (ws .0, (ws .1 .0, (ws .1 .1 .0, (ws .1 .1 .1 .0, (ws .1 .1 .1 .1 .0, (ws .1 .1 .1 .1 .1 .0, (ws .1 .1 .1 .1 .1 .1 .0, (ws .1 .1 .1 .1 .1 .1 .1 .0, (ws .1 .1 .1 .1 .1 .1 .1 .1 .0, (ws .1 .1 .1 .1 .1 .1 .1 .1 .1 .0, (ws .1 .1 .1 .1 .1 .1 .1 .1 .1 .1 .0, (ws .1 .1 .1 .1 .1 .1 .1 .1 .1 .1 .1 .0, (ws .1 .1 .1 .1 .1 .1 .1 .1 .1 .1 .1 .1 .0, (ws .1 .1 .1 .1 .1 .1 .1 .1 .1 .1 .1 .1 .1 .0, (ws .1 .1 .1 .1 .1 .1 .1 .1 .1 .1 .1 .1 .1 .1 .0, tt)))))))))))))))) b o) ⊛ ‵ (fsep ftrue ftrue))) (back-all (named 0) (ν ∷ []) 𝓤 H A W b o uses zero γs (tuple h) (ws .0, (ws .1 .0, (ws .1 .1 .0, (ws .1 .1 .1 .0, (ws .1 .1 .1 .1 .0, (ws .1 .1 .1 .1 .1 .0, (ws .1 .1 .1 .1 .1 .1 .0, (ws .1 .1 .1 .1 .1 .1 .1 .0, (ws .1 .1 .1 .1 .1 .1 .1 .1 .0, (ws .1 .1 .1 .1 .1 .1 .1 .1 .1 .0, (ws .1 .1 .1 .1 .1 .1 .1 .1 .1 .1 .0, (ws .1 .1 .1 .1 .1 .1 .1 .1 .1 .1 .1 .0, (ws .1 .1 .1 .1 .1 .1 .1 .1 .1 .1 .1 .1 .0, (ws .1 .1 .1 .1 .1 .1 .1 .1 .1 .1 .1 .1 .1 .0, (ws .1 .1 .1 .1 .1 .1 .1 .1 .1 .1 .1 .1 .1 .1 .0, tt))))))))))))))) (fsep ftrue ftrue)) $ await ! tt $ split ! $
-        move ! (0 ∷ 4 ∷ 5 ∷ 6 ∷ 7 ∷ []) $ gives ! tt (record { ids = (ws .0); asked = (ws .1 .0); notes = (ws .1 .1 .0); deadlines = (ws .1 .1 .1 .0); counts = (ws .1 .1 .1 .1 .0); clients = (ws .1 .1 .1 .1 .1 .0); originals = (ws .1 .1 .1 .1 .1 .1 .0); top = (ws .1 .1 .1 .1 .1 .1 .1 .0); cursor = (ws .1 .1 .1 .1 .1 .1 .1 .1 .0); attached = (ws .1 .1 .1 .1 .1 .1 .1 .1 .1 .0); clock = (ws .1 .1 .1 .1 .1 .1 .1 .1 .1 .1 .0); timeout = (ws .1 .1 .1 .1 .1 .1 .1 .1 .1 .1 .1 .0); join = (ws .1 .1 .1 .1 .1 .1 .1 .1 .1 .1 .1 .1 .0); tagged = (ws .1 .1 .1 .1 .1 .1 .1 .1 .1 .1 .1 .1 .1 .0); tags = (ws .1 .1 .1 .1 .1 .1 .1 .1 .1 .1 .1 .1 .1 .1 .0) }) b o $
+        move ! (0 ∷ 4 ∷ 5 ∷ 6 ∷ 7 ∷ []) $ gives ! tt (record { ids = (ws .0); asked = (ws .1 .0); callers = (ws .1 .1 .0); deadlines = (ws .1 .1 .1 .0); counts = (ws .1 .1 .1 .1 .0); clients = (ws .1 .1 .1 .1 .1 .0); originals = (ws .1 .1 .1 .1 .1 .1 .0); top = (ws .1 .1 .1 .1 .1 .1 .1 .0); cursor = (ws .1 .1 .1 .1 .1 .1 .1 .1 .0); attached = (ws .1 .1 .1 .1 .1 .1 .1 .1 .1 .0); clock = (ws .1 .1 .1 .1 .1 .1 .1 .1 .1 .1 .0); timeout = (ws .1 .1 .1 .1 .1 .1 .1 .1 .1 .1 .1 .0); join = (ws .1 .1 .1 .1 .1 .1 .1 .1 .1 .1 .1 .1 .0); tagged = (ws .1 .1 .1 .1 .1 .1 .1 .1 .1 .1 .1 .1 .1 .0); tags = (ws .1 .1 .1 .1 .1 .1 .1 .1 .1 .1 .1 .1 .1 .1 .0) }) b o $
         move ! (3 ∷ []) $ fsplit ! $ drop ! $ drop ! $ move ! (4 ∷ []) $ peeks ! Res.the-row (Is Res.the-row) (shows 𝓤 H A Res.the-row) r (v ∷ []) (λ is.
         move ! (0 ∷ 1 ∷ 2 ∷ 3 ∷ 4 ∷ []) $ land ! (from ! (stop !)) (init ! 39 refl (LL.lawful Res.the-type Res′.the-laws 𝓤 H A W .typed r _ is .0)) $
         returns ! (look ! 39 refl) $ forget ! 5 refl $ forget ! 7 refl $ forget ! 9 refl $ forget ! 11 refl $ forget ! 13 refl $ forget ! 15 refl $ forget ! 17 refl $ forget ! 19 refl $ forget ! 21 refl $ forget ! 23 refl $ forget ! 25 refl $ forget ! 27 refl $ forget ! 29 refl $ forget ! 31 refl $ forget ! 33 refl $ forget ! 35 refl $ forget ! 37 refl $ forget ! 39 refl $
         move ! (39 ∷ 40 ∷ []) $ free1 ! $ move ! (37 ∷ 38 ∷ []) $ free1 ! $ move ! (35 ∷ 36 ∷ []) $ free1 ! $ move ! (33 ∷ 34 ∷ []) $ free1 ! $ move ! (31 ∷ 32 ∷ []) $ free1 ! $ move ! (29 ∷ 30 ∷ []) $ free1 ! $ move ! (27 ∷ 28 ∷ []) $ free1 ! $ move ! (25 ∷ 26 ∷ []) $ free1 ! $ move ! (23 ∷ 24 ∷ []) $ free1 ! $ move ! (21 ∷ 22 ∷ []) $ free1 ! $ move ! (19 ∷ 20 ∷ []) $ free1 ! $ move ! (17 ∷ 18 ∷ []) $ free1 ! $ move ! (15 ∷ 16 ∷ []) $ free1 ! $ move ! (13 ∷ 14 ∷ []) $ free1 ! $ move ! (11 ∷ 12 ∷ []) $ free1 ! $ move ! (9 ∷ 10 ∷ []) $ free1 ! $ move ! (7 ∷ 8 ∷ []) $ free1 ! $ move ! (5 ∷ 6 ∷ []) $ free1 ! $ free0 ! $
-        keep ! (0 ∷ 1 ∷ 2 ∷ 3 ∷ 4 ∷ []) $ by ! (exits r v (record { ids = (ws .0); asked = (ws .1 .0); notes = (ws .1 .1 .0); deadlines = (ws .1 .1 .1 .0); counts = (ws .1 .1 .1 .1 .0); clients = (ws .1 .1 .1 .1 .1 .0); originals = (ws .1 .1 .1 .1 .1 .1 .0); top = (ws .1 .1 .1 .1 .1 .1 .1 .0); cursor = (ws .1 .1 .1 .1 .1 .1 .1 .1 .0); attached = (ws .1 .1 .1 .1 .1 .1 .1 .1 .1 .0); clock = (ws .1 .1 .1 .1 .1 .1 .1 .1 .1 .1 .0); timeout = (ws .1 .1 .1 .1 .1 .1 .1 .1 .1 .1 .1 .0); join = (ws .1 .1 .1 .1 .1 .1 .1 .1 .1 .1 .1 .1 .0); tagged = (ws .1 .1 .1 .1 .1 .1 .1 .1 .1 .1 .1 .1 .1 .0); tags = (ws .1 .1 .1 .1 .1 .1 .1 .1 .1 .1 .1 .1 .1 .1 .0) }) (imp h p0 r (ws .0) (ws .1 .0) (ws .1 .1 .0) (ws .1 .1 .1 .0) (ws .1 .1 .1 .1 .0) (ws .1 .1 .1 .1 .1 .0) (ws .1 .1 .1 .1 .1 .1 .0) (ws .1 .1 .1 .1 .1 .1 .1 .0) (ws .1 .1 .1 .1 .1 .1 .1 .1 .0) (ws .1 .1 .1 .1 .1 .1 .1 .1 .1 .0) (ws .1 .1 .1 .1 .1 .1 .1 .1 .1 .1 .0) (ws .1 .1 .1 .1 .1 .1 .1 .1 .1 .1 .1 .0) (ws .1 .1 .1 .1 .1 .1 .1 .1 .1 .1 .1 .1 .0) (ws .1 .1 .1 .1 .1 .1 .1 .1 .1 .1 .1 .1 .1 .0) (ws .1 .1 .1 .1 .1 .1 .1 .1 .1 .1 .1 .1 .1 .1 .0) e)))))))))))))))))))))))))))
+        keep ! (0 ∷ 1 ∷ 2 ∷ 3 ∷ 4 ∷ []) $ by ! (exits r v (record { ids = (ws .0); asked = (ws .1 .0); callers = (ws .1 .1 .0); deadlines = (ws .1 .1 .1 .0); counts = (ws .1 .1 .1 .1 .0); clients = (ws .1 .1 .1 .1 .1 .0); originals = (ws .1 .1 .1 .1 .1 .1 .0); top = (ws .1 .1 .1 .1 .1 .1 .1 .0); cursor = (ws .1 .1 .1 .1 .1 .1 .1 .1 .0); attached = (ws .1 .1 .1 .1 .1 .1 .1 .1 .1 .0); clock = (ws .1 .1 .1 .1 .1 .1 .1 .1 .1 .1 .0); timeout = (ws .1 .1 .1 .1 .1 .1 .1 .1 .1 .1 .1 .0); join = (ws .1 .1 .1 .1 .1 .1 .1 .1 .1 .1 .1 .1 .0); tagged = (ws .1 .1 .1 .1 .1 .1 .1 .1 .1 .1 .1 .1 .1 .0); tags = (ws .1 .1 .1 .1 .1 .1 .1 .1 .1 .1 .1 .1 .1 .1 .0) }) (imp h p0 r (ws .0) (ws .1 .0) (ws .1 .1 .0) (ws .1 .1 .1 .0) (ws .1 .1 .1 .1 .0) (ws .1 .1 .1 .1 .1 .0) (ws .1 .1 .1 .1 .1 .1 .0) (ws .1 .1 .1 .1 .1 .1 .1 .0) (ws .1 .1 .1 .1 .1 .1 .1 .1 .0) (ws .1 .1 .1 .1 .1 .1 .1 .1 .1 .0) (ws .1 .1 .1 .1 .1 .1 .1 .1 .1 .1 .0) (ws .1 .1 .1 .1 .1 .1 .1 .1 .1 .1 .1 .0) (ws .1 .1 .1 .1 .1 .1 .1 .1 .1 .1 .1 .1 .0) (ws .1 .1 .1 .1 .1 .1 .1 .1 .1 .1 .1 .1 .1 .0) (ws .1 .1 .1 .1 .1 .1 .1 .1 .1 .1 .1 .1 .1 .1 .0) e)))))))))))))))))))))))))))
 
-module _ {M : Type 1} (𝓤 : URA M) (H : Heap 𝓤) (A : Atoms 𝓤) (W : Given 𝓤 H A) (g : Name) (R : Rel) (Rc : CoreRel) (imp : ((h : Device) (p0 : Settings) (r : Report) (w0 : List ℕ) (w1 : List ℕ) (w2 : List ℕ) (w3 : List ℕ) (w4 : List ℕ) (w5 : List ℕ) (w6 : List ℕ) (w7 : ℕ) (w8 : ℕ) (w9 : ℕ) (w10 : ℕ) (w11 : ℕ) (w12 : ℕ) (w13 : ℕ) (w14 : List ℕ) → Rc (h .ids) (h .asked) (h .notes) (h .deadlines) (h .counts) (h .clients) (h .originals) (h .top) (h .cursor) (h .attached) (h .clock) (h .timeout) (h .join) (h .tagged) (h .tags) p0 r w0 w1 w2 w3 w4 w5 w6 w7 w8 w9 w10 w11 w12 w13 w14 → R h p0 r (record { ids = w0; asked = w1; notes = w2; deadlines = w3; counts = w4; clients = w5; originals = w6; top = w7; cursor = w8; attached = w9; clock = w10; timeout = w11; join = w12; tagged = w13; tags = w14 }))) where
+module _ {M : Type 1} (𝓤 : URA M) (H : Heap 𝓤) (A : Atoms 𝓤) (W : Given 𝓤 H A) (g : Name) (R : Rel) (Rc : CoreRel) (imp : ((h : Device) (p0 : Settings) (r : Report) (w0 : List ℕ) (w1 : List ℕ) (w2 : List ℕ) (w3 : List ℕ) (w4 : List ℕ) (w5 : List ℕ) (w6 : List ℕ) (w7 : ℕ) (w8 : ℕ) (w9 : ℕ) (w10 : ℕ) (w11 : ℕ) (w12 : ℕ) (w13 : ℕ) (w14 : List ℕ) → Rc (h .ids) (h .asked) (h .callers) (h .deadlines) (h .counts) (h .clients) (h .originals) (h .top) (h .cursor) (h .attached) (h .clock) (h .timeout) (h .join) (h .tagged) (h .tags) p0 r w0 w1 w2 w3 w4 w5 w6 w7 w8 w9 w10 w11 w12 w13 w14 → R h p0 r (record { ids = w0; asked = w1; callers = w2; deadlines = w3; counts = w4; clients = w5; originals = w6; top = w7; cursor = w8; attached = w9; clock = w10; timeout = w11; join = w12; tagged = w13; tags = w14 }))) where
   entry-walks : (C : Calls 𝓤 H) (Λ : Loops 𝓤 H) → FmC 𝓤 H (W .laws) C → Triple 𝓤 (C g) (Core 𝓤 Rc H A) → Walks 𝓤 H A ended stayed (WpFn 𝓤 H C Λ (function g)) (clauses 𝓤 R)
   entry-walks C Λ fm known = walked 𝓤 H A ended stayed (clauses 𝓤 R) (WpFn 𝓤 H C Λ (function g)) (λ κs. (ptr-vals, (LL.vals P0.the-type P0′.the-laws, tt)))
       (λ κs. (mut-tells (named 0) (κs .0) T.the-row, (LL.tells P0.the-type P0′.the-laws, tt)))

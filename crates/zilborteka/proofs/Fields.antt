@@ -37,8 +37,8 @@ m-ids = record { row = Array u32 64; ty = tyArray (tyInt w32) 64 }
 abbrev pub m-asked : Member
 m-asked = record { row = Array u64 64; ty = tyArray (tyInt w64) 64 }
 
-abbrev pub m-notes : Member
-m-notes = record { row = Array u8 64; ty = tyArray (tyInt w8) 64 }
+abbrev pub m-callers : Member
+m-callers = record { row = Array u8 64; ty = tyArray (tyInt w8) 64 }
 
 abbrev pub m-deadlines : Member
 m-deadlines = record { row = Array u64 64; ty = tyArray (tyInt w64) 64 }
@@ -77,14 +77,14 @@ abbrev pub m-tags : Member
 m-tags = record { row = Array u64 256; ty = tyArray (tyInt w64) 256 }
 
 abbrev pub ms : List Member
-ms = m-ids ∷ m-asked ∷ m-notes ∷ m-deadlines ∷ m-counts ∷ m-clients ∷ m-originals ∷ m-top ∷ m-cursor ∷ m-attached ∷ m-clock ∷ m-timeout ∷ m-join ∷ m-tagged ∷ m-tags ∷ []
+ms = m-ids ∷ m-asked ∷ m-callers ∷ m-deadlines ∷ m-counts ∷ m-clients ∷ m-originals ∷ m-top ∷ m-cursor ∷ m-attached ∷ m-clock ∷ m-timeout ∷ m-join ∷ m-tagged ∷ m-tags ∷ []
 
 abbrev pub tuple : Device → Denots (rowsOf ms)
-tuple h = (h .ids, (h .asked, (h .notes, (h .deadlines, (h .counts, (h .clients, (h .originals, (h .top, (h .cursor, (h .attached, (h .clock, (h .timeout, (h .join, (h .tagged, (h .tags, tt)))))))))))))))
+tuple h = (h .ids, (h .asked, (h .callers, (h .deadlines, (h .counts, (h .clients, (h .originals, (h .top, (h .cursor, (h .attached, (h .clock, (h .timeout, (h .join, (h .tagged, (h .tags, tt)))))))))))))))
 
 -- a field that is an array stands in the struct's value as `map (λ x. x)` of its list
 to-tuple : (h : Device) → T.the-type .to h ≡ tuple h
-to-tuple h = λ i. (map-id (h .ids) i, (map-id (h .asked) i, (map-id (h .notes) i, (map-id (h .deadlines) i, (map-id (h .counts) i, (map-id (h .clients) i, (map-id (h .originals) i, (h .top, (h .cursor, (h .attached, (h .clock, (h .timeout, (h .join, (h .tagged, (map-id (h .tags) i, tt)))))))))))))))
+to-tuple h = λ i. (map-id (h .ids) i, (map-id (h .asked) i, (map-id (h .callers) i, (map-id (h .deadlines) i, (map-id (h .counts) i, (map-id (h .clients) i, (map-id (h .originals) i, (h .top, (h .cursor, (h .attached, (h .clock, (h .timeout, (h .join, (h .tagged, (map-id (h .tags) i, tt)))))))))))))))
 
 abbrev Tuple : Denots (rowsOf ms) → ℕ → ℕ → Fml
 Tuple a = partAt (Struct (shapeOf (T.the-type .name) ms)) fullShare a

@@ -1,6 +1,7 @@
--- Whatever a host does with a device that it made fresh, the device lives as the machine does: so what is claimed of every history of the machine holds of the device.
+-- Whatever calls but fresh a host makes of a device that it made fresh, the device lives as the machine does: so what is claimed of every history of the machine holds of the
+-- device. A second fresh begins a new history.
 -- Assumes nothing.
-use mathlib.Core.Path.{_≡_, refl, ap, subst, _∙_}
+use mathlib.Core.Path.{_≡_, refl, ap, sym, subst, _∙_}
 use mathlib.Core.List.{List, [], _∷_, _++_}
 use Rattle.settings.specs.declared.Settings.{Settings}
 use Rattle.settings.specs.Grammar.{Value}
@@ -11,13 +12,14 @@ use Rattle.book.specs.Ledger.{empty, posts}
 use Rattle.book.specs.Machine.{Accounted, after, history}
 use Rattle.machine.specs.Machine.{Machine, rules}
 use Rattle.machine.specs.Outcomes.{outcome}
+use Rattle.machine.specs.Numbers.{Reported}
 use Rattle.machine.specs.Histories.{Seen, seenOf, events}
 use Rattle.machine.specs.declared.Report.{Report}
+use Rattle.machine.proofs.NumberLaws.{Tells, numbers-tell}
 use Rattle.machine.proofs.Histories.{product, afterCalls, toldBy, accounted}
 use Rattle.proxy.specs.State.{machineOf}
 use Rattle.proxy.specs.Gates.{adopted}
 use Rattle.zilborteka.specs.declared.Device.{Device}
-use Rattle.machine.specs.Numbers.{Reported}
 use Rattle.zilborteka.specs.Device.{stateOf, Made, Served, Freshly}
 use Rattle.zilborteka.specs.Lives.{Line, callsOf, Lived, toldIn}
 use Rattle.zilborteka.specs.Lives.Lived.{none, then}
@@ -87,6 +89,14 @@ module _ (from : Settings) {r : Report} {d d′ : Device} (ls : List Line) (fres
         told = tells v life ∙ ap (λ (m : Machine). history (product v) m (callsOf ls)) (fresh .1);
         next = stays-made (fresh .2) life;
       }
+
+  -- Each report on the way tells the machine's answer at that place of the history, so that what is claimed of answers (refusals by the table, exception 04, nothing due) is
+  -- claimed of what the host is told.
+  pub a-report-tells-the-answer : (xs : List Line) (x : Line) (ys : List Line) → ls ≡ xs ++ (x ∷ ys)
+      → Tells (x .saw .report) (outcome (afterCalls (adopted (valueOf from)) (callsOf xs)) (x .call) .says)
+  a-report-tells-the-answer xs x ys e =
+      let a = outcome (afterCalls (adopted (valueOf from)) (callsOf xs)) (x .call) .says in
+      subst (λ (r : Report). Tells r a) (sym (ap (λ (y : Seen). y .report) (a-device-lives-as-the-machine .saw xs x ys e))) (numbers-tell a)
 
   -- Tender 3, the sum, of a device: the ledger that a host keeps from its own calls and what it saw of them accounts for every accepted request, and agrees with what the device holds.
   pub a-device-accounts-for-every-request :

@@ -12,12 +12,12 @@ use Rattle.proxy.specs.Calls.{Told, FreshlyTold}
 use Rattle.zilborteka.specs.declared.Device.{Device}
 
 -- a device of its fields
-abbrev pub device : (ids asked notes deadlines counts clients originals : List ℕ) (top cursor attached clock timeout join tagged : ℕ) (tags : List ℕ) → Device
-device ids asked notes deadlines counts clients originals top cursor attached clock timeout join tagged tags =
+abbrev pub device : (ids asked callers deadlines counts clients originals : List ℕ) (top cursor attached clock timeout join tagged : ℕ) (tags : List ℕ) → Device
+device ids asked callers deadlines counts clients originals top cursor attached clock timeout join tagged tags =
     record {
       ids = ids;
       asked = asked;
-      notes = notes;
+      callers = callers;
       deadlines = deadlines;
       counts = counts;
       clients = clients;
@@ -35,7 +35,7 @@ device ids asked notes deadlines counts clients originals top cursor attached cl
 -- the state that its columns and numbers are
 abbrev pub stateOf : Device → State
 stateOf d =
-    lent (d .ids) (d .asked) (d .notes) (d .deadlines) (d .counts) (d .clients) (d .originals) (d .top) (d .cursor) (d .attached) (d .clock) (d .timeout) (d .join)
+    lent (d .ids) (d .asked) (d .callers) (d .deadlines) (d .counts) (d .clients) (d .originals) (d .top) (d .cursor) (d .attached) (d .clock) (d .timeout) (d .join)
     (d .tagged) (d .tags)
 
 -- every device that these calls made

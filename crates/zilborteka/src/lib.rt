@@ -12,7 +12,7 @@ ghost use Rattle.zilborteka.specs.Device.{Made, Served, Freshly};
 pub struct Device {
     pub ids: [u32; laws::PLACES],
     pub asked: [u64; laws::PLACES],
-    pub notes: [u8; laws::PLACES],
+    pub callers: [u8; laws::PLACES],
     pub deadlines: [u64; laws::PLACES],
     pub counts: [u8; laws::PLACES],
     pub clients: [u8; laws::PARTY_PLACES],
@@ -35,7 +35,7 @@ pub extern "C" fn zb_fresh(st: &mut Device, from: Settings) -> Report
     cores::fresh(
         &mut st.ids,
         &mut st.asked,
-        &mut st.notes,
+        &mut st.callers,
         &mut st.deadlines,
         &mut st.counts,
         &mut st.clients,
@@ -92,7 +92,7 @@ pub extern "C" fn zb_request(
     cores::request(
         &mut st.ids,
         &mut st.asked,
-        &mut st.notes,
+        &mut st.callers,
         &mut st.deadlines,
         &mut st.counts,
         &mut st.clients,
@@ -127,7 +127,7 @@ pub extern "C" fn zb_reply(
     answering::reply(
         &mut st.ids,
         &mut st.asked,
-        &mut st.notes,
+        &mut st.callers,
         &mut st.deadlines,
         &mut st.counts,
         &mut st.clients,
@@ -156,7 +156,7 @@ pub extern "C" fn zb_tick(st: &mut Device, time: u64, out: &mut [u8], list: &mut
     answering::tick(
         &mut st.ids,
         &mut st.asked,
-        &mut st.notes,
+        &mut st.callers,
         &mut st.deadlines,
         &mut st.counts,
         &mut st.clients,

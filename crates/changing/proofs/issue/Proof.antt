@@ -12,7 +12,7 @@ returns : tie.Need-returns
 returns c =
     let b = c .before .before .before in
     let a = b .args in
-    let m = columns (now (a .ids)) (now (a .asked)) (now (a .notes)) (now (a .deadlines)) (now (a .counts)) (now (a .clients)) (now (a .originals)) (now (a .top)) in
+    let m = columns (now (a .ids)) (now (a .asked)) (now (a .callers)) (now (a .deadlines)) (now (a .counts)) (now (a .clients)) (now (a .originals)) (now (a .top)) in
     rw (c .raised .ensures) (issued m (b .pre .0) (a .place) (a .id .0) (a .word) (a .deadline) (a .client) (a .original .0) (b .pre .1 .0 .0) (omega arith) (b .pre .1 .1))
 
 pub issue-spec : {M : Type 1} → statement M

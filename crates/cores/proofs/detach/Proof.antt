@@ -7,8 +7,8 @@ use Rattle.cores.proofs.detach.Statement.{statement}
 use Rattle.cores.proofs.detach.Tie as tie
 
 returns : tie.Need-returns
-returns c ids asked notes deadlines cursor clock timeout join tagged tags made =
-    let does = c .before .detach .ensures ids asked notes deadlines cursor clock (kept timeout join tagged tags) made in
+returns c ids asked callers deadlines cursor clock timeout join tagged tags made =
+    let does = c .before .detach .ensures ids asked callers deadlines cursor clock (kept timeout join tagged tags) made in
     as-told _ _ _ _ _ _ _ (c .report-of .ensures) does
 
 pub detach-spec : {M : Type 1} → statement M

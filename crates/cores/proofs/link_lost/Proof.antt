@@ -7,8 +7,8 @@ use Rattle.cores.proofs.link_lost.Statement.{statement}
 use Rattle.cores.proofs.link_lost.Tie as tie
 
 returns : tie.Need-returns
-returns c asked notes deadlines counts clients originals cursor clock timeout join tagged tags made =
-    let does = c .before .link-lost .ensures asked notes deadlines counts clients originals cursor clock (kept timeout join tagged tags) made in
+returns c asked callers deadlines counts clients originals cursor clock timeout join tagged tags made =
+    let does = c .before .link-lost .ensures asked callers deadlines counts clients originals cursor clock (kept timeout join tagged tags) made in
     as-told _ _ _ _ _ _ _ (c .report-of .ensures) does
 
 pub link-lost-spec : {M : Type 1} → statement M

@@ -14,7 +14,7 @@ use Rattle.requesting.proofs.serve.Tie as tie
 -- the columns and the settings as they came
 abbrev came : tie.Start → Columns
 came s =
-    columns (now (s .args .ids)) (now (s .args .asked)) (now (s .args .notes)) (now (s .args .deadlines)) (now (s .args .counts)) (now (s .args .clients))
+    columns (now (s .args .ids)) (now (s .args .asked)) (now (s .args .callers)) (now (s .args .deadlines)) (now (s .args .counts)) (now (s .args .clients))
     (now (s .args .originals)) (now (s .args .top))
 
 abbrev settings : tie.Start → Kept

@@ -13,11 +13,11 @@ use Rattle.state.proofs.gather.Statement.{statement}
 use Rattle.state.proofs.gather.Tie as tie
 
 abbrev Inv-loop : tie.InvT-loop
-Inv-loop clients originals top cursor attached clock timeout join tagged tags ids asked notes deadlines counts entries₀ k₀ entries k =
-    (k ≤ places) × Filled places (placeOf 0 0 0 0 0) (tab places (rowAt ids asked notes deadlines counts)) entries k
+Inv-loop clients originals top cursor attached clock timeout join tagged tags ids asked callers deadlines counts entries₀ k₀ entries k =
+    (k ≤ places) × Filled places (placeOf 0 0 0 0 0) (tab places (rowAt ids asked callers deadlines counts)) entries k
 
 abbrev μ-loop : tie.MeasureT-loop
-μ-loop clients originals top cursor attached clock timeout join tagged tags ids asked notes deadlines counts entries₀ k₀ entries k = places - k
+μ-loop clients originals top cursor attached clock timeout join tagged tags ids asked callers deadlines counts entries₀ k₀ entries k = places - k
 
 loop-holds : tie.Need-loop-holds Inv-loop μ-loop
 loop-holds c = (search needs, filled-none places (placeOf 0 0 0 0 0) _ _ refl)

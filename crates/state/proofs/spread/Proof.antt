@@ -13,16 +13,16 @@ use Rattle.state.proofs.spread.Statement.{statement}
 use Rattle.state.proofs.spread.Tie as tie
 
 abbrev Inv-loop : tie.InvT-loop
-Inv-loop ids₀ asked₀ notes₀ deadlines₀ counts₀ entries k₀ ids asked notes deadlines counts k =
+Inv-loop ids₀ asked₀ notes₀ deadlines₀ counts₀ entries k₀ ids asked callers deadlines counts k =
     (k ≤ places)
     × Filled places 0 (map numberOf entries) ids k
     × Filled places 0 (map wordIn entries) asked k
-    × Filled places 0 (map callerOf entries) notes k
+    × Filled places 0 (map callerOf entries) callers k
     × Filled places 0 (map deadlineOf entries) deadlines k
     × Filled places 0 (map countOf entries) counts k
 
 abbrev μ-loop : tie.MeasureT-loop
-μ-loop ids₀ asked₀ notes₀ deadlines₀ counts₀ entries k₀ ids asked notes deadlines counts k = places - k
+μ-loop ids₀ asked₀ notes₀ deadlines₀ counts₀ entries k₀ ids asked callers deadlines counts k = places - k
 
 loop-holds : tie.Need-loop-holds Inv-loop μ-loop
 loop-holds c =
@@ -37,7 +37,7 @@ loop-again c =
       search needs,
       filled-more places 0 _ (l .ids) k _ (search needs) (l .inv .1) (c .before .number-of .ensures ∙ sym (getD-map numberOf es k _ 0 (search needs))),
       filled-more places 0 _ (l .asked) k _ (search needs) (l .inv .2) (c .word-in .ensures ∙ sym (getD-map wordIn es k _ 0 (search needs))),
-      filled-more places 0 _ (l .notes) k _ (search needs) (l .inv .3) (sym (getD-map callerOf es k _ 0 (search needs))),
+      filled-more places 0 _ (l .callers) k _ (search needs) (l .inv .3) (sym (getD-map callerOf es k _ 0 (search needs))),
       filled-more places 0 _ (l .deadlines) k _ (search needs) (l .inv .4) (sym (getD-map deadlineOf es k _ 0 (search needs))),
       filled-more places 0 _ (l .counts) k _ (search needs) (l .inv .5) (sym (getD-map countOf es k _ 0 (search needs))),
     )

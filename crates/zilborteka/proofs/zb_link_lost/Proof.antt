@@ -38,5 +38,5 @@ unfolding code.routine tablesOf
 zb-link-lost-spec 𝓤 H 𝓜 𝓖 𝓡 =
     entered 𝓤 H (tripleOf 𝓤 H (𝓖 .A) f.signature (f.spec 𝓤 H (𝓖 .A) (𝓜 .mem) (𝓡 .run)))
     (tables 𝓤 H 𝓜 𝓡 code.env .C) (tables 𝓤 H 𝓜 𝓡 code.env .Λ) #f code.function (code.unfolded 𝓤 H 𝓜 𝓡)
-    (entry-meets 𝓤 H (𝓖 .A) (givenOf 𝓤 H 𝓜 𝓖) g.name R Pe Rc (λ h r w0 w1 w2 ok e. e (h .asked) (h .notes) (h .deadlines) (h .counts) (h .clients) (h .originals) (h .cursor) (h .clock) (h .timeout) (h .join) (h .tagged) (h .tags) ok) (tablesOf 𝓤 H 𝓜 (tables 𝓤 H 𝓜 𝓡 code.env))
+    (entry-meets 𝓤 H (𝓖 .A) (givenOf 𝓤 H 𝓜 𝓖) g.name R Pe Rc (λ h r w0 w1 w2 ok e. e (h .asked) (h .callers) (h .deadlines) (h .counts) (h .clients) (h .originals) (h .cursor) (h .clock) (h .timeout) (h .join) (h .tagged) (h .tags) ok) (tablesOf 𝓤 H 𝓜 (tables 𝓤 H 𝓜 𝓡 code.env))
     (cited 𝓤 H (Core 𝓤 Rc H (𝓖 .A)) 𝓜 𝓡 code.env g.name g.routine code.calls-cores·link-lost (g-thm.met 𝓤 H 𝓜 𝓖 𝓡)))
