@@ -4,6 +4,7 @@ ghost use lib.ListN.{length};
 
 pub mod hex;
 pub mod numbers;
+pub mod tables;
 pub mod tally;
 
 // Document 01's settings text.

@@ -1,6 +1,6 @@
 // An example run, printed and held against what it must give. A row of a table is its name, the request, the reply (nothing where the request itself is
 // shown) and what comes of it, each ended by '|', and the row by LF. What comes of it is a refusal; or the tags raw for partial cover, those raw for value,
-// and the frame.
+// and the frame. A line with nothing in it and one that begins with '#' are passed over.
 use crate::driving::Given;
 use crate::driving::bring;
 use crate::driving::send;
@@ -12,6 +12,7 @@ use parts::hex::append_hex;
 use parts::hex::parse;
 use parts::numbers::append_decimal;
 use parts::rest;
+use parts::tables::is_row;
 use parts::tally::Tally;
 use parts::tally::counted;
 use parts::tally::print_line;
@@ -53,6 +54,9 @@ fn run(request: &[u8], reply: &[u8], text: &mut [u8]) -> usize {
 }
 
 fn example(t: Tally, row: &[u8]) -> Tally {
+    if !is_row(row) {
+        return t;
+    }
     let asked = rest(row, b'|');
     let answered = rest(asked, b'|');
     let right = head(rest(answered, b'|'), b'|');
