@@ -49,6 +49,18 @@ pub fn rest(s: &[u8], byte: u8) -> &[u8] {
     behind(s, std::num::wrapping_add_usize(end_of(s, 0, byte), 1))
 }
 
+// The k-th field of a row, counted from 0: each is ended by '|'.
+pub fn field(row: &[u8], k: usize) -> &[u8] {
+    let mut at: usize = 0;
+    let mut passed: usize = 0;
+    while passed < k {
+        let size = end_of(behind(row, at), 0, b'|');
+        at = std::num::wrapping_add_usize(at, std::num::wrapping_add_usize(size, 1));
+        passed += 1;
+    }
+    head(behind(row, at), b'|')
+}
+
 // Puts bytes at a place, as many as there is room for, and tells the place behind them.
 pub fn append(text: &mut [u8], at: usize, bytes: &[u8]) -> usize {
     let mut next = at;

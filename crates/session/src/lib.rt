@@ -1,11 +1,11 @@
 // A script of calls on one state: each call is printed with what came of it, and held against what must come of it.
 // A row of a table is a name, a call, and what comes of it, each ended by '|', and the row by LF. A row with no name belongs to the one above it.
 // A line with nothing in it and one that begins with '#' are passed over.
-// The calls: see naming.rt of scripts. What comes of them: see telling.rt there.
+// The calls: see naming.rt of scripts. What comes of them: see telling.
 ghost use Rattle.state.specs.States.{Made};
 use parts::before;
 use parts::end_of;
-use parts::head;
+use parts::field;
 use parts::numbers::number;
 use parts::rest;
 use parts::tables::is_row;
@@ -57,13 +57,12 @@ fn row(s: Session, row: &[u8]) -> Session
     if !is_row(row) {
         return s;
     }
-    let call = head(rest(row, b'|'), b'|');
-    let right = head(rest(rest(row, b'|'), b'|'), b'|');
+    let call = field(row, 1);
     let mut text = [0u8; 2048];
     let ran = repeat(s.state, call, &mut text);
     let given = before(&text, ran.size);
-    scripts::printing::print_row(head(row, b'|'), call, given);
-    let tally = counted(s.tally, given, right);
+    scripts::printing::print_row(field(row, 0), call, given);
+    let tally = counted(s.tally, given, field(row, 2));
     let state = ran.state;
     Session { state, tally }
 }

@@ -8,15 +8,15 @@ use parts::hex::parse;
 use parts::numbers::number;
 use parts::rest;
 use scripts::apart;
+use scripts::lent::KEPT;
 use scripts::naming::Call;
 use scripts::naming::length_in;
 use scripts::naming::named;
 use scripts::naming::short_number;
 use scripts::naming::value_in;
-use scripts::telling::KEPT;
-use scripts::telling::KEPT_PLACE;
-use scripts::telling::tell;
 use state::State;
+use telling::KEPT_PLACE;
+use telling::tell;
 
 // The state afterwards, and the length of the text that tells what came of the call.
 pub struct Ran {
