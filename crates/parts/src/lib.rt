@@ -3,6 +3,7 @@ ghost use Prim.Native.Nat.{_≤_};
 ghost use lib.ListN.{length};
 
 pub mod hex;
+pub mod lent;
 pub mod numbers;
 pub mod tables;
 pub mod tally;

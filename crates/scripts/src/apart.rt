@@ -1,8 +1,5 @@
 // Calls that change no state: what a state holds, a run's first frame, settings texts read and written.
 ghost use Prim.Native.Nat.{_≤_};
-use crate::lent::KEPT;
-use crate::lent::ended;
-use crate::lent::kept;
 use crate::naming::length_in;
 use crate::naming::value_in;
 use parts::append;
@@ -10,6 +7,9 @@ use parts::before;
 use parts::head;
 use parts::hex::append_hex;
 use parts::hex::parse;
+use parts::lent::KEPT;
+use parts::lent::ended;
+use parts::lent::kept;
 use parts::numbers::append_0x;
 use parts::numbers::append_decimal;
 use parts::numbers::append_named;

@@ -1,5 +1,4 @@
 // The words of a script: which call a row names, and a row printed. The calls that leave the state are run and told here.
 pub mod apart;
-pub mod lent;
 pub mod naming;
 pub mod printing;

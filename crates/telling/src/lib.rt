@@ -7,12 +7,12 @@ use parts::append;
 use parts::before;
 use parts::field;
 use parts::hex::append_hex;
+use parts::lent::ended;
+use parts::lent::kept;
 use parts::numbers::append_0x;
 use parts::numbers::append_decimal;
 use parts::numbers::append_named;
 use parts::numbers::append_named_0x;
-use scripts::lent::ended;
-use scripts::lent::kept;
 
 // Each place of a lent list before a call.
 pub const KEPT_PLACE: u16 = 42405;

@@ -1,5 +1,5 @@
 // What a lent buffer holds before a call, and whether it holds it still.
-use parts::append;
+use crate::append;
 
 // Each byte of a lent buffer before a call.
 pub const KEPT: u8 = 165;
