@@ -1,4 +1,4 @@
-# demo proves the demonstration program, runs it, holds what it writes to its file stdout and prints that; test is the gate.
+# demo proves the demonstration program, runs it on its file stdin, holds what it writes to its file stdout and prints that; test is the gate.
 # host builds the archive and runs the example host in C; host-test does so and runs tests/host (SEED=n: with another seed).
 .PHONY: demo test archive host host-test
 

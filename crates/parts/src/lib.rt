@@ -3,7 +3,9 @@ ghost use Prim.Native.Nat.{_≤_};
 ghost use lib.ListN.{length};
 
 pub mod hex;
+pub mod lent;
 pub mod numbers;
+pub mod tables;
 pub mod tally;
 
 // Document 01's settings text.
@@ -46,6 +48,18 @@ pub fn head(s: &[u8], byte: u8) -> &[u8] {
 
 pub fn rest(s: &[u8], byte: u8) -> &[u8] {
     behind(s, std::num::wrapping_add_usize(end_of(s, 0, byte), 1))
+}
+
+// The k-th field of a row, counted from 0: each is ended by '|'.
+pub fn field(row: &[u8], k: usize) -> &[u8] {
+    let mut at: usize = 0;
+    let mut passed: usize = 0;
+    while passed < k {
+        let size = end_of(behind(row, at), 0, b'|');
+        at = std::num::wrapping_add_usize(at, std::num::wrapping_add_usize(size, 1));
+        passed += 1;
+    }
+    head(behind(row, at), b'|')
 }
 
 // Puts bytes at a place, as many as there is room for, and tells the place behind them.

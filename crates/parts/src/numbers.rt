@@ -47,3 +47,15 @@ pub fn append_0x(text: &mut [u8], at: usize, n: u64, width: usize) -> usize {
     let next = append(text, at, b"0x");
     append(text, next, &digits[..size])
 }
+
+// Puts a word, and a number in decimal digits behind it.
+pub fn append_named(text: &mut [u8], at: usize, word: &[u8], n: u64) -> usize {
+    let next = append(text, at, word);
+    append_decimal(text, next, n)
+}
+
+// Puts a word, and a number as 0x and hexadecimal digits behind it.
+pub fn append_named_0x(text: &mut [u8], at: usize, word: &[u8], n: u64, width: usize) -> usize {
+    let next = append(text, at, word);
+    append_0x(text, next, n, width)
+}

@@ -1,17 +1,18 @@
 // An example run, printed and held against what it must give. A row of a table is its name, the request, the reply (nothing where the request itself is
 // shown) and what comes of it, each ended by '|', and the row by LF. What comes of it is a refusal; or the tags raw for partial cover, those raw for value,
-// and the frame.
+// and the frame. A line with nothing in it and one that begins with '#' are passed over.
 use crate::driving::Given;
 use crate::driving::bring;
 use crate::driving::send;
 use parts::append;
 use parts::before;
 use parts::end_of;
-use parts::head;
+use parts::field;
 use parts::hex::append_hex;
 use parts::hex::parse;
 use parts::numbers::append_decimal;
-use parts::rest;
+use parts::numbers::append_named;
+use parts::tables::is_row;
 use parts::tally::Tally;
 use parts::tally::counted;
 use parts::tally::print_line;
@@ -19,14 +20,10 @@ use parts::tally::print_line;
 // What a call gave, as text.
 fn tell(given: Given, out: &[u8], text: &mut [u8]) -> usize {
     match given {
-        Given::Refused(number) => {
-            let at = append(text, 0, b"refusal ");
-            append_decimal(text, at, number as u64)
-        }
+        Given::Refused(number) => append_named(text, 0, b"refusal ", number as u64),
         Given::Frame(size, raw) => {
             let at = append_decimal(text, 0, raw.partial as u64);
-            let at = append(text, at, b",");
-            let at = append_decimal(text, at, raw.value as u64);
+            let at = append_named(text, at, b",", raw.value as u64);
             let at = append(text, at, b":");
             append_hex(text, at, before(out, size))
         }
@@ -53,21 +50,21 @@ fn run(request: &[u8], reply: &[u8], text: &mut [u8]) -> usize {
 }
 
 fn example(t: Tally, row: &[u8]) -> Tally {
-    let asked = rest(row, b'|');
-    let answered = rest(asked, b'|');
-    let right = head(rest(answered, b'|'), b'|');
-    let request = head(asked, b'|');
-    let reply = head(answered, b'|');
+    if !is_row(row) {
+        return t;
+    }
+    let request = field(row, 1);
+    let reply = field(row, 2);
     let mut text = [0u8; 1024];
     let size = run(request, reply, &mut text);
     let given = before(&text, size);
-    print_line(b"", head(row, b'|'));
+    print_line(b"", field(row, 0));
     print_line(b"  request      ", request);
     if 0 < reply.len() {
         print_line(b"  reply        ", reply);
     }
     print_line(b"  gives   ", given);
-    counted(t, given, right)
+    counted(t, given, field(row, 3))
 }
 
 // Every row of a table.

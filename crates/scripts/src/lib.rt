@@ -1,5 +1,4 @@
-// The words of a script: which call a row names, and what came of it as text. Splitting and settings texts, which need no state, are run here too.
+// The words of a script: which call a row names, and a row printed. The calls that leave the state are run and told here.
 pub mod apart;
 pub mod naming;
 pub mod printing;
-pub mod telling;

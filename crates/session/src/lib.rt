@@ -1,12 +1,14 @@
 // A script of calls on one state: each call is printed with what came of it, and held against what must come of it.
 // A row of a table is a name, a call, and what comes of it, each ended by '|', and the row by LF. A row with no name belongs to the one above it.
-// The calls: see naming.rt of scripts. What comes of them: see telling.rt there.
+// A line with nothing in it and one that begins with '#' are passed over.
+// The calls: see naming.rt of scripts. What comes of them: see telling.
 ghost use Rattle.state.specs.States.{Made};
 use parts::before;
 use parts::end_of;
-use parts::head;
+use parts::field;
 use parts::numbers::number;
 use parts::rest;
+use parts::tables::is_row;
 use parts::tally::Tally;
 use parts::tally::counted;
 use state::State;
@@ -14,13 +16,13 @@ use state::State;
 mod running;
 
 // The state that the calls are made on, and the tally so far.
-pub struct Session {
-    pub state: State,
-    pub tally: Tally,
+struct Session {
+    state: State,
+    tally: Tally,
 }
 
 // A fresh state with document 01's settings, and nothing shown yet.
-pub fn start() -> Session
+fn start() -> Session
     ensures { λ r. ⌜ Made (r .state) ⌝ }
 {
     let made = calls::fresh(scripts::naming::document_value());
@@ -52,19 +54,21 @@ fn row(s: Session, row: &[u8]) -> Session
     requires { ⌜ Made (s .state) ⌝ }
     ensures { λ r. ⌜ Made (r .state) ⌝ }
 {
-    let call = head(rest(row, b'|'), b'|');
-    let right = head(rest(rest(row, b'|'), b'|'), b'|');
+    if !is_row(row) {
+        return s;
+    }
+    let call = field(row, 1);
     let mut text = [0u8; 2048];
     let ran = repeat(s.state, call, &mut text);
     let given = before(&text, ran.size);
-    scripts::printing::print_row(head(row, b'|'), call, given);
-    let tally = counted(s.tally, given, right);
+    scripts::printing::print_row(field(row, 0), call, given);
+    let tally = counted(s.tally, given, field(row, 2));
     let state = ran.state;
     Session { state, tally }
 }
 
 // Every row of a table.
-pub fn play(s: Session, table: &[u8]) -> Session
+fn play(s: Session, table: &[u8]) -> Session
     requires { ⌜ Made (s .state) ⌝ }
     ensures { λ r. ⌜ Made (r .state) ⌝ }
 {
@@ -78,7 +82,10 @@ pub fn play(s: Session, table: &[u8]) -> Session
     session
 }
 
-// The last line of a program.
-pub fn finish(name: &[u8], s: Session) {
-    parts::tally::print(name, s.tally);
+// A program: plays the table that it is given, and says how many rows there were and how many of them differ.
+pub fn show(name: &[u8]) {
+    let mut buffer = io::large_buffer();
+    let size = parts::tables::read(&mut buffer);
+    let s = play(start(), before(&buffer, size));
+    parts::tally::print(name, parts::tables::whole(s.tally, size, &buffer));
 }

@@ -5,6 +5,7 @@ use parts::before;
 use parts::behind;
 use parts::head;
 use parts::hex::parse;
+use parts::lent::KEPT;
 use parts::numbers::number;
 use parts::rest;
 use scripts::apart;
@@ -13,10 +14,9 @@ use scripts::naming::length_in;
 use scripts::naming::named;
 use scripts::naming::short_number;
 use scripts::naming::value_in;
-use scripts::telling::KEPT;
-use scripts::telling::KEPT_PLACE;
-use scripts::telling::tell;
 use state::State;
+use telling::KEPT_PLACE;
+use telling::tell;
 
 // The state afterwards, and the length of the text that tells what came of the call.
 pub struct Ran {

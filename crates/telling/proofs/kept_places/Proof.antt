@@ -1,10 +1,10 @@
--- `scripts::telling::kept_places` meets its contract. The loop's invariant says nothing; the measure is what is left of the buffer.
+-- `telling::kept_places` meets its contract. The loop's invariant says nothing; the measure is what is left of the buffer.
 -- Assumes nothing.
 use Prim.Native.Nat.{_-_}
 use lib.ListN.{length}
 use borrow.Author.Needs.{needs}
-use Rattle.scripts.proofs.telling.kept_places.Statement.{statement}
-use Rattle.scripts.proofs.telling.kept_places.Tie as tie
+use Rattle.telling.proofs.kept_places.Statement.{statement}
+use Rattle.telling.proofs.kept_places.Tie as tie
 
 abbrev Inv-loop : tie.InvT-loop
 Inv-loop list from right₀ k₀ right k = Unit {0}

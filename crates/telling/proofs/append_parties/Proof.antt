@@ -1,11 +1,11 @@
--- `scripts::telling::append_parties` meets its contract. The loop's invariant: the buffer keeps its length.
+-- `telling::append_parties` meets its contract. The loop's invariant: the buffer keeps its length.
 -- Assumes nothing.
 use Prim.Native.Nat.{_-_}
 use mathlib.Core.Path.{_≡_, refl}
 use lib.ListN.{length}
 use borrow.Author.Needs.{needs}
-use Rattle.scripts.proofs.telling.append_parties.Statement.{statement}
-use Rattle.scripts.proofs.telling.append_parties.Tie as tie
+use Rattle.telling.proofs.append_parties.Statement.{statement}
+use Rattle.telling.proofs.append_parties.Tie as tie
 
 abbrev Inv-loop : tie.InvT-loop
 Inv-loop text₀ at list parties count next₀ k₀ text next k = length text ≡ length text₀

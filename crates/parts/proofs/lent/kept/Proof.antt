@@ -1,10 +1,10 @@
--- `scripts::telling::kept` meets its contract. The loop's invariant says nothing; the measure is what is left of the buffer.
+-- `parts::lent::kept` meets its contract. The loop's invariant says nothing; the measure is what is left of the buffer.
 -- Assumes nothing.
 use Prim.Native.Nat.{_-_}
 use lib.ListN.{length}
 use borrow.Author.Needs.{needs}
-use Rattle.scripts.proofs.telling.kept.Statement.{statement}
-use Rattle.scripts.proofs.telling.kept.Tie as tie
+use Rattle.parts.proofs.lent.kept.Statement.{statement}
+use Rattle.parts.proofs.lent.kept.Tie as tie
 
 abbrev Inv-loop : tie.InvT-loop
 Inv-loop out from right₀ k₀ right k = Unit {0}
