@@ -1,6 +1,6 @@
 #!/usr/bin/env python3
 # Writes the proofs of thin entry points over one big struct lent by `&mut`.   usage: gen.py CRATE_DIR      (reads CRATE_DIR/entries.txt)
-#   struct Device MAKER                            the struct of numbers and arrays of numbers, and the function of its fields that makes it
+#   struct CRATE/Device MAKER                      the struct of numbers and arrays of numbers in the crate beside this one, and the function of its fields that makes it
 #   use MODULE.{NAMES}                             what the relations below cite
 #   field NAME TYPE                                its fields in order; TYPE: u16, or u32x64 for [u32; 64]
 #   shape NAME lend A,B,.. | p:u64 f:&u8 o:&mutu8 -> RESULT [requires]      a shape: the fields lent in their order, the other parameters in their order, the result
@@ -11,7 +11,7 @@
 #         CORE is a path in the crate, or CRATE/PATH
 #   core FN PRE LAW                                what FN's core requires, λ lent p.. ; and the law to it from `before`, h p.. before
 # The core ensures the same RELATION, at the struct made of its lent fields and any others with which `before` holds.
-# It writes proofs/Fields.antt, proofs/SHAPE.antt and proofs/FN/Proof.antt, over the hand-written proofs/Lend.antt. Add them to proofs/Lib.antt; then rt fmt.
+# It writes proofs/Fields.antt and proofs/SHAPE.antt of the struct's crate, over the hand-written proofs/Lend.antt there, and proofs/FN/Proof.antt of CRATE_DIR. Add the first to proofs/Lib.antt; then rt fmt.
 import sys, os
 d = sys.argv[1].rstrip('/')
 crate = os.path.basename(d)
@@ -24,7 +24,7 @@ for ln in open(f'{d}/entries.txt'):
     text = ln.split('#')[0].strip()
     ln = text.split()
     if not ln: continue
-    if ln[0] == 'struct': ST, MAKE = ln[1], ln[2]
+    if ln[0] == 'struct': (SC, ST), MAKE = ln[1].split('/'), ln[2]
     elif ln[0] == 'use': USES.append(text)
     elif ln[0] == 'before': BEFORE = text.split(None, 1)[1]
     elif ln[0] == 'core': CORES[ln[1]] = text.split(None, 2)[2].rsplit('|', 1)
@@ -39,6 +39,9 @@ for ln in open(f'{d}/entries.txt'):
             ps.append((n, 'mut', t[4:]) if t.startswith('&mut') else (n, 'shr', t[1:]) if t.startswith('&') else (n, 'val', t))
         shapes[ln[1]] = (lent, ps, ln[arrow+1], 'requires' in ln[arrow+2:], 'requires' in ln[arrow+2:] and 'entry' not in ln[arrow+2:])
     elif ln[0] == 'entry': entries.append(text.split(None, 4)[1:])
+# the struct's crate: where its modules are named from within, and from other crates
+SD = f'{os.path.dirname(d)}/{SC}/proofs'
+SP, SS = f'Rattle.{SC}.proofs', f'Rattle.{SC}.specs'
 row = lambda e, k: f'Array {e} {k}' if k else e
 ty = lambda e, k: f'tyArray (tyInt {W[e]}) {k}' if k else f'tyInt {W[e]}'
 den = lambda k: 'List ℕ' if k else 'ℕ'
@@ -80,9 +83,9 @@ use denote.Struct.Recorded.{{recorded-part}}
 use denote.Struct.Laws as LL
 use denote.Struct.Members.{{Member, rowsOf, partsAt}}
 use denote.Struct.Parts.{{shapeOf, PartsBack, struct-parts}}
-use {S}.declared.{ST}.{{{ST}}}
-use {P}.{ST} as T
-use {P}.{ST}.Laws as T′
+use {SS}.declared.{ST}.{{{ST}}}
+use {SP}.{ST} as T
+use {SP}.{ST}.Laws as T′
 
 -- the fields
 {nl(f"""abbrev pub {mn(n)} : Member
@@ -349,12 +352,12 @@ use denote.Triple.Call.{{calls-at}}
 use denote.Triple.Clauses.{{Ended, Clauses, ensured, closing}}
 use denote.Triple.Walked.{{says, needs, Stays, stay-ref, stay-dropped, gave-slice, walkOf, AllGo, goes-ref, goes-dropped, goes-gave-slice, Walks, ends-at, walked, walk-meets}}
 use denote.Exit.{{yes}}
-use {S}.declared.{ST}.{{{ST}}}
+use {SS}.declared.{ST}.{{{ST}}}
 {nl(structs) if structs else '-- no struct but the lent one'}
-use {P}.{ST} as T
-use {P}.{ST}.Laws as T′
-use {P}.Fields.{{ms, {', '.join(mn(y) for y in names)}, tuple, takes, gives}}
-use {P}.Lend.{{Use, lend, stay, Names, after, kept, refs, refsAt, ptrsAt, lents, finals, lend-all, back-all}}
+use {SP}.{ST} as T
+use {SP}.{ST}.Laws as T′
+use {SP}.Fields.{{ms, {', '.join(mn(y) for y in names)}, tuple, takes, gives}}
+use {SP}.Lend.{{Use, lend, stay, Names, after, kept, refs, refsAt, ptrsAt, lents, finals, lend-all, back-all}}
 
 abbrev pub Rel : Type 1
 Rel = {RelT}
@@ -528,9 +531,9 @@ use mathlib.Core.List.{{List, []}}
 use contract.Running.{{givenOf, tables, tablesOf}}
 use denote.Triple.Spec.{{tripleOf}}
 use denote.Triple.Table.{{entered, cited}}
-use {S}.declared.{ST}.{{{ST}}}
+use Rattle.{SC}.specs.declared.{ST}.{{{ST}}}
 {nl(USES)}
-use {P}.{sh}.{{{', '.join(kinds)}}}
+use Rattle.{SC}.proofs.{sh}.{{{', '.join(kinds)}}}
 use {cpath}.Symbol as g
 use {cpath}.Met as g-thm
 use {P}.{path}.Key.{{name as #f}}
@@ -554,8 +557,8 @@ unfolding code.routine tablesOf
     (cited 𝓤 H (Core 𝓤 Rc{' Pc' if creq else ''} H (𝓖 .A)) 𝓜 𝓡 code.env g.name g.routine code.{calls} (g-thm.met 𝓤 H 𝓜 𝓖 𝓡)))
 '''
 os.makedirs(PR, exist_ok=True)
-open(f'{PR}/Fields.antt', 'w').write(FIELDS)
-for k, v in shapes.items(): open(f'{PR}/{k}.antt', 'w').write(shape(k, *v))
+open(f'{SD}/Fields.antt', 'w').write(FIELDS)
+for k, v in shapes.items(): open(f'{SD}/{k}.antt', 'w').write(shape(k, *v))
 for e in entries:
     p = f"{PR}/{e[0].replace('::', '/')}"
     os.makedirs(p, exist_ok=True); open(f'{p}/Proof.antt', 'w').write(entry(*e))

@@ -1,5 +1,6 @@
--- The sizes, bounds and codes of document 01, once and by name. The code has the same numbers as constants of the same names. A refusal's number stands where it is given:
--- in the rows of machine/specs/Refusals.antt and in the reports of the calls that need no device.
+-- The sizes, bounds and codes of document 01, once and by name. The code has them as constants of the same names; only the number of ids, which 16 bits do not hold, is the last
+-- id there, and digits to a register are a word of the definitions alone. A refusal's number stands where it is given: in the rows of machine/specs/Refusals.antt, for a
+-- fresh state in proxy/specs/Gates.antt, and in the reports of the calls that need no device.
 -- Assumes nothing.
 use Prim.Native.Nat.{ℕ, _+_, _*_, _-_, _^_}
 

@@ -2,7 +2,7 @@
 ghost use mathlib.Core.Path.{_≡_};
 ghost use Prim.Native.Nat.{_<_};
 
-// Document 01's numbers: specs/Numbers.antt has each under the same name.
+// Document 01's numbers: specs/Numbers.antt has each under the same name, and how many ids there are in place of the last.
 pub const CLIENTS: u32 = 32;
 
 pub const PLACES: usize = 64;

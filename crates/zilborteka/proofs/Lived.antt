@@ -19,8 +19,8 @@ use Rattle.machine.proofs.NumberLaws.{Tells, numbers-tell}
 use Rattle.machine.proofs.Histories.{product, afterCalls, toldBy, accounted}
 use Rattle.proxy.specs.State.{machineOf}
 use Rattle.proxy.specs.Gates.{adopted}
-use Rattle.zilborteka.specs.declared.Device.{Device}
-use Rattle.zilborteka.specs.Device.{stateOf, Made, Served, Freshly}
+use Rattle.device.specs.declared.Device.{Device}
+use Rattle.device.specs.Device.{stateOf, Made, Served, Freshly}
 use Rattle.zilborteka.specs.Lives.{Line, callsOf, Lived, toldIn}
 use Rattle.zilborteka.specs.Lives.Lived.{none, then}
 

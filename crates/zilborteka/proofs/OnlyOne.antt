@@ -12,12 +12,12 @@ use Rattle.writing.specs.Reports.{writtenTo}
 use Rattle.machine.specs.Calls.{Call}
 use Rattle.machine.specs.declared.Report.{Report}
 use Rattle.proxy.specs.State.{machineOf}
-use Rattle.zilborteka.specs.declared.Device.{Device}
+use Rattle.device.specs.declared.Device.{Device}
 use Rattle.reports.specs.declared.SettingsRead.{SettingsRead}
 use Rattle.machine.specs.Numbers.{Reported, reported}
 use Rattle.reports.specs.Reports.{TextSeen, textSeen, splitTold, readTold, writeTold}
-use Rattle.zilborteka.specs.Device.{stateOf, Served, Freshly}
-use Rattle.zilborteka.proofs.DeviceLaws.{same-device}
+use Rattle.device.specs.Device.{stateOf, Served, Freshly}
+use Rattle.device.proofs.DeviceLaws.{same-device}
 
 -- Attach, detach, request, reply, tick, link lost: from one device, one call has one report, one machine afterwards, and one content of each lent buffer;
 -- and a refusal leaves only one device: the one that was lent.

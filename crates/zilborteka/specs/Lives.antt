@@ -6,8 +6,8 @@ use Rattle.pdu.specs.Replies.{What}
 use Rattle.book.specs.Book.{Event}
 use Rattle.machine.specs.Calls.{Call}
 use Rattle.machine.specs.Histories.{Seen, events}
-use Rattle.zilborteka.specs.declared.Device.{Device}
-use Rattle.zilborteka.specs.Device.{Served}
+use Rattle.device.specs.declared.Device.{Device}
+use Rattle.device.specs.Device.{Served}
 
 -- one line of it: the call with all that is given to it; the report and both lent buffers as they are afterwards
 pub record Line : Type 0 where

@@ -9,7 +9,7 @@ ghost use Rattle.settings.specs.Grammar.{readText};
 ghost use Rattle.settings.specs.Values.{valueOf};
 ghost use Rattle.writing.specs.Reports.{writtenTo};
 ghost use Rattle.reports.specs.Reports.{splitTold, readTold, textSeen, writeTold};
-ghost use Rattle.zilborteka.specs.Device.{stateSize};
+ghost use Rattle.device.specs.Device.{stateSize};
 
 // Splits a run: the first frame's length, more needed, or refusal 4.
 #[no_mangle]
@@ -35,14 +35,10 @@ pub extern "C" fn zb_settings_write(from: Settings, text: &mut [u8]) -> Report
     reports::write(from, text)
 }
 
-// The fields' sizes in order, each at a multiple of its element's: 256 + 512 + 64 + 512 + 64 + 512 + 1024 bytes of columns, then at 2944
-// top, cursor and 2 unused bytes, attached, 4 unused, clock at 2960, timeout, join, tagged, 4 unused, and 2048 bytes of tags at 2984.
-const STATE_SIZE: usize = 5032;
-
 // How many bytes a device has.
 #[no_mangle]
 pub extern "C" fn zb_state_size() -> usize
     ensures { λ r. ⌜ r ≡ stateSize ⌝ }
 {
-    STATE_SIZE
+    device::size()
 }

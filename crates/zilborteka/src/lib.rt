@@ -1,31 +1,12 @@
-// The C boundary: the device that a host lends, and the calls on it.
+// The C boundary: the exported calls on the device that a host lends.
 pub mod deviceless;
 
+use device::Device;
 use machine::Report;
 use settings::Settings;
 ghost use mathlib.Core.List.{[]};
 ghost use Rattle.machine.specs.Calls.Call.{attach as attaches, detach as detaches, request as asks, reply as replies, tick as ticks, linkLost};
-ghost use Rattle.zilborteka.specs.Device.{Made, Served, Freshly};
-
-// The device's state, changed in place: C's struct zb_state.
-#[repr(C)]
-pub struct Device {
-    pub ids: [u32; laws::PLACES],
-    pub asked: [u64; laws::PLACES],
-    pub callers: [u8; laws::PLACES],
-    pub deadlines: [u64; laws::PLACES],
-    pub counts: [u8; laws::PLACES],
-    pub clients: [u8; laws::PARTY_PLACES],
-    pub originals: [u16; laws::PARTY_PLACES],
-    pub top: u32,
-    pub cursor: u16,
-    pub attached: u32,
-    pub clock: u64,
-    pub timeout: u32,
-    pub join: u32,
-    pub tagged: u32,
-    pub tags: [u64; laws::MOST_TAGS],
-}
+ghost use Rattle.device.specs.Device.{Made, Served, Freshly};
 
 // Makes the device fresh from a settings value, whatever it was. An invalid value is refusal 10, and the device then has the usual one.
 #[no_mangle]

@@ -10,9 +10,9 @@ use Rattle.table.specs.Changes.{Runs}
 use Rattle.table.proofs.EntryLaws.{runs-of}
 use Rattle.proxy.specs.State.{State}
 use Rattle.proxy.proofs.MakingLaws.{zeros-sound}
-use Rattle.zilborteka.specs.declared.Device.{Device}
-use Rattle.zilborteka.specs.Device.{device, stateOf, Made, zeros, stateSize}
-use Rattle.zilborteka.proofs.Device.Laws.{mir}
+use Rattle.device.specs.declared.Device.{Device}
+use Rattle.device.specs.Device.{device, stateOf, Made, zeros, stateSize}
+use Rattle.device.proofs.Device.Laws.{mir}
 
 pub may-detach : (d : Device) → Made d → Runs (d .counts) (d .clients) (d .originals) × (d .top ≤ places)
 may-detach d made = (runs-of (stateOf d .table) (made .table), made .table .within)

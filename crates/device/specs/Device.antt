@@ -9,7 +9,7 @@ use Rattle.machine.specs.Calls.{Call}
 use Rattle.machine.specs.declared.Report.{Report}
 use Rattle.proxy.specs.State.{State, lent, Sounds}
 use Rattle.proxy.specs.Calls.{Told, FreshlyTold}
-use Rattle.zilborteka.specs.declared.Device.{Device}
+use Rattle.device.specs.declared.Device.{Device}
 
 -- a device of its fields
 abbrev pub device : (ids asked callers deadlines counts clients originals : List ℕ) (top cursor attached clock timeout join tagged : ℕ) (tags : List ℕ) → Device

@@ -26,9 +26,9 @@ use denote.Struct.Recorded.{recorded-part}
 use denote.Struct.Laws as LL
 use denote.Struct.Members.{Member, rowsOf, partsAt}
 use denote.Struct.Parts.{shapeOf, PartsBack, struct-parts}
-use Rattle.zilborteka.specs.declared.Device.{Device}
-use Rattle.zilborteka.proofs.Device as T
-use Rattle.zilborteka.proofs.Device.Laws as T′
+use Rattle.device.specs.declared.Device.{Device}
+use Rattle.device.proofs.Device as T
+use Rattle.device.proofs.Device.Laws as T′
 
 -- the fields
 abbrev pub m-ids : Member

@@ -1,0 +1,10 @@
+pub mod DeviceLaws
+pub mod Lend
+pub mod Fields
+pub mod EntryFresh
+pub mod EntryAttach
+pub mod EntryDetach
+pub mod EntryRequest
+pub mod EntryReply
+pub mod EntryTick
+pub mod EntryLinkLost
