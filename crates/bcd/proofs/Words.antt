@@ -46,8 +46,3 @@ module _ (k : Kind) where
   pub number-back : (w : ℕ) → w < 65536 ^ registers k → numberOf (wordsOf k w) ≡ w
   unfolding wordsOf numberOf
   number-back w l = value-digits 65536 (registers k) w (omega arith) l
-
-  -- The number that the registers are fits them.
-  pub number-below : (ws : List ℕ) → length ws ≡ registers k → below 65536 ws ≡ true → numberOf ws < 65536 ^ registers k
-  unfolding numberOf
-  number-below ws e h = rw e at (value-below 65536 ws h)

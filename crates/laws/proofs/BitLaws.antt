@@ -94,15 +94,6 @@ mask-one s c =
     let e : 2 ^ (1 + c) - 2 ^ c ≡ 2 ^ c = rw (add-comm 1 c) (rw (add-one c) (let p = pow-succ' 2 c in omega arith)) in
     rw e at (and-high s 1 c)
 
-pub mask-test : (s c : ℕ) → not (eqb (bitAnd s (2 ^ c)) 0) ≡ has s c
-mask-test s c =
-    let p = pow-pos c in
-    let m = mask-one s c in
-    ⊎-elim
-    (λ (e : s / 2 ^ c % 2 ≡ 0). ap not (eq-eqb (bitAnd s (2 ^ c)) 0 (let n = rw e at m in omega arith)) ∙ sym (ne-eqb (s / 2 ^ c % 2) 1 (λ z. omega arith)))
-    (λ (e : s / 2 ^ c % 2 ≡ 1). ap not (ne-eqb (bitAnd s (2 ^ c)) 0 (λ z. let n = rw e at m in omega arith)) ∙ sym (eq-eqb (s / 2 ^ c % 2) 1 e))
-    (odd-or (s / 2 ^ c))
-
 -- the set without c, at a width of k bits
 pub has-without : (k s c i : ℕ) → s < 2 ^ k → c < k → has (bitAnd s (2 ^ k - 1 - 2 ^ c)) i ≡ (not (eqb i c) && has s i)
 has-without k s c i hs hc =
@@ -161,13 +152,6 @@ and-without k s c hs hc =
     has-without k s c i hs hc
     ∙ ⊎-elim (λ (q : i ≡ c). rw (eq-eqb i c q) (rw q (sym t))) (λ q. rw (ne-eqb i c q) refl) (eq-or i c))))
     (true-or (has s c))
-
--- what is in them
-pub has-with : (s c i : ℕ) → has (with s c) i ≡ (eqb i c || has s i)
-has-with s c i = rw (← or-with s c) (has-or s (2 ^ c) i ∙ rw (has-pow c i) (or-comm (has s i) (eqb i c)))
-
-pub has-less : (k s c i : ℕ) → s < 2 ^ k → c < k → has (without s c) i ≡ (not (eqb i c) && has s i)
-has-less k s c i hs hc = rw (← and-without k s c hs hc) (has-without k s c i hs hc)
 
 -- and they are sets of k bits
 pub with-low : (k s c : ℕ) → s < 2 ^ k → c < k → with s c < 2 ^ k

@@ -23,9 +23,6 @@ copied-more d₀ s d i h l e =
 pub copied-all : (d₀ s d : List ℕ) (i : ℕ) → i ≡ length s → d ≡ paste d₀ 0 s i → d ≡ over s d₀
 copied-all d₀ s d i q e = e ∙ rw (q, take-length s, zero-add (length s))
 
-pub length-over : (w d : List ℕ) → length w ≤ length d → length (over w d) ≡ length d
-length-over w d h = omega (arith, length-append w (drop (length w) d), length-drop (length w) d)
-
 -- stores from the front, one after the other, write over it
 pub written : (w d : List ℕ) → length w ≤ length d → sets d 0 w ≡ over w d
 written w d h = sets-eq w d 0 (omega arith) ∙ rw (zero-add (length w))

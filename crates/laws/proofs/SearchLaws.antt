@@ -22,12 +22,6 @@ module _ (test : ℕ → Bool) (beats : ℕ → ℕ → Bool) (none : ℕ) where
 
 -- the first place that passes: no place beats another
 module _ (test : ℕ → Bool) (none : ℕ) where
-  pub first-wins : (k b : ℕ) → b ≡ best test (λ i j. false) none k → (test k && eqb b none) ≡ true → k ≡ best test (λ i j. false) none (k + 1)
-  first-wins k b e t = best-wins test (λ i j. false) none k b e (rw (or-false (eqb b none)) t)
-
-  pub first-stays : (k b : ℕ) → b ≡ best test (λ i j. false) none k → (test k && eqb b none) ≡ false → b ≡ best test (λ i j. false) none (k + 1)
-  first-stays k b e t = best-stays test (λ i j. false) none k b e (rw (or-false (eqb b none)) t)
-
 pub cond-ext : (a a′ : Bool) (x y y′ : ℕ) → a ≡ a′ → y ≡ y′ → cond a x y ≡ cond a′ x y′
 cond-ext a a′ x y y′ e f = rw (e, f)
 
@@ -72,9 +66,6 @@ best-ext test test′ beats beats′ none (suc n) h g =
     (λ (t : test n ≡ false). rw t)
     (true-or (test n))))
     e
-
-pub best-bound : (test : ℕ → Bool) (beats : ℕ → ℕ → Bool) (n r : ℕ) → r ≡ best test beats n n → r ≤ n
-best-bound test beats n r e = ⊎-elim (λ z. omega arith) (λ w. omega (arith, w .0)) (best-in test beats n n)
 
 lost : (a b d : Bool) → a ≡ true → (a && (b || d)) ≡ false → (b ≡ false) × (d ≡ false)
 lost true true d e w = absurd (true≢false w)

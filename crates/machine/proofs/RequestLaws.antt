@@ -57,9 +57,6 @@ legal-faultless m c t f o h =
     let a6 = none-applies (badLength (classOf (functionOf f)) f) 6 _ (λ z. omega arith) (a5 .1) in
     rw (a4 .0, a5 .0, a6 .0)
 
-same-code : {i j : ℕ} → answer.Excepted i ≡ answer.Excepted j → i ≡ j
-same-code e = cc
-
 -- one more than the code of an exception, and 0 of any other answer
 abbrev pub codeOf : Answer → ℕ
 codeOf (answer.Refused n) = 0

@@ -74,11 +74,6 @@ pub width-of-word : (word : ℕ) → widthOf (kindOf (tagOf word)) ≡ tagOf wor
 unfolding tagOf
 width-of-word word = ap widthOf (kind-of-word word)
 
--- the address of a word's tag is a register's
-pub address-of-word : (word : ℕ) → tagOf word .address < addresses
-unfolding tagOf
-address-of-word word = omega arith
-
 -- a tag's last register is the one that the grammar says
 last-register : (t : Tag) → lastRegister (tagNumbers t) ≡ lastOf t
 unfolding kindOf registers
@@ -177,10 +172,6 @@ right-words : (prior : List ℕ) (ts : List Tag) (k : ℕ) → tagsRight (newest
 right-words prior [] k r = omega arith
 right-words prior (t ∷ ts) zero r = word-low t (right-first prior t ts r .0 .low)
 right-words prior (t ∷ ts) (suc k) r = right-words (tagNumbers t) ts k (right-first prior t ts r .1)
-
--- the words of a valid value's tags are below 2 ^ 24
-pub words-low : (v : Value) (k : ℕ) → valid v ≡ true → getD (map wordOf (v .tags)) k 0 < 2 ^ 24
-words-low v k h = right-words [] (v .tags) k (right-tags v h)
 
 right-wide : (prior : List ℕ) (ts : List Tag) (i : ℕ) (d : Tag) → tagsRight (newest .tag) prior ts ≡ true → i < length ts → Wide (getD ts i d)
 right-wide prior [] i d r h = absurd (omega arith)

@@ -23,10 +23,6 @@ use Rattle.table.specs.Columns.{Columns, entryAt, tableOf, bookOf, Sound
 use Rattle.table.specs.Places.{isFree, holds, isDue, isLower, isSooner, liveId, Topped}
 use Rattle.laws.proofs.TestLaws.{eqb-less, ltb-less}
 
--- What Sound says of top is all that a scan asks.
-pub topped : {c : Columns} → Sound c → Topped (c .ids) (c .top)
-topped s = record { within = s .within; above = s .above }
-
 module _ (v : Value) (c : Columns) (x t : ℕ) where
   -- At a place of the book stands what the columns say.
   pub at-place : (k : ℕ) → k < places → at (bookOf v c x t) k ≡ entryAt c k
