@@ -8,7 +8,7 @@ use native.Mathlib.Omega.{arith}
 use lib.Dec.{lit≤}
 use lib.ListN.{length}
 use Rattle.laws.specs.Digits.{below}
-use Rattle.laws.proofs.DigitLaws.{value-digits, digits-value, digits-below, value-below, length-digits}
+use Rattle.laws.proofs.DigitLaws.{value-digits, digits-value, digits-below, length-digits}
 use Rattle.bcd.specs.declared.Kind.{Kind}
 use Rattle.bcd.specs.declared.Kind.the-variants.{Width16, Width32}
 use Rattle.bcd.specs.Bcd.{registers}

@@ -3,14 +3,14 @@
 use Prim.Native.Nat.{ℕ, zero, suc, _+_, _*_, _-_, _/_, _%_, _^_, _≤_, _<_, min, max}
 use mathlib.Core.Path.{_≡_, refl, ap, sym, _∙_}
 use mathlib.Core.Logic.{⊎-elim, _⊎_, inl, inr}
-use mathlib.Core.Bool.{Bool, true, false, not, _&&_, _||_, and-false, and-comm, or-comm, or-false}
+use mathlib.Core.Bool.{Bool, true, false, not, _&&_, _||_, and-false, and-comm, or-false}
 use native.Mathlib.Nat.{pow-zero, pow-succ', div-one, zero-div, div-div-eq-div-mul, one-mul, div-eq-of-lt, mod-eq-of-lt, lt-of-lt-of-le, lt-of-le-of-lt, zero-mul, add-comm}
 use native.Mathlib.Numerals.{add-one}
 use native.Mathlib.Omega.{arith}
-use lib.Dec.{lit<, eqb, ltb, eqb·suc-suc, eqb·zero-suc, eqb·suc-zero}
+use lib.Dec.{lit<, eqb, eqb·suc-suc, eqb·zero-suc, eqb·suc-zero}
 use lib.Pow.{pow-pos, pow-lt, pow-mono}
 use lib.Bits.{bitAnd, bitOr, and-step, or-step, and-shr, or-shr, and-high, and-le-l, or-lt, or-add-and}
-use borrow.Author.Tests.{eq-eqb, ne-eqb, eqb-true, eqb-false, ltb-true, ltb-false}
+use borrow.Author.Tests.{eq-eqb, ne-eqb, eqb-true, eqb-false}
 use Rattle.laws.specs.Bits.{has, with, without}
 use Rattle.laws.proofs.Choice.{true-or, eq-or, lt-or}
 

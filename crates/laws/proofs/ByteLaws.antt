@@ -1,12 +1,12 @@
 -- Bytes written over the start of a buffer, and numbers of 16 bits in bytes.
 -- Assumes nothing.
-use Prim.Native.Nat.{ℕ, zero, suc, _+_, _*_, _/_, _%_, _≤_, _<_}
-use mathlib.Core.Path.{_≡_, refl, ap, sym, _∙_}
+use Prim.Native.Nat.{ℕ, suc, _+_, _*_, _/_, _%_, _≤_, _<_}
+use mathlib.Core.Path.{_≡_, ap, sym, _∙_}
 use mathlib.Core.List.{List, [], _∷_, _++_, append-assoc, append-nil}
 use native.Mathlib.Nat.{add-zero, zero-add, add-assoc}
 use native.Mathlib.Numerals.{add-one}
 use native.Mathlib.Omega.{arith}
-use lib.ListN.{length, getD, set, take, drop, take-append-drop, length-set, length-append, length-drop, List·getD-append, List·getD-eq-default}
+use lib.ListN.{length, getD, set, take, drop, take-append-drop, length-set, length-append, List·getD-append, List·getD-eq-default}
 use lib.Seq.{drop-cons, paste, paste-zero, paste-suc, length-paste, take-length, take-suc, take-at, set-at, append-snoc, drop-append-add, drop-drop, length-take-le, sets, sets-eq, getD-set-same, getD-set-other, set-set, set-comm, set-getD}
 use Rattle.laws.specs.Bytes.{over, overAt, pairAt, putAt}
 

@@ -1,13 +1,12 @@
 -- Walking upward on a circle of any size.
 -- Assumes nothing.
-use Prim.Native.Nat.{ℕ, zero, suc, _+_, _-_, _≤_, _<_}
-use mathlib.Core.Path.{_≡_, refl, ap, sym, _∙_}
+use Prim.Native.Nat.{ℕ, _+_, _-_, _≤_, _<_}
+use mathlib.Core.Path.{_≡_, ap, sym, _∙_}
 use mathlib.Core.Logic.{⊎-elim, _⊎_, inl, inr}
 use native.Mathlib.Omega.{arith}
 use borrow.Author.Tests.{lt-ltb, le-ltb, le-leb, lt-leb}
 use Rattle.laws.specs.Circle.{turn, gap}
 use Rattle.laws.proofs.Choice.{lt-or}
-use mathlib.Core.Bool.{not}
 
 pub turn-or : (m k : ℕ) → ((k < m) × (turn m k ≡ k)) ⊎ ((m ≤ k) × (turn m k + m ≡ k))
 turn-or m k = ⊎-elim (λ z. inl (z, rw (lt-ltb k m z))) (λ z. inr (z, rw (le-ltb k m z) (omega arith))) (lt-or k m)

@@ -3,7 +3,7 @@
 use Prim.Native.Nat.{ℕ, zero, suc, _+_, _*_, _/_, _%_, _^_, _≤_, _<_}
 use mathlib.Core.Path.{_≡_, refl, ap, sym, _∙_}
 use mathlib.Core.Logic.{⊎-elim}
-use mathlib.Core.Bool.{Bool, true, false, _&&_, and-assoc, and-false, true≢false}
+use mathlib.Core.Bool.{true, false, _&&_, and-assoc, and-false, true≢false}
 use mathlib.Core.List.{List, [], _∷_, _++_}
 use native.Mathlib.Nat.{pow-zero, pow-succ', div-add-mod', div-lt-iff-lt-mul, mod-lt, mul-comm, add-comm, add-mul-div-left, add-mul-mod-self-left, mod-eq-of-lt, div-eq-of-lt, zero-add, one-mul, mul-one, mul-assoc, mul-add, add-assoc, mul-le-mul-left, one-le-pow, pow-suc, div-div-eq-div-mul, div-one}
 use native.Mathlib.Omega.{arith}

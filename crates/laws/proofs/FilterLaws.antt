@@ -1,6 +1,6 @@
 -- Lists filtered by a test.
 -- Assumes nothing.
-use Prim.Native.Nat.{ℕ, _+_, zero, _≤_}
+use Prim.Native.Nat.{ℕ, _+_, _≤_}
 use mathlib.Core.Path.{_≡_, refl, ap, sym, _∙_}
 use mathlib.Core.Logic.{⊎-elim, _⊎_}
 use mathlib.Core.Bool.{Bool, true, false, cond, not}

@@ -1,9 +1,9 @@
 -- What a search over places finds: a place that passes and that no other beats, or none where none passes.
 -- Assumes nothing.
 use Prim.Native.Nat.{ℕ, zero, suc, _+_, _≤_, _<_}
-use mathlib.Core.Path.{_≡_, refl, ap, sym, _∙_}
+use mathlib.Core.Path.{_≡_, refl, sym, _∙_}
 use mathlib.Core.Logic.{⊎-elim, _⊎_, inl, inr}
-use mathlib.Core.Bool.{Bool, true, false, cond, _&&_, _||_, false≢true, true≢false, or-false, not}
+use mathlib.Core.Bool.{Bool, true, false, cond, _&&_, _||_, false≢true, true≢false}
 use native.Mathlib.Numerals.{add-one}
 use native.Mathlib.Omega.{arith}
 use lib.Dec.{eqb}
@@ -20,8 +20,6 @@ module _ (test : ℕ → Bool) (beats : ℕ → ℕ → Bool) (none : ℕ) where
   unfolding best
   best-stays k b e t = rw (add-one k, ← e, t)
 
--- the first place that passes: no place beats another
-module _ (test : ℕ → Bool) (none : ℕ) where
 pub cond-ext : (a a′ : Bool) (x y y′ : ℕ) → a ≡ a′ → y ≡ y′ → cond a x y ≡ cond a′ x y′
 cond-ext a a′ x y y′ e f = rw (e, f)
 

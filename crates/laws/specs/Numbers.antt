@@ -2,7 +2,7 @@
 -- id there, and digits to a register are a word of the definitions alone. A refusal's number stands where it is given: in the rows of machine/specs/Refusals.antt, for a
 -- fresh state in proxy/specs/Gates.antt, and in the reports of the calls that need no device.
 -- Assumes nothing.
-use Prim.Native.Nat.{ℕ, _+_, _*_, _-_, _^_}
+use Prim.Native.Nat.{ℕ, _*_, _-_, _^_}
 
 -- "Numbers"
 abbrev pub clients : ℕ

@@ -1,37 +1,33 @@
 -- What a reply's parties and a tick's parties get, and that ticking at one time comes to an end.
 -- Assumes nothing.
-use Prim.Native.Nat.{ℕ, zero, suc, _+_, _≤_, _<_, max}
+use Prim.Native.Nat.{ℕ, _≤_, _<_}
 use mathlib.Core.Path.{_≡_, refl, ap, sym, _∙_}
 use mathlib.Core.Logic.{⊎-elim, _⊎_, inl, inr}
-use mathlib.Core.Bool.{Bool, true, false, not, true≢false, false≢true}
+use mathlib.Core.Bool.{true, false}
 use mathlib.Core.Option.{Option, some, none}
-use mathlib.Core.List.{List, [], _∷_}
+use mathlib.Core.List.{List}
 use native.Mathlib.Omega.{arith}
-use native.Mathlib.Nat.{max-eq-right}
 use lib.ListN.{length, getD, set}
 use lib.Seq.{getD-set-same}
 use borrow.Author.Tests.{not-false}
 use Rattle.laws.specs.Numbers.{places, noResponse}
 use Rattle.laws.specs.Bytes.{over}
-use Rattle.laws.proofs.Choice.{true-or, eq-or, lt-or}
+use Rattle.laws.proofs.Choice.{eq-or, lt-or}
 use Rattle.wire.specs.Frame.{idOf, laid, exception}
 use Rattle.pdu.specs.Replies.{What, answering}
 use Rattle.rewrite.specs.Frames.{returned}
-use Rattle.book.specs.Book.{Live, Move, Good, NothingDue, at, apply}
+use Rattle.book.specs.Book.{Live, Good, NothingDue, at}
 use Rattle.book.specs.Book.Move.{pass}
-use Rattle.book.specs.Desk.{duePlace, idPlace, choose, ticks}
-use Rattle.book.specs.Desk.Op.{tick as ticking}
+use Rattle.book.specs.Desk.{duePlace, idPlace}
 use Rattle.book.proofs.GoodLaws.{good-move}
 use Rattle.book.proofs.DeskLaws.{due-found, due-none, id-found}
 use Rattle.book.proofs.PlaceLaws.{at-low}
-use Rattle.book.proofs.TickLaws.{drains}
 use Rattle.machine.specs.Machine.{Machine, Note, Live-book, rules, settings, clocked}
-use Rattle.machine.specs.Calls.{Call, Outcome, done}
+use Rattle.machine.specs.Calls.{Outcome, done}
 use Rattle.machine.specs.Calls.Call.{reply, tick}
 use Rattle.machine.specs.Refusals.{rows, refusal, entryFor, isMismatched}
 use Rattle.machine.specs.Replies.{pairs, answeredTo, answered, expiredTo, ticked}
 use Rattle.machine.specs.Outcomes.{granted, outcome}
-use Rattle.machine.specs.declared.Answer.{Answer}
 use Rattle.machine.specs.declared.Answer.the-variants as answer
 use Rattle.machine.proofs.RefusalLaws.{refusal-changes-nothing}
 use Rattle.machine.proofs.LowestLaws.{none-applies}

@@ -1,16 +1,14 @@
 -- What the tender asks of any history, in one place: every list of calls on a fresh machine, refused calls included, whatever the settings value.
 -- `afterCalls v xs` is the machine after the calls xs, `ledgerOf v xs` the ledger kept from the calls and what the host saw of them: the C answer's numbers, the bytes and the list.
 -- Assumes nothing.
-use Prim.Native.Nat.{ℕ, zero, suc, _+_, _≤_, _<_, max}
+use Prim.Native.Nat.{ℕ, suc, _+_, _≤_, _<_}
 use mathlib.Core.Path.{_≡_, refl, ap, sym, _∙_}
-use mathlib.Core.Logic.{⊎-elim, _↔_}
+use mathlib.Core.Logic.{_↔_}
 use mathlib.Core.Bool.{true, false}
 use mathlib.Core.Option.{some}
-use mathlib.Core.List.{List, [], _∷_, _++_, map, append-assoc, List·Memᴰ}
+use mathlib.Core.List.{List, [], _∷_, _++_, append-assoc, List·Memᴰ}
 use native.Mathlib.Omega.{arith}
-use native.Mathlib.Nat.{max-eq-right}
-use lib.ListN.{length, getD, replicate}
-use lib.Dec.{eqb}
+use lib.ListN.{length, getD}
 use borrow.Author.Tests.{eqb-true}
 use Rattle.laws.specs.Numbers.{places}
 use Rattle.laws.specs.Lists.{filter}
@@ -20,7 +18,7 @@ use Rattle.bcd.specs.Words.{numberOf}
 use Rattle.settings.specs.Grammar.{Value, Tag, valid}
 use Rattle.settings.specs.TagWords.{kindOf}
 use Rattle.settings.proofs.TagLaws.{valid-ascends}
-use Rattle.wire.specs.Frame.{idOf, laid}
+use Rattle.wire.specs.Frame.{laid}
 use Rattle.wire.proofs.FrameLaws.{laid-laid}
 use Rattle.pdu.specs.Requests.{askedOf, legal}
 use Rattle.pdu.specs.Replies.{What, excepts}
@@ -29,16 +27,16 @@ use Rattle.pdu.specs.declared.Asked.the-variants.{Read}
 use Rattle.rewrite.specs.Registers.{registersAt}
 use Rattle.rewrite.specs.Rewriting.{ownIn}
 use Rattle.rewrite.specs.Plain.{Whole}
-use Rattle.book.specs.Book.{Live, Event, Good, NothingDue, at}
+use Rattle.book.specs.Book.{Live, Good, NothingDue, at}
 use Rattle.book.specs.Book.Event.{left, lost}
-use Rattle.book.specs.Ledger.{Ticket, Ledger, Anew, empty, post, posts, under, partiesOf}
+use Rattle.book.specs.Ledger.{Ticket, Anew, under, partiesOf}
 use Rattle.book.specs.Desk.{NoneOpen, AllLive}
 use Rattle.book.specs.Machine.{Accounted, after, history}
 use Rattle.book.proofs.History.{issues-differ, always-sound}
 use Rattle.book.proofs.LedgerLaws.{successor, successor-of-lost}
 use Rattle.machine.specs.Machine.{Machine, Note, made, rules, settings, clocked}
 use Rattle.machine.specs.Calls.{Call, Outcome, done, outOf, listOf}
-use Rattle.machine.specs.Calls.Call.{attach, detach, request, reply, tick, linkLost}
+use Rattle.machine.specs.Calls.Call.{detach, request, reply, tick, linkLost}
 use Rattle.machine.specs.Refusals.{rows, lowest, refusal}
 use Rattle.machine.specs.Numbers.{numbers}
 use Rattle.machine.specs.Requests.{wanted, partyOf, joins}

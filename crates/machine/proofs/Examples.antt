@@ -2,8 +2,8 @@
 -- Assumes nothing.
 use Prim.Native.Nat.{ℕ}
 use mathlib.Core.Path.{_≡_, refl}
-use mathlib.Core.List.{List, [], _∷_, _++_, map, flatMap}
-use lib.ListN.{length, take, drop, replicate}
+use mathlib.Core.List.{List, [], _∷_, map, flatMap}
+use lib.ListN.{replicate}
 use Rattle.laws.specs.Lists.{tab, filter}
 use Rattle.laws.specs.Search.{best, first}
 use Rattle.laws.specs.Bits.{with}

@@ -1,42 +1,40 @@
 -- The machine follows its book: every call's effect is a list of fitting moves, and what is seen of the call is what the moves tell.
 -- Assumes nothing.
-use Prim.Native.Nat.{ℕ, _+_, _*_, _≤_, _<_, max}
+use Prim.Native.Nat.{ℕ, _+_, _*_}
 use mathlib.Core.Path.{_≡_, refl, ap, sym, _∙_}
-use mathlib.Core.Logic.{⊎-elim, _⊎_, inl, inr}
-use mathlib.Core.Bool.{Bool, true, false, cond, not, _&&_, true≢false, false≢true}
+use mathlib.Core.Logic.{⊎-elim, _⊎_}
+use mathlib.Core.Bool.{true, false, cond, true≢false}
 use mathlib.Core.Option.{Option, some, none}
-use mathlib.Core.List.{List, [], _∷_, _++_, flatMap}
+use mathlib.Core.List.{List, [], _∷_, flatMap}
 use native.Mathlib.Omega.{arith}
-use lib.ListN.{length, take, drop, length-append}
-use lib.Seq.{take-append-seam, take-at}
+use lib.ListN.{length, take, drop}
+use lib.Seq.{take-at}
 use lib.Dec.{eqb, ltb}
-use borrow.Author.Tests.{eq-eqb, ne-eqb, eqb-true, ltb-true, ltb-false, not-true, not-false}
+use borrow.Author.Tests.{eq-eqb, ne-eqb, ltb-true}
 use Rattle.laws.specs.Numbers.{places}
 use Rattle.laws.specs.Bytes.{over}
-use Rattle.laws.proofs.Choice.{true-or, eq-or, lt-or, and-left, and-right}
+use Rattle.laws.proofs.Choice.{true-or, eq-or}
 use Rattle.settings.specs.Grammar.{Value}
 use Rattle.wire.specs.Frame.{idOf}
 use Rattle.pdu.specs.Requests.{faultOf}
 use Rattle.pdu.specs.Replies.{What, what}
-use Rattle.pdu.specs.declared.Asked.{Asked}
-use Rattle.pdu.specs.declared.Asked.the-variants.{Read, SingleWrite, MultipleWrite, Other}
-use Rattle.book.specs.Book.{Party, Live, Book, Move, Event, Good, Fits, at, apply, tell, fresh}
+use Rattle.book.specs.Book.{Party, Live, Move, Good, at}
 use Rattle.book.specs.Book.Move.{pass, join, issue, reply as replies, expire, strike, wipe}
 use Rattle.book.specs.Book.Event.{passed, replied, expired, left, lost}
-use Rattle.book.specs.Desk.{Open, joinPlace, freePlace, freeId, idPlace, duePlace}
+use Rattle.book.specs.Desk.{Open, freePlace, freeId, idPlace, duePlace}
 use Rattle.book.specs.Machine.{tells, applies, AllFit}
 use Rattle.book.proofs.PlaceLaws.{at-low}
 use Rattle.book.proofs.GoodLaws.{good-move}
-use Rattle.book.proofs.DeskLaws.{join-found, free-found, id-found, due-found, next-free}
-use Rattle.machine.specs.Machine.{Machine, Note, Live-book, machine, made, rules, settings, clocked, moved}
+use Rattle.book.proofs.DeskLaws.{join-found, free-found, due-found, next-free}
+use Rattle.machine.specs.Machine.{Machine, Note, Live-book, rules, settings, clocked}
 use Rattle.machine.specs.Calls.{Call, Outcome, done, outOf, listOf}
 use Rattle.machine.specs.Calls.Call.{attach, detach, request, reply, tick, linkLost}
 use Rattle.machine.specs.Refusals.{refusal, entryFor}
-use Rattle.machine.specs.Requests.{wanted, partyOf, sameRead, joins, joiningPlace, canJoin, exhausted, excepted, joinedTo, issuedTo, served, admitted}
+use Rattle.machine.specs.Requests.{wanted, partyOf, joins, joiningPlace, canJoin, exhausted, excepted, joinedTo, issuedTo, served, admitted}
 use Rattle.machine.specs.Replies.{pairs, answeredTo, answered, expiredTo, ticked}
 use Rattle.machine.specs.Outcomes.{granted, outcome}
 use Rattle.machine.specs.Numbers.{numbers}
-use Rattle.machine.specs.Histories.{Seen, seenOf, partiesIn, told, events}
+use Rattle.machine.specs.Histories.{seenOf, partiesIn, told, events}
 use Rattle.machine.specs.declared.Answer.{Answer}
 use Rattle.machine.specs.declared.Answer.the-variants as answer
 use Rattle.machine.proofs.OutcomeLaws.{granted-is, reply-finds, isRefusal, granted-no-refusal, clocked-at, served-cases}

@@ -1,6 +1,5 @@
 -- The numbers that a C host is told say which answer it was, but that done and a lost link with nobody attached are one.
 -- Assumes nothing.
-use Prim.Native.Nat.{ℕ}
 use mathlib.Core.Path.{_≡_, refl}
 use native.Mathlib.Omega.{arith}
 use Rattle.machine.specs.Numbers.{numbers, isIssued, isJoined, isException, isAnswered, isTimedOut, isNothingDue}

@@ -1,25 +1,25 @@
 -- What a call that is not refused says, and when the clock moves.
 -- Assumes nothing.
-use Prim.Native.Nat.{ℕ, _+_, _≤_, _<_, max}
+use Prim.Native.Nat.{ℕ, _<_, max}
 use mathlib.Core.Path.{_≡_, refl, ap, sym, _∙_}
-use mathlib.Core.Logic.{⊎-elim, _⊎_, inl, inr, _↔_}
-use mathlib.Core.Bool.{Bool, true, false, cond, true≢false, false≢true}
+use mathlib.Core.Logic.{⊎-elim, _⊎_, _↔_}
+use mathlib.Core.Bool.{Bool, true, false, true≢false, false≢true}
 use mathlib.Core.Option.{Option, some, none}
-use mathlib.Core.List.{List, [], _∷_}
+use mathlib.Core.List.{List}
 use native.Mathlib.Omega.{arith}
 use native.Mathlib.Nat.{max-eq-right}
 use lib.Dec.{eqb, ltb}
-use borrow.Author.Tests.{eq-eqb, ne-eqb, ltb-false, eqb-true}
+use borrow.Author.Tests.{eq-eqb, ltb-false}
 use Rattle.laws.specs.Numbers.{latestTime, deviceFailure}
 use Rattle.laws.proofs.Choice.{true-or, eq-or, or-right}
 use Rattle.pdu.specs.Requests.{faultOf}
 use Rattle.pdu.specs.Replies.{What}
 use Rattle.book.specs.Book.{Live, Good, at}
 use Rattle.book.specs.Desk.{duePlace}
-use Rattle.machine.specs.Machine.{Machine, Note, machine, rules, clocked, moved}
+use Rattle.machine.specs.Machine.{Machine, Note, rules, clocked}
 use Rattle.machine.specs.Calls.{Call, Outcome, done, outOf, listOf}
 use Rattle.machine.specs.Calls.Call.{attach, detach, request, reply, tick, linkLost}
-use Rattle.machine.specs.Refusals.{Row, row, rows, lowest, refusal, entryFor, isUntimely, isDead}
+use Rattle.machine.specs.Refusals.{rows, refusal, entryFor, isUntimely, isDead}
 use Rattle.machine.specs.Requests.{excepted, joinedTo, issuedTo, served, admitted, canJoin, exhausted, joiningPlace}
 use Rattle.machine.specs.Replies.{answeredTo, answered, expiredTo, ticked}
 use Rattle.machine.specs.Outcomes.{granted, outcome}

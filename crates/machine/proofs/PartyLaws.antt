@@ -2,29 +2,29 @@
 -- Assumes nothing.
 use Prim.Native.Nat.{ℕ, _+_, _≤_, _<_}
 use mathlib.Core.Path.{_≡_, refl, ap, sym, _∙_}
-use mathlib.Core.Logic.{⊎-elim, _⊎_, inl, inr, _↔_}
-use mathlib.Core.Bool.{Bool, true, false, cond, not, true≢false, false≢true}
-use mathlib.Core.Option.{Option, some, none, Option·map}
-use mathlib.Core.List.{List, [], _∷_, _++_, map, List·Memᴰ}
+use mathlib.Core.Logic.{⊎-elim, _⊎_, inl, inr}
+use mathlib.Core.Bool.{true, false, not, true≢false}
+use mathlib.Core.Option.{Option, some, none}
+use mathlib.Core.List.{List, [], _∷_, _++_, List·Memᴰ}
 use native.Mathlib.Omega.{arith}
-use lib.ListN.{length, getD, set, length-set}
+use lib.ListN.{getD}
 use lib.Seq.{getD-set-same, getD-set-other}
 use lib.Dec.{eqb, ltb}
-use borrow.Author.Tests.{ltb-true, ltb-false, not-true, eq-eqb}
+use borrow.Author.Tests.{ltb-true, not-true, eq-eqb}
 use Rattle.laws.specs.Numbers.{places, deviceFailure}
 use Rattle.laws.proofs.Choice.{true-or, eq-or}
 use Rattle.laws.proofs.FilterLaws.{filter-in}
 use Rattle.pdu.specs.Requests.{faultOf}
 use Rattle.pdu.specs.Replies.{What}
 use Rattle.book.specs.Book.{Party, Live, Good, at, added, struck, isOf, without, apply}
-use Rattle.book.specs.Book.Move.{pass, expire, strike}
+use Rattle.book.specs.Book.Move.{pass, strike}
 use Rattle.book.specs.Desk.{freePlace, freeId, duePlace}
 use Rattle.book.proofs.GoodLaws.{good-move}
 use Rattle.book.proofs.PlaceLaws.{at-low, map-cases}
 use Rattle.book.proofs.DeskLaws.{join-found, due-found}
-use Rattle.machine.specs.Machine.{Machine, Note, Live-book, rules, settings, clocked, moved}
+use Rattle.machine.specs.Machine.{Machine, Note, Live-book, rules, settings, clocked}
 use Rattle.machine.specs.Calls.{Call, Outcome, done, outOf, listOf}
-use Rattle.machine.specs.Calls.Call.{attach, detach, request, reply, tick, linkLost}
+use Rattle.machine.specs.Calls.Call.{detach, request, reply, tick}
 use Rattle.machine.specs.Refusals.{refusal}
 use Rattle.machine.specs.Requests.{wanted, partyOf, joins, joiningPlace, canJoin, exhausted, excepted, joinedTo, issuedTo, served, admitted}
 use Rattle.machine.specs.Replies.{expiredTo, ticked}

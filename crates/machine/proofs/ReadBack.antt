@@ -3,25 +3,24 @@
 use Prim.Native.Nat.{ℕ, zero, suc, _+_, _*_, _-_, _≤_, _<_}
 use mathlib.Core.Path.{_≡_, refl, ap, sym, _∙_}
 use mathlib.Core.Logic.{⊎-elim}
-use mathlib.Core.Bool.{Bool, true, false}
-use mathlib.Core.Option.{Option, some, none}
-use mathlib.Core.List.{List, [], _∷_, _++_, List·Memᴰ}
+use mathlib.Core.Bool.{true, false}
+use mathlib.Core.List.{List, List·Memᴰ}
 use native.Mathlib.Omega.{arith}
 use lib.ListN.{length, getD, drop, List·getD-append}
 use lib.Seq.{getD-drop}
 use lib.Dec.{eqb}
-use Rattle.laws.specs.Bytes.{over, pairAt}
+use Rattle.laws.specs.Bytes.{over}
 use Rattle.laws.proofs.Choice.{true-or, eq-or, never}
 use Rattle.wire.specs.Frame.{laid}
 use Rattle.wire.proofs.FrameLaws.{length-laid}
 use Rattle.bcd.specs.Bcd.{inRange}
 use Rattle.bcd.specs.Words.{numberOf}
-use Rattle.settings.specs.Grammar.{Value, Tag}
+use Rattle.settings.specs.Grammar.{Tag}
 use Rattle.settings.specs.TagWords.{kindOf, Ascending}
 use Rattle.pdu.specs.Requests.{askedOf, faultOf, legal}
-use Rattle.pdu.specs.Replies.{What, excepts}
+use Rattle.pdu.specs.Replies.{excepts}
 use Rattle.pdu.specs.declared.Asked.{Asked}
-use Rattle.pdu.specs.declared.Asked.the-variants.{Read, SingleWrite, MultipleWrite, Other}
+use Rattle.pdu.specs.declared.Asked.the-variants.{Read, SingleWrite, MultipleWrite}
 use Rattle.pdu.specs.declared.ProxyId.{ProxyId}
 use Rattle.pdu.proofs.RequestLaws.{RequestRoom, legal-room, legal-checked}
 use Rattle.pdu.proofs.ReplyLaws.{ReplyRoom, answering-room}
@@ -30,11 +29,10 @@ use Rattle.rewrite.specs.Registers.{registersAt}
 use Rattle.rewrite.specs.Rewriting.{Rewritten, ownIn, rewriting}
 use Rattle.rewrite.specs.Frames.{forwarded, returnedBy, returned}
 use Rattle.rewrite.specs.Plain.{Whole}
-use Rattle.rewrite.proofs.FrameLaws.{length-rewriting, length-forwarded, length-returned, returned-other}
+use Rattle.rewrite.proofs.FrameLaws.{length-rewriting, returned-other}
 use Rattle.rewrite.proofs.ReadBack.{read-back-frames}
-use Rattle.book.specs.Book.{Live}
-use Rattle.machine.specs.Machine.{Machine, Note, settings, clocked}
-use Rattle.machine.specs.Calls.{Call, Outcome}
+use Rattle.machine.specs.Machine.{Machine, settings, clocked}
+use Rattle.machine.specs.Calls.{Outcome}
 use Rattle.machine.specs.Calls.Call.{request, reply}
 use Rattle.machine.specs.Refusals.{refusal}
 use Rattle.machine.specs.Requests.{excepted, joinedTo, issuedTo, served, admitted}

@@ -1,15 +1,15 @@
 -- Document 01's table of refusals in plain words: a call says n exactly if row n applies and no lower row does; and a refusal changes nothing.
 -- Assumes nothing.
-use Prim.Native.Nat.{ℕ, zero, suc, _+_, _-_, _≤_, _<_}
+use Prim.Native.Nat.{ℕ, _+_, _-_, _≤_, _<_}
 use mathlib.Core.Path.{_≡_, refl, ap, sym, _∙_}
 use mathlib.Core.Logic.{⊎-elim, _⊎_, inl, inr, _↔_}
-use mathlib.Core.Bool.{Bool, true, false, cond, not, _||_, true≢false, false≢true}
+use mathlib.Core.Bool.{Bool, true, false, not, _||_, false≢true}
 use mathlib.Core.Option.{Option, some, none, Option·none-ne-some}
 use mathlib.Core.List.{List, [], _∷_}
 use native.Mathlib.Omega.{arith}
 use lib.ListN.{length}
 use lib.Dec.{eqb, ltb, leb}
-use borrow.Author.Tests.{eq-eqb, ne-eqb, lt-ltb, le-ltb, ltb-true, le-leb, leb-true, eqb-true, eqb-false, not-true}
+use borrow.Author.Tests.{eq-eqb, ne-eqb, lt-ltb, ltb-true, le-leb, leb-true, eqb-true, eqb-false, not-true}
 use Rattle.laws.specs.Numbers.{clients, latestTime, leastFrame, mostFrame, uncounted, frameBuffer, listBuffer, lastFunction}
 use Rattle.laws.specs.Bits.{has}
 use Rattle.laws.proofs.Choice.{true-or, lt-or}
@@ -23,11 +23,10 @@ use Rattle.book.specs.Desk.{idPlace}
 use Rattle.book.proofs.PlaceLaws.{at-low}
 use Rattle.book.proofs.DeskLaws.{id-found, id-is}
 use Rattle.machine.specs.Machine.{Machine, Note, rules}
-use Rattle.machine.specs.Calls.{Call, Outcome, done, outOf, listOf}
+use Rattle.machine.specs.Calls.{Call, done, outOf, listOf}
 use Rattle.machine.specs.Calls.Call.{attach, detach, request, reply, tick, linkLost}
 use Rattle.machine.specs.Refusals.{Row, row, rows, lowest, refusal, entryFor, isDead, isMismatched}
-use Rattle.machine.specs.Outcomes.{granted, outcome}
-use Rattle.machine.specs.declared.Answer.{Answer}
+use Rattle.machine.specs.Outcomes.{outcome}
 use Rattle.machine.specs.declared.Answer.the-variants.{Refused}
 
 -- a row in plain words: its number, and what must hold for it

@@ -1,39 +1,36 @@
 -- Exception 04 is given exactly when a legal request can join nothing and every place is live; an accepted request stands in the party places afterwards.
 -- Assumes nothing.
-use Prim.Native.Nat.{ℕ, suc, _+_, _≤_, _<_}
+use Prim.Native.Nat.{ℕ, suc, _≤_, _<_}
 use mathlib.Core.Path.{_≡_, refl, ap, sym, _∙_}
-use mathlib.Core.Logic.{⊎-elim, _⊎_, inl, inr, _↔_}
-use mathlib.Core.Bool.{Bool, true, false, cond, not, _&&_, true≢false, false≢true}
+use mathlib.Core.Logic.{⊎-elim, _⊎_, _↔_}
+use mathlib.Core.Bool.{true, false}
 use mathlib.Core.Option.{Option, some, none}
-use mathlib.Core.List.{List, [], _∷_, _++_}
+use mathlib.Core.List.{List}
 use native.Mathlib.Omega.{arith}
-use lib.ListN.{length, getD, set}
-use lib.Seq.{getD-set-same, getD-set-other}
-use lib.Dec.{eqb, ltb}
-use borrow.Author.Tests.{eq-eqb, ne-eqb, eqb-true, eqb-false, ltb-true, ltb-false, lt-ltb, le-ltb, not-true}
+use lib.Dec.{eqb}
+use borrow.Author.Tests.{ltb-true, ltb-false, le-ltb, not-true}
 use Rattle.laws.specs.Numbers.{places, deviceFailure}
-use Rattle.laws.proofs.Choice.{true-or, eq-or, lt-or, and-left, and-right}
+use Rattle.laws.proofs.Choice.{true-or, eq-or, lt-or}
 use Rattle.wire.specs.Frame.{misframed, functionOf}
 use Rattle.pdu.specs.Requests.{classOf, badFunction, badLength, badValue, badAddress, faultOf, legal}
 use Rattle.pdu.specs.Replies.{What}
-use Rattle.book.specs.Book.{Party, Live, Good, at}
+use Rattle.book.specs.Book.{Live, Good}
 use Rattle.book.specs.Book.Move.{pass}
 use Rattle.book.specs.Desk.{NoneOpen, AllLive, freePlace}
 use Rattle.book.proofs.GoodLaws.{good-move}
-use Rattle.book.proofs.PlaceLaws.{at-low}
 use Rattle.book.proofs.DeskLaws.{join-found, join-none, free-found, free-none}
 use Rattle.machine.specs.Machine.{Machine, Note, rules, settings, clocked}
-use Rattle.machine.specs.Calls.{Call, Outcome, done}
+use Rattle.machine.specs.Calls.{Call, Outcome}
 use Rattle.machine.specs.Calls.Call.{attach, detach, request, reply, tick, linkLost}
 use Rattle.machine.specs.Refusals.{rows, refusal}
-use Rattle.machine.specs.Requests.{wanted, partyOf, joins, joiningPlace, canJoin, exhausted, excepted, joinedTo, issuedTo, served, admitted}
+use Rattle.machine.specs.Requests.{wanted, joins, joiningPlace, canJoin, exhausted, excepted, joinedTo, issuedTo, served, admitted}
 use Rattle.machine.specs.Replies.{answeredTo, answered, expiredTo, ticked}
 use Rattle.machine.specs.Outcomes.{granted, outcome}
 use Rattle.machine.specs.declared.Answer.{Answer}
 use Rattle.machine.specs.declared.Answer.the-variants as answer
 use Rattle.machine.proofs.RefusalLaws.{refusal-changes-nothing}
 use Rattle.machine.proofs.LowestLaws.{none-applies}
-use Rattle.machine.proofs.OutcomeLaws.{granted-is, served-cases, reply-finds}
+use Rattle.machine.proofs.OutcomeLaws.{granted-is, reply-finds}
 
 -- the code of a request's own fault is 02 or 03
 pub fault-small : (f : List ℕ) → faultOf f < 4

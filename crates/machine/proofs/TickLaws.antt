@@ -1,11 +1,11 @@
 -- Ticking again and again at one time comes to an end.
 -- Assumes nothing.
-use Prim.Native.Nat.{ℕ, zero, suc, _+_, _≤_, _<_, max}
+use Prim.Native.Nat.{ℕ, zero, suc, _≤_, max}
 use mathlib.Core.Path.{_≡_, refl, ap, sym, subst, _∙_}
 use mathlib.Core.Logic.{⊎-elim}
-use mathlib.Core.Bool.{Bool, true, false, _||_}
+use mathlib.Core.Bool.{_||_}
 use mathlib.Core.Option.{Option, some, none}
-use mathlib.Core.List.{List, [], _∷_}
+use mathlib.Core.List.{List, []}
 use native.Mathlib.Omega.{arith}
 use native.Mathlib.Nat.{max-eq-right}
 use lib.Dec.{ltb}
@@ -22,13 +22,13 @@ use Rattle.book.proofs.DeskLaws.{due-found}
 use Rattle.book.proofs.PlaceLaws.{at-low}
 use Rattle.book.proofs.TickLaws.{ticks-good, drains}
 use Rattle.machine.specs.Machine.{Machine, Note, Live-book, rules, clocked}
-use Rattle.machine.specs.Calls.{Call, Outcome, done}
+use Rattle.machine.specs.Calls.{Outcome}
 use Rattle.machine.specs.Calls.Call.{tick}
-use Rattle.machine.specs.Refusals.{row, rows, lowest, refusal, shortFrame, shortList, isUntimely}
+use Rattle.machine.specs.Refusals.{rows, refusal, shortFrame, shortList, isUntimely}
 use Rattle.machine.specs.Replies.{expiredTo}
 use Rattle.machine.specs.Outcomes.{outcome}
 use Rattle.machine.specs.declared.Answer.the-variants as answer
-use Rattle.machine.proofs.OutcomeLaws.{clocked-at, clock-set}
+use Rattle.machine.proofs.OutcomeLaws.{clock-set}
 use Rattle.machine.proofs.LowestLaws.{none-applies, passes, none-left}
 use Rattle.machine.proofs.AnswerLaws.{ticked-is, idle-says, spot}
 

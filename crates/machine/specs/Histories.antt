@@ -1,7 +1,7 @@
 -- What is seen of a call: its numbers, the bytes and the list, as the C host has them; and the events that the ledger is kept from.
 -- Assumes nothing.
 use Prim.Native.Nat.{ℕ, _+_, _*_}
-use mathlib.Core.Bool.{Bool, cond}
+use mathlib.Core.Bool.{cond}
 use mathlib.Core.List.{List, [], _∷_}
 use lib.ListN.{take}
 use lib.Dec.{eqb}

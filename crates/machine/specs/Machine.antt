@@ -1,7 +1,6 @@
 -- The machine: the book of live requests with the settings in force, its cursor and its clock, and the set of attached clients.
 -- Assumes nothing.
 use Prim.Native.Nat.{ℕ, _<_}
-use mathlib.Core.Bool.{Bool}
 use lib.Dec.{lit<}
 use Rattle.laws.specs.Numbers.{ids, places, room}
 use Rattle.settings.specs.Grammar.{Value}

@@ -1,11 +1,10 @@
 -- The whole outcome of every call: the lowest refusal that applies, which changes nothing; else what the document says of the call.
 -- Assumes nothing.
-use Prim.Native.Nat.{ℕ}
 use mathlib.Core.Bool.{cond}
-use mathlib.Core.List.{List, []}
+use mathlib.Core.List.{[]}
 use lib.Dec.{eqb}
 use Rattle.laws.specs.Bits.{with, without}
-use Rattle.book.specs.Book.{apply, Move}
+use Rattle.book.specs.Book.{apply}
 use Rattle.book.specs.Book.Move.{strike, wipe}
 use Rattle.machine.specs.Machine.{Machine, machine, rules}
 use Rattle.machine.specs.Calls.{Call, Outcome, done, outOf, listOf}

@@ -9,12 +9,11 @@ use Rattle.laws.specs.Bytes.{over}
 use Rattle.wire.specs.Frame.{idOf, laid, exception}
 use Rattle.pdu.specs.Replies.{What}
 use Rattle.rewrite.specs.Frames.{returned}
-use Rattle.book.specs.Book.{Party, Live, Move, at}
+use Rattle.book.specs.Book.{Party, Live, at}
 use Rattle.book.specs.Book.Move.{reply, expire}
 use Rattle.book.specs.Desk.{idPlace, duePlace}
 use Rattle.machine.specs.Machine.{Machine, Note, rules, settings, clocked, moved}
 use Rattle.machine.specs.Calls.{Outcome, done}
-use Rattle.machine.specs.declared.Answer.{Answer}
 use Rattle.machine.specs.declared.Answer.the-variants.{Refused, Answered, TimedOut, NothingDue}
 
 -- the fan-out list: pairs of client and original id

@@ -1,9 +1,9 @@
 -- A request that was not refused: the exceptions 03 and 02, joining, issuing, and exception 04, in document 01's order.
 -- Assumes nothing.
 use Prim.Native.Nat.{ℕ, _+_}
-use mathlib.Core.Bool.{Bool, true, false, cond, not, _&&_, _||_}
+use mathlib.Core.Bool.{Bool, false, cond, not, _&&_}
 use mathlib.Core.Option.{Option, some, none}
-use mathlib.Core.List.{List, [], _∷_}
+use mathlib.Core.List.{List, []}
 use lib.ListN.{length}
 use lib.Dec.{eqb, ltb}
 use Rattle.laws.specs.Numbers.{places, deviceFailure}
@@ -14,14 +14,12 @@ use Rattle.pdu.specs.Requests.{askedOf, faultOf}
 use Rattle.pdu.specs.Replies.{What, what}
 use Rattle.pdu.specs.declared.Asked.{Asked}
 use Rattle.pdu.specs.declared.Asked.the-variants.{Read, SingleWrite, MultipleWrite, Other}
-use Rattle.rewrite.specs.Rewriting.{Rewritten}
 use Rattle.rewrite.specs.Frames.{forwarded}
-use Rattle.book.specs.Book.{Party, Live, Move, at}
+use Rattle.book.specs.Book.{Party, Live, at}
 use Rattle.book.specs.Book.Move.{join, issue}
 use Rattle.book.specs.Desk.{joinPlace, freePlace, freeId}
 use Rattle.machine.specs.Machine.{Machine, Note, rules, settings, clocked, moved}
 use Rattle.machine.specs.Calls.{Outcome, done}
-use Rattle.machine.specs.declared.Answer.{Answer}
 use Rattle.machine.specs.declared.Answer.the-variants.{Issued, Joined, Excepted}
 
 -- what a request asks, and who asks it under which id

@@ -6,7 +6,7 @@ use mathlib.Core.Logic.{_↔_}
 use native.Mathlib.Nat.{mod-eq-of-lt}
 use native.Mathlib.Omega.{arith}
 use lib.Arith.{digits-div, digits-mod, digits-lt}
-use Rattle.pdu.specs.Replies.{What, what}
+use Rattle.pdu.specs.Replies.{What}
 use Rattle.pdu.specs.Words.{kept, wordOf, whatOf, whatIn, entryOf, Lawful, Proper}
 use Rattle.pdu.specs.declared.Asked.{Asked}
 use Rattle.pdu.specs.declared.Asked.the-variants.{Read, SingleWrite, MultipleWrite, Other}

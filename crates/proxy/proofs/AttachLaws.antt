@@ -19,8 +19,8 @@ use Rattle.laws.proofs.ListLaws.{tab-ext, tab-repeat, getD-repeat}
 use Rattle.settings.specs.Grammar.{Value}
 use Rattle.book.specs.Book.{book, apply}
 use Rattle.book.specs.Book.Move.{wipe}
-use Rattle.machine.specs.Machine.{Live-book, Machine, machine, rules}
-use Rattle.machine.specs.Calls.{Call, Outcome, done, outOf, listOf}
+use Rattle.machine.specs.Machine.{Live-book, machine, rules}
+use Rattle.machine.specs.Calls.{Outcome, done, outOf, listOf}
 use Rattle.machine.specs.Calls.Call.{attach, detach, linkLost}
 use Rattle.machine.specs.Refusals.{rows, lowest, refusal, isStranger}
 use Rattle.machine.specs.Numbers.{numbers}

@@ -1,7 +1,7 @@
 -- The refusals that are told before a frame is looked into, and the settings and the answer of a fresh state.
 -- Assumes nothing.
 use Prim.Native.Nat.{ℕ}
-use mathlib.Core.Bool.{Bool, cond, not, _||_}
+use mathlib.Core.Bool.{cond, not, _||_}
 use mathlib.Core.List.{List, [], _∷_}
 use lib.Dec.{ltb, leb}
 use Rattle.laws.specs.Numbers.{clients, latestTime, frameBuffer, listBuffer}

@@ -5,7 +5,7 @@ use mathlib.Core.Path.{_≡_}
 use mathlib.Core.List.{List, map}
 use lib.ListN.{length, take}
 use Rattle.laws.specs.Numbers.{ids, clients, mostTags, mostTimeout}
-use Rattle.settings.specs.Grammar.{Tag, Value}
+use Rattle.settings.specs.Grammar.{Value}
 use Rattle.settings.specs.TagWords.{tagOf, Ascending}
 use Rattle.machine.specs.Machine.{Machine, machine}
 use Rattle.table.specs.Columns.{Columns, columns, bookOf, Sound}

@@ -21,7 +21,7 @@ use Rattle.book.specs.Desk.{idPlace}
 use Rattle.machine.specs.Machine.{Machine, Note, rules}
 use Rattle.machine.specs.Calls.{Outcome, done, outOf, listOf}
 use Rattle.machine.specs.Calls.Call.{reply}
-use Rattle.machine.specs.Refusals.{refusal, entryFor}
+use Rattle.machine.specs.Refusals.{entryFor}
 use Rattle.machine.specs.Replies.{pairs, answeredTo, answered}
 use Rattle.machine.specs.Outcomes.{granted, outcome}
 use Rattle.machine.specs.declared.Answer.the-variants.{Refused, Answered}

@@ -19,7 +19,7 @@ use Rattle.rewrite.specs.Frames.{forwarded, under}
 use Rattle.book.specs.Book.{Live, at, apply}
 use Rattle.book.specs.Book.Move.{join, issue}
 use Rattle.book.specs.Desk.{freePlace, freeId}
-use Rattle.machine.specs.Machine.{Machine, Note, Live-book, machine, rules, settings, clocked, moved}
+use Rattle.machine.specs.Machine.{Machine, Note, Live-book, machine, rules, settings, moved}
 use Rattle.machine.specs.Calls.{Outcome, done, outOf, listOf}
 use Rattle.machine.specs.Calls.Call.{request}
 use Rattle.machine.specs.Refusals.{refusal}
@@ -29,7 +29,7 @@ use Rattle.machine.specs.Outcomes.{granted, outcome}
 use Rattle.machine.specs.declared.Answer.{Answer}
 use Rattle.machine.specs.declared.Answer.the-variants.{Refused, Joined, Excepted, Issued}
 use Rattle.machine.proofs.OutcomeLaws.{granted-is, refused-is, served-cases}
-use Rattle.proxy.specs.State.{State, state, machineOf}
+use Rattle.proxy.specs.State.{State, machineOf}
 use Rattle.proxy.proofs.StateLaws.{timed, clock-is}
 use Rattle.requesting.proofs.GateLaws.{Open, tested, check-passes, not-before}
 

@@ -1,7 +1,7 @@
 -- Which registers of a frame are rewritten: those of requests 06 and 16 to BCD, those of replies 03, 04 and 06 to binary; all else passes unchanged.
 -- Assumes nothing.
 use Prim.Native.Nat.{ℕ}
-use mathlib.Core.Bool.{Bool, cond}
+use mathlib.Core.Bool.{cond}
 use mathlib.Core.List.{List}
 use Rattle.laws.specs.Bytes.{over}
 use Rattle.wire.specs.Frame.{laid}

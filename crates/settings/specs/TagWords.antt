@@ -1,7 +1,7 @@
 -- The word that the state keeps of a tag: its address in the lowest 16 bits, its kind's number in the 8 above them; the rest is free.
 -- Assumes nothing.
 use Prim.Native.Nat.{ℕ, _+_, _*_, _-_, _/_, _%_, _<_, _≤_}
-use mathlib.Core.Bool.{Bool, cond}
+use mathlib.Core.Bool.{cond}
 use mathlib.Core.List.{List, [], _∷_}
 use lib.Dec.{eqb}
 use Rattle.laws.specs.Numbers.{addresses}

@@ -1,10 +1,10 @@
 -- The live table in columns: what stands at each place, the book that the columns are, and what every call keeps of them.
 -- Assumes nothing.
-use Prim.Native.Nat.{ℕ, _+_, _*_, _-_, _%_, _≤_, _<_}
+use Prim.Native.Nat.{ℕ, _+_, _*_, _-_, _≤_}
 use mathlib.Core.Path.{_≡_}
-use mathlib.Core.Bool.{Bool, true, false, cond}
+use mathlib.Core.Bool.{cond}
 use mathlib.Core.Option.{Option, some, none}
-use mathlib.Core.List.{List, [], _∷_}
+use mathlib.Core.List.{List}
 use lib.ListN.{length, getD}
 use lib.Dec.{eqb}
 use Rattle.laws.specs.Numbers.{ids, places, room, partyPlaces}
@@ -12,7 +12,7 @@ use Rattle.laws.specs.Lists.{tab}
 use Rattle.settings.specs.Grammar.{Value}
 use Rattle.pdu.specs.Replies.{What}
 use Rattle.pdu.specs.Words.{wordOf, whatOf, Proper}
-use Rattle.book.specs.Book.{Party, Live, Book, book, entry}
+use Rattle.book.specs.Book.{Party, Live, book, entry}
 use Rattle.machine.specs.Machine.{Note, Live-book}
 
 -- 0 in `ids` is a free place, else the proxy id + 1; `asked` is what was asked as one word; `callers` is the client that it was issued for; the parties of place k

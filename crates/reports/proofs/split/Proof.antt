@@ -4,7 +4,6 @@ use mathlib.Core.Path.{sym, ap, _∙_}
 use native.Mathlib.Omega.{arith}
 use lib.ListN.{length}
 use denote.Ref.{now}
-use Rattle.splitting.specs.Splitting.{firstFrame}
 use Rattle.reports.specs.Reports.{splitTold}
 use Rattle.reports.proofs.ReportLaws.{first-low, split-is}
 use borrow.Author.Needs.{needs}

@@ -1,6 +1,5 @@
 -- `reports::write` meets its contract: each case of what writing comes to.
 -- Assumes nothing.
-use mathlib.Core.Path.{ap, _∙_}
 use native.Mathlib.Omega.{arith}
 use denote.Ref.{now}
 use Rattle.settings.specs.Values.{valueOf}
