@@ -1,11 +1,12 @@
 #!/usr/bin/env python3
-"""facts.py: writes into the first line of each must-fail edit which fact refuses it, from the logs that `rt ci` or `rt must-fail` left.
+"""facts.py: writes into the first line of each wrong program which fact refuses it, from the logs that `rt ci`, `rt must-fail` or `tools/trials` left.
 Run it at the top of the repository. An edit without a log keeps its line."""
 import glob
 import os
 import re
 
 STARTS = 'Refused by '
+LOGS = {'must-fail': 'target/must-fail', 'trials': 'target/trials/target/must-fail'}
 
 
 def fact(log):
@@ -30,9 +31,9 @@ def fact(log):
     return None
 
 
-for edit in sorted(glob.glob('crates/*/must-fail/*.edit')):
-    _, crate, _, name = edit.split('/')
-    log = f'target/must-fail/{crate}/{name[:-5]}/.log'
+for edit in sorted(glob.glob('crates/*/must-fail/*.edit') + glob.glob('crates/*/trials/*.edit')):
+    _, crate, kind, name = edit.split('/')
+    log = f'{LOGS[kind]}/{crate}/{name[:-5]}/.log'
     if not os.path.exists(log):
         continue
     said = fact(open(log).read())
