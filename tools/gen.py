@@ -12,7 +12,7 @@
 #   core FN PRE LAW                                what FN's core requires, λ lent p.. ; and the law to it from `before`, h p.. before
 # The core ensures the same RELATION, at the struct made of its lent fields and any others with which `before` holds.
 # It writes proofs/Fields.antt and proofs/SHAPE.antt of the struct's crate, over the hand-written proofs/Lend.antt there, and proofs/FN/Proof.antt of CRATE_DIR. Add the first to proofs/Lib.antt; then rt fmt.
-import sys, os
+import sys, os, re
 d = sys.argv[1].rstrip('/')
 crate = os.path.basename(d)
 PR = f'{d}/proofs'
@@ -556,10 +556,21 @@ unfolding code.routine tablesOf
     (entry-meets 𝓤 H (𝓖 .A) (givenOf 𝓤 H 𝓜 𝓖) g.name {args} (tablesOf 𝓤 H 𝓜 (tables 𝓤 H 𝓜 𝓡 code.env))
     (cited 𝓤 H (Core 𝓤 Rc{' Pc' if creq else ''} H (𝓖 .A)) 𝓜 𝓡 code.env g.name g.routine code.{calls} (g-thm.met 𝓤 H 𝓜 𝓖 𝓡)))
 '''
+# a `use` keeps the names that the text below it has; a name with blanks for its arguments is there if its signs are
+def tidy(text):
+    body = re.sub(r'^(use |--).*$', '', text, flags=re.M)
+    words = set(re.findall(r'[^\s(){};,.]+', body))
+    there = lambda n: n == '[]' or n in words or ('_' in n and all(any(x in w for w in words) for x in n.split('_') if x))
+    def kept(m):
+        ns = [n for n in m.group(2).split(', ') if there(n.split(' as ')[-1])]
+        return f"{m.group(1)}{', '.join(ns)}}}\n" if ns else ''
+    return re.sub(r'^(use \S+\.\{)(.*)\}\n', kept, text, flags=re.M)
+def write(path, text): open(path, 'w').write(tidy(text))
+
 os.makedirs(PR, exist_ok=True)
-open(f'{SD}/Fields.antt', 'w').write(FIELDS)
-for k, v in shapes.items(): open(f'{SD}/{k}.antt', 'w').write(shape(k, *v))
+write(f'{SD}/Fields.antt', FIELDS)
+for k, v in shapes.items(): write(f'{SD}/{k}.antt', shape(k, *v))
 for e in entries:
     p = f"{PR}/{e[0].replace('::', '/')}"
-    os.makedirs(p, exist_ok=True); open(f'{p}/Proof.antt', 'w').write(entry(*e))
+    os.makedirs(p, exist_ok=True); write(f'{p}/Proof.antt', entry(*e))
 print('wrote Fields', ' '.join(shapes), 'and', len(entries), 'entries')

@@ -3,23 +3,18 @@
 use Prim.Native.Nat.{ℕ, _+_, _≤_, _<_}
 use mathlib.Core.Path.{_≡_, refl, ap, sym, _∙_, subst}
 use mathlib.Core.Logic.{⊎-elim, _⊎_, inl, inr, _↔_}
-use mathlib.Core.Bool.{Bool, true, false, and-false, true≢false, false≢true}
+use mathlib.Core.Bool.{Bool, true, false, and-false, false≢true}
 use mathlib.Core.Option.{Option, some, none, Option·none-ne-some}
-use mathlib.Core.List.{List, List·Memᴰ}
 use native.Mathlib.Omega.{arith}
 use lib.ListN.{List·getD-eq-default}
-use borrow.Author.Tests.{lt-ltb, le-ltb, eqb-true}
-use Rattle.laws.specs.Lists.{filter}
+use borrow.Author.Tests.{lt-ltb, le-ltb}
 use Rattle.laws.proofs.Choice.{true-or, lt-or}
-use Rattle.laws.proofs.FilterLaws.{filter-in}
-use Rattle.book.specs.Book.{Rules, Live, Book, Event, Move, Good, Fits, Quiet, NothingDue, at}
+use Rattle.book.specs.Book.{Rules, Live, Book, Move, Good, Fits, NothingDue, at}
 use Rattle.book.specs.Book.Why.{full, unknown, mismatched, idle, busy}
 use Rattle.book.specs.Book.Move.{rest, pass, join, issue, reply, expire, strike, wipe, mark, adopt}
-use Rattle.book.specs.Ledger.{Ticket, Ledger, under}
-use Rattle.book.specs.Machine.{Accounted}
 use Rattle.book.specs.Desk.{Op, Asking, joinPlace, freePlace, duePlace, idPlace, livePlace, freeId, joinAt, answerAt, expireAt, choose, NoneOpen, AllLive}
 use Rattle.book.specs.Desk.Op.{time, enter, answer, tick, leave, lose, note, settle}
-use Rattle.book.proofs.DeskLaws.{join-found, join-none, free-found, free-none, due-found, due-none, id-found, id-none, id-is, live-found, quiet-found, next-free}
+use Rattle.book.proofs.DeskLaws.{join-found, join-none, free-found, free-none, due-found, due-none, id-found, id-is, quiet-found, next-free}
 
 abbrev isRest : {R W N : Type 0} → Move R W N → Bool
 isRest (rest y) = true
@@ -99,23 +94,6 @@ module _ {R W N : Type 0} (r : Rules R) (b : Book R W N) where
         (beyond (idPlace r b id))
         (lt-or (idPlace r b id) (r .places)))
 
-    -- what a reply ended stands under its id, and is answered by it
-    pub answer-ends : (id : ℕ) (answers : W → Bool) (k : ℕ) (e : Live W N) → choose r b (answer id answers) ≡ reply k e → (at b k ≡ some e) × (e .id ≡ id) × (answers (e .what) ≡ true)
-    answer-ends id answers k e h =
-        ⊎-elim
-        (λ (z : idPlace r b id < r .places).
-        let w = id-found r b g id z in
-        ⊎-elim
-        (λ (m : answers (w .0 .what) ≡ true).
-        let u : _≡_ {A = Move R W N} (reply (idPlace r b id) (w .0)) (reply k e) = sym (answer-matched id answers (idPlace r b id) (w .0) (w .1) (w .2) m) ∙ h in
-        let jk : idPlace r b id ≡ k = cc u in
-        let de : w .0 ≡ e = cc u in
-        (rw (← jk, ← de) (w .1), rw (← de) (w .2), rw (← de) m))
-        (λ (m : answers (w .0 .what) ≡ false). absurd (true≢false (ap isRest (sym (answer-mismatched id answers (idPlace r b id) (w .0) (w .1) (w .2) m) ∙ h))))
-        (true-or (answers (w .0 .what))))
-        (λ (z : r .places ≤ idPlace r b id). absurd (true≢false (ap isRest (sym (answer-unknown id answers (id-none r b g id z)) ∙ h))))
-        (lt-or (idPlace r b id) (r .places))
-
     -- a tick ends the entry that is found, and says that nothing is due exactly where nothing is
 
     pub tick-expires : (e : Live W N) → at b (duePlace r b) ≡ some e → choose r b tick ≡ expire (duePlace r b) e
@@ -136,18 +114,6 @@ module _ {R W N : Type 0} (r : Rules R) (b : Book R W N) where
 
     settle-waits : (x : R) → livePlace r b < r .places → choose r b (settle x) ≡ rest busy
     settle-waits x z = rw (lt-ltb (livePlace r b) (r .places) z)
-
-    -- settings are adopted exactly where no place is live
-    pub adopts-exactly : (x : R) → (choose r b (settle x) ≡ adopt x) ↔ Quiet b
-    adopts-exactly x =
-        let lp = livePlace r b in (
-          λ h. quiet-found r b g (⊎-elim
-              (λ (z : lp < r .places). absurd (true≢false (ap isRest (sym (settle-waits x z) ∙ h))))
-              (λ z. z)
-              (lt-or lp (r .places))),
-          λ n.
-              rw (le-ltb lp (r .places) (⊎-elim (λ (z : lp < r .places). let w = live-found r b g z in absurd (n lp (w .0) (w .1))) (λ z. z) (lt-or lp (r .places)))) refl,
-        )
 
     reply-fits : (answers : W → Bool) (k : ℕ) (o : Option (Live W N)) → at b k ≡ o → Fits r b (answerAt k o answers)
     reply-fits answers k none h = tt
@@ -184,17 +150,3 @@ module _ {R W N : Type 0} (r : Rules R) (b : Book R W N) where
         (λ (z : livePlace r b < r .places). subst (Fits r b) (sym (settle-waits x z)) tt)
         (λ (z : r .places ≤ livePlace r b). rw (le-ltb (livePlace r b) (r .places) z) (λ k e h. absurd (quiet-found r b g z k e h)))
         (lt-or (livePlace r b) (r .places))
-
-module _ {R W N : Type 0} (r : Rules R) (b : Book R W N) (vs : List (Event W)) (l : Ledger W) (a : Accounted r b vs l) where
-  -- whoever a reply answers asked what the reply was matched against
-  pub reply-matched : (id : ℕ) (answers : W → Bool) (k : ℕ) (e : Live W N) → choose r b (answer id answers) ≡ reply k e
-      → (t : Ticket W) → List·Memᴰ t (filter (under (e .id)) (l .waiting)) → (t .what ≡ e .what) × (answers (t .what) ≡ true)
-  reply-matched id answers k e h t m =
-      let w = answer-ends r b (a .good) id answers k e h in
-      let i = filter-in (under (e .id)) t (l .waiting) m in
-      let s = a .asked k e (w .0) t (i .0) (eqb-true (t .id) (e .id) (i .1)) in
-      (s, ap answers s ∙ w .2)
-
-  -- after a tick that finds nothing due, no waiting request was accepted a full wait ago or longer
-  pub idle-drained : choose r b tick ≡ rest idle → (t : Ticket W) → List·Memᴰ t (l .waiting) → b .clock < t .time + r .wait (b .rule)
-  idle-drained h = a .drained (idle-exactly r b (a .good) .0 h)

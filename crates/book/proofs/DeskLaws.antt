@@ -173,10 +173,7 @@ module _ {R W N : Type 0} (r : Rules R) (b : Book R W N) where
         (λ (z : r .places ≤ idPlace r b id). absurd (id-none id z k e h q))
         (lt-or (idPlace r b id) (r .places))
 
-    -- a live place
-    pub live-found : livePlace r b < r .places → (e : Live W N) × (at b (livePlace r b) ≡ some e)
-    live-found z = is-live (at b (livePlace r b)) (best-some (λ k. isLive (at b k)) _ (r .places) z)
-
+    -- no live place
     pub quiet-found : r .places ≤ livePlace r b → Quiet b
     quiet-found z k e h = true≢false (spot-none r b isLive (λ j k. false) g z k e h)
 

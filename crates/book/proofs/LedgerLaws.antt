@@ -5,7 +5,7 @@ use Prim.Native.Nat.{ℕ, _+_, _≤_, _<_}
 use mathlib.Core.Path.{_≡_, refl, ap, sym, _∙_}
 use mathlib.Core.Logic.{⊎-elim, _⊎_, inl, inr}
 use mathlib.Core.Bool.{Bool, true, false, cond, not, true≢false}
-use mathlib.Core.List.{List, [], _∷_, _++_, List·Memᴰ, List·Memᴰ·append-cases, List·Memᴰ·eq-of-singleton, List·Memᴰ·not-nil, Memᴰ·append-left, Memᴰ·append-right}
+use mathlib.Core.List.{List, [], _∷_, _++_, List·Memᴰ, List·Memᴰ·append-cases, List·Memᴰ·eq-of-singleton, List·Memᴰ·not-nil}
 use native.Mathlib.Omega.{arith}
 use lib.ListN.{length, length-append, length-map}
 use lib.Dec.{eqb, ltb}
@@ -104,33 +104,6 @@ module _ {W : Type 0} where
   distinct : (vs : List (Event W)) → Distinct (posts empty vs .waiting)
   unfolding Distinct
   distinct vs s = omega (arith, shared (numbered s) vs, all-numbered vs s, at-most-one (ltb s (length (posts empty vs .accepted))))
-
-  -- whoever waits was accepted, as it waits
-
-  Among : Ledger W → Type 0
-  Among l = (t : Ticket W) → List·Memᴰ t (l .waiting) → List·Memᴰ t (l .accepted)
-
-  among-more : (l : Ledger W) (x : Ticket W) → Among l → (t : Ticket W) → List·Memᴰ t (l .waiting ++ (x ∷ [])) → List·Memᴰ t (l .accepted ++ (x ∷ []))
-  unfolding Among
-  among-more l x h t m = ⊎-elim (λ i. Memᴰ·append-left (x ∷ []) (h t i)) (λ i. Memᴰ·append-right (l .accepted) i) (List·Memᴰ·append-cases (l .waiting) m)
-
-  among-less : (l : Ledger W) (q : Ticket W → Bool) → Among l → (t : Ticket W) → List·Memᴰ t (filter q (l .waiting)) → List·Memᴰ t (l .accepted)
-  unfolding Among
-  among-less l q h t m = h t (filter-in q t (l .waiting) m .0)
-
-  among-post : (l : Ledger W) (v : Event W) → Among l → Among (post l v)
-  unfolding Among
-  among-post l (passed t) h = h
-  among-post l (joined id w p) h = among-more l (next l id w p) h
-  among-post l (issued id w d p) h = among-more l (next l id w p) h
-  among-post l (replied id ps) h = among-less l (λ t. not (under id t)) h
-  among-post l (expired id ps) h = among-less l (λ t. not (under id t)) h
-  among-post l (left c) h = among-less l (λ t. not (whose (isOf c) t)) h
-  among-post l lost h = λ t m. absurd (List·Memᴰ·not-nil m)
-
-  pub waiting-accepted : (vs : List (Event W)) (t : Ticket W) → List·Memᴰ t (posts empty vs .waiting) → List·Memᴰ t (posts empty vs .accepted)
-  unfolding Among
-  waiting-accepted vs = posts-keep Among among-post empty vs (λ t m. m)
 
   -- the groups are as long as the lines of the history say
 

@@ -83,7 +83,3 @@ module _ {R W N : Type 0} (r : Rules R) where
   pub drains : (b : Book R W N) → Good r b → (n : ℕ) → r .places ≤ n → NothingDue (ticks r n b)
   unfolding due
   drains b g n h = drain n b g (omega (arith, count-le (λ k. isDue (b .clock) (at b k)) (r .places)))
-
-  -- so the next tick says so
-  pub ends-idle : (b : Book R W N) → Good r b → (n : ℕ) → r .places ≤ n → choose r (ticks r n b) tick ≡ rest idle
-  ends-idle b g n h = idle-exactly r (ticks r n b) (ticks-good n b g) .1 (drains b g n h)

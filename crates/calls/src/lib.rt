@@ -3,7 +3,6 @@ use machine::Answer;
 use settings::Settings;
 use state::Place;
 use state::State;
-ghost use mathlib.Core.Path.{_≡_};
 ghost use mathlib.Core.List.{[]};
 ghost use Rattle.machine.specs.Calls.Call.{attach as attaches, detach as detaches, linkLost};
 ghost use Rattle.state.specs.States.{Made};

@@ -156,7 +156,7 @@ unfolding after
 after-one v m [] x = refl
 after-one v m (y ∷ ys) x = after-one v (outcome m y .after) ys x
 
--- Tender 3: once the host has tickedTimes until nothing is due, at the time t, nothing accepted a full timeout ago waits.
+-- Tender 3: once the host has ticked until nothing is due, at the time t, nothing accepted a full timeout ago waits.
 pub nothing-waits-forever : (v : Value) (xs : List Call) (t : ℕ) (o l : List ℕ) → outcome (afterCalls v xs) (tick t o l) .says ≡ answer.NothingDue
     → (k : Ticket What) → List·Memᴰ k (ledgerOf v (xs ++ (tick t o l ∷ [])) .waiting) → t < k .time + v .timeout
 nothing-waits-forever v xs t o l s k m =

@@ -44,10 +44,6 @@ module _ (w : What) (p : Proper w) where
   word-back =
       rw (above, under, digits-div (w .unit) function-low, digits-mod (w .unit) function-low, mod-eq-of-lt (p .unit), p .class)
 
-  -- A word of what was asked is the word of what comes back from it.
-  pub word-again : wordOf (whatOf (wordOf w)) ≡ wordOf w
-  word-again = ap wordOf word-back
-
   -- A word fits 64 bits.
   pub word-low : wordOf w < 2 ^ 64
   unfolding wordOf

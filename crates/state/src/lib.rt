@@ -6,7 +6,7 @@ ghost use mathlib.Core.List.{map};
 ghost use lib.ListN.{length};
 ghost use Rattle.laws.specs.Numbers.{places};
 ghost use Rattle.state.specs.Places.{placeOf, numberOf, wordIn, callerOf, deadlineOf, countOf, idIn};
-ghost use Rattle.state.specs.States.{stateOf, Made, gathered};
+ghost use Rattle.state.specs.States.{gathered};
 
 // A place of the table: whether it is live, its entry, the client that the entry was issued for, how many parties wait.
 pub struct Place {

@@ -15,11 +15,11 @@ use Rattle.settings.specs.Grammar.{Value}
 use Rattle.pdu.specs.Replies.{What}
 use Rattle.pdu.specs.Words.{whatOf}
 use Rattle.book.specs.Book.{Party, Live, book, entry, added, struck, isOf, without, at, apply}
-use Rattle.book.specs.Book.Move.{join, issue, reply, expire, strike, wipe}
+use Rattle.book.specs.Book.Move.{join, issue, reply, strike}
 use Rattle.machine.specs.Machine.{Note, rules}
 use Rattle.table.specs.Columns.{Columns, columns, party, partiesAt, entryAt, tableOf, bookOf, Sound}
 use Rattle.table.specs.Changes.{Joined, Struck, reach, blank}
-use Rattle.table.proofs.EntryLaws.{table-at, table-set, withParties, parties-sound, freedAt, freed-table, freed-sound, blank-table, blank-sound}
+use Rattle.table.proofs.EntryLaws.{table-at, table-set, withParties, parties-sound, freedAt, freed-table, freed-sound, blank-sound}
 
 -- other parties of one place: its entry has them, and is otherwise as it was
 abbrev regrouped : (List Party → List Party) → Live What Note → Live What Note
@@ -61,10 +61,6 @@ module _ (v : Value) (x t : ℕ) (c : Columns) (s : Sound c) where
     pub remove-is-reply : (e : Live What Note) → bookOf v freed x t ≡ apply rules (bookOf v c x t) (reply place e)
     remove-is-reply e = ap (λ m. book v m x t) (ap tableOf freed-is ∙ freed-table c s place low)
 
-    -- A freed place is the book after the timeout of the entry that stood there.
-    pub remove-is-expire : (e : Live What Note) → bookOf v freed x t ≡ apply rules (bookOf v c x t) (expire place e)
-    remove-is-expire e = remove-is-reply e
-
     -- A freed place keeps the columns sound.
     pub remove-sound : Sound freed
     remove-sound = rw freed-is (freed-sound c s place low)
@@ -86,10 +82,6 @@ module _ (v : Value) (x t : ℕ) (c : Columns) (s : Sound c) where
     -- A strike keeps the columns sound.
     pub strike-sound : Sound (withParties c ns cs os)
     strike-sound = parties-sound c ns cs os s (d .runs)
-
--- Columns of zeros are the book after a wipe, whatever the columns were.
-pub clear-is : (v : Value) (x t : ℕ) (c c′ : Columns) → c′ ≡ blank → bookOf v c′ x t ≡ apply rules (bookOf v c x t) wipe
-clear-is v x t c c′ e = ap (λ m. book v m x t) (ap tableOf e ∙ blank-table)
 
 -- Columns of zeros are sound, whatever the columns were.
 pub clear-sound : (c′ : Columns) → c′ ≡ blank → Sound c′

@@ -14,7 +14,7 @@ use Rattle.machine.specs.declared.Report.{Report}
 use Rattle.proxy.specs.State.{machineOf}
 use Rattle.device.specs.declared.Device.{Device}
 use Rattle.reports.specs.declared.SettingsRead.{SettingsRead}
-use Rattle.machine.specs.Numbers.{Reported, reported}
+use Rattle.machine.specs.Numbers.{Reported}
 use Rattle.reports.specs.Reports.{TextSeen, textSeen, splitTold, readTold, writeTold}
 use Rattle.device.specs.Device.{stateOf, Served, Freshly}
 use Rattle.device.proofs.DeviceLaws.{same-device}

@@ -6,8 +6,8 @@ use contract.Running.{givenOf, tables, tablesOf}
 use denote.Triple.Spec.{tripleOf}
 use denote.Triple.Table.{entered, cited}
 use Rattle.device.specs.declared.Device.{Device}
-use Rattle.machine.specs.Calls.Call.{attach as attaches, detach as detaches, request as asks, reply as replies, tick as ticks, linkLost}
-use Rattle.device.specs.Device.{device, Made, Served, Freshly}
+use Rattle.machine.specs.Calls.Call.{detach as detaches}
+use Rattle.device.specs.Device.{device, Made, Served}
 use Rattle.device.proofs.DeviceLaws.{may-detach}
 use Rattle.table.specs.Changes.{Runs}
 use Rattle.laws.specs.Numbers.{places}

@@ -1,17 +1,10 @@
 -- `zilborteka::zb_fresh` meets its contract: its core does, at the fields that it lends (`EntryFresh.antt`). Written by tools/gen.py.
 -- Assumes nothing.
-use Prim.Native.Nat.{ℕ}
-use mathlib.Core.List.{List, []}
+use mathlib.Core.List.{[]}
 use contract.Running.{givenOf, tables, tablesOf}
 use denote.Triple.Spec.{tripleOf}
 use denote.Triple.Table.{entered, cited}
-use Rattle.device.specs.declared.Device.{Device}
-use Rattle.machine.specs.Calls.Call.{attach as attaches, detach as detaches, request as asks, reply as replies, tick as ticks, linkLost}
-use Rattle.device.specs.Device.{device, Made, Served, Freshly}
-use Rattle.device.proofs.DeviceLaws.{may-detach}
-use Rattle.table.specs.Changes.{Runs}
-use Rattle.laws.specs.Numbers.{places}
-use Prim.Native.Nat.{_≤_}
+use Rattle.device.specs.Device.{device, Freshly}
 use Rattle.device.proofs.EntryFresh.{Core, entry-meets, Rel, CoreRel}
 use Rattle.cores.proofs.fresh.Symbol as g
 use Rattle.cores.proofs.fresh.Met as g-thm
