@@ -1,7 +1,7 @@
 /* The C boundary of the register proxy.
    Every call may be given any bytes, any client number and any time, and a state that these calls made.
-   No pointer is NULL, even with length 0. State, frame, out and list do not overlap. The state is aligned to
-   8 bytes, a list to 2. One state is used by one thread at a time. zb_fresh comes first.
+   No pointer is NULL, even with length 0, and no length is longer than the memory behind its pointer. State,
+   frame, out and list do not overlap. The state is aligned to 8 bytes, a list to 2. One state is used by one thread at a time. zb_fresh comes first.
    The code uses SSE registers and the red zone of the System V x86-64 convention: a kernel calls it where both are kept. */
 #ifndef ZILBORTEKA_H
 #define ZILBORTEKA_H
@@ -74,7 +74,8 @@ enum {
 typedef struct { zb_answer answer; zb_settings settings; } zb_read;
 
 /* Lengths: a frame buffer `out` has at least 260 bytes and a list at least 16 numbers, else refusal 1, whatever would be written.
-   Whatever is lent is used during the call alone. A refusal changes no state and no byte; bytes and numbers beyond those written stay.
+   Whatever is lent is used during the call alone. A refusal changes no state and no byte, except that of zb_fresh (below);
+   bytes and numbers beyond those written stay.
 
    Refusals, the lowest that applies:
    1  a lent output buffer is shorter than stated
@@ -90,6 +91,8 @@ typedef struct { zb_answer answer; zb_settings settings; } zb_read;
 
 zb_read   zb_settings_read(const uint8_t *text, size_t text_len);
 zb_answer zb_settings_write(zb_settings from, uint8_t *text, size_t text_len);
+/* An invalid value: refusal 10, and the state is made nevertheless, for timeout 3000, join 1 and no tags. Whatever the value, nobody is
+   attached afterwards, nothing is live, and ids are issued from 0 on: the old link's replies must not be given to it. */
 zb_answer zb_fresh(zb_state *st, zb_settings from);
 zb_answer zb_attach(zb_state *st, uint32_t client);
 zb_answer zb_detach(zb_state *st, uint32_t client);

@@ -51,7 +51,7 @@ pub data Why : Type 0 where
   mismatched : Why
   -- a tick finds nothing due
   idle : Why
-  -- new settings, while something is live
+  -- new settings, while something is live: for later requests, no call of the base says it
   busy : Why
 
 -- what can happen to the book
@@ -72,9 +72,8 @@ pub data Move (R W N : Type 0) : Type 0 where
   strike : (c : ℕ) → Move R W N
   -- the link is lost, and every entry ends
   wipe : Move R W N
-  -- what else is kept of each entry changes
+  -- what else is kept of each entry changes, and other settings are in force: for later requests, no call of the base does either
   mark : (W → N → N) → Move R W N
-  -- other settings are in force
   adopt : R → Move R W N
 
 -- what is seen of a call and its outcome

@@ -1,5 +1,5 @@
 -- The desk: the calls on a book, and the move that document 01 makes of each: which entry a request joins, under which id and into which place it is issued, which entry
--- a reply answers and which a tick ends.
+-- a reply answers and which a tick ends. The machine's definitions use the choices of places and ids; `choose` puts them together for the theorems of this crate.
 -- Assumes nothing.
 use Prim.Native.Nat.{ℕ, zero, suc, _+_, _<_}
 use mathlib.Core.Path.{_≡_}
@@ -37,9 +37,8 @@ pub data Op (R W N : Type 0) : Type 0 where
   leave : (c : ℕ) → Op R W N
   -- the link is lost
   lose : Op R W N
-  -- what else is kept of each entry changes
+  -- what else is kept of each entry changes, and new settings: for later requests, no call of the base is one of these
   note : (W → N → N) → Op R W N
-  -- new settings
   settle : R → Op R W N
 
 module _ {W N : Type 0} where

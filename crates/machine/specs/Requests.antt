@@ -49,7 +49,7 @@ joiningPlace m f = joinPlace rules (m .book) (joins (settings m) (wanted f))
 abbrev pub canJoin : Machine → List ℕ → Bool
 canJoin m f = ltb (joiningPlace m f) places
 
--- no place is free for that client's request
+-- no place is free; whose request it is does not matter in the base
 unfoldable pub exhausted : Machine → ℕ → Bool
 exhausted m c = not (ltb (freePlace rules (m .book)) places)
 
