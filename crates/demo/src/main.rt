@@ -4,5 +4,5 @@ fn main() {
         b"",
         b"a call = its outcome, proxy id, tags raw for partial cover and for value: frame to client,id of each party",
     );
-    session::show(b"demo");
+    session::show(b"demo: ");
 }

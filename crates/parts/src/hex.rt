@@ -1,20 +1,19 @@
 // Bytes to and from hexadecimal text.
 ghost use Prim.Native.Nat.{_≤_};
-use crate::append;
+use crate::saying::say;
 
-// The number that a hexadecimal digit is: 0 to 9, A to F.
-fn nibble(digit: u8) -> u8
+// The number that the hexadecimal digit at a place is: 0 to 9, A to F.
+fn nibble(s: &[u8], k: usize) -> u8
     ensures { λ r. ⌜ r ≤ 15 ⌝ }
 {
+    let digit = wire::byte_at(s, k);
     let from = if digit < b'A' { 48 } else { 55 };
     std::num::wrapping_sub_u8(digit, from) % 16
 }
 
 // The byte whose two digits stand at a place.
 fn byte_in(s: &[u8], k: usize) -> u8 {
-    let high = nibble(wire::byte_at(s, k));
-    let low = nibble(wire::byte_at(s, std::num::wrapping_add_usize(k, 1)));
-    high * 16 + low
+    nibble(s, k) * 16 + nibble(s, std::num::wrapping_add_usize(k, 1))
 }
 
 // The bytes that a text of digits and single spaces is.
@@ -40,12 +39,13 @@ fn digit(n: u8) -> u8 {
     }
 }
 
-// Puts a blank and the digits of each byte.
-pub fn append_hex(text: &mut [u8], at: usize, bytes: &[u8]) -> usize {
+// Says a blank and the digits of each byte.
+pub fn say_hex(right: &[u8], at: usize, bytes: &[u8]) -> usize {
     let mut next = at;
     let mut k: usize = 0;
     while k < bytes.len() {
-        next = append(text, next, &[b' ', digit(bytes[k] / 16), digit(bytes[k])]);
+        let byte = bytes[k];
+        next = say(right, next, &[b' ', digit(byte / 16), digit(byte)]);
         k += 1;
     }
     next

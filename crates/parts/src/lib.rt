@@ -1,17 +1,16 @@
-// Parts of byte strings, numbers as text and a tally, for the programs that run tables of examples.
+// Parts of byte strings, numbers in them, and what comes out held against what must come out, for the programs that run tables of examples.
 ghost use Prim.Native.Nat.{_≤_};
 ghost use lib.ListN.{length};
+use std::num::wrapping_add_u64;
+use std::num::wrapping_add_usize;
+use std::num::wrapping_sub_u8;
 
 pub mod hex;
-pub mod lent;
-pub mod numbers;
-pub mod tables;
+pub mod saying;
 pub mod tally;
 
-// Document 01's settings text.
-pub fn document() -> [u8; 75] {
-    *b"version=1\ntimeout=3000\njoin=1\ntags=2\naddr=1024\nwidth=16\naddr=1026\nwidth=32\n"
-}
+// A tenth of the largest number, and one more.
+const TENTH: u64 = 1844674407370955162;
 
 // Where this byte next stands; the end where it does not.
 pub fn end_of(s: &[u8], at: usize, byte: u8) -> usize
@@ -47,32 +46,53 @@ pub fn head(s: &[u8], byte: u8) -> &[u8] {
 }
 
 pub fn rest(s: &[u8], byte: u8) -> &[u8] {
-    behind(s, std::num::wrapping_add_usize(end_of(s, 0, byte), 1))
+    behind(s, wrapping_add_usize(end_of(s, 0, byte), 1))
 }
 
-// The k-th field of a row, counted from 0: each is ended by '|'.
-pub fn field(row: &[u8], k: usize) -> &[u8] {
+// The k-th part of a text, counted from 0: each is ended by this byte.
+pub fn field(s: &[u8], byte: u8, k: usize) -> &[u8] {
     let mut at: usize = 0;
     let mut passed: usize = 0;
     while passed < k {
-        let size = end_of(behind(row, at), 0, b'|');
-        at = std::num::wrapping_add_usize(at, std::num::wrapping_add_usize(size, 1));
+        let size = end_of(behind(s, at), 0, byte);
+        at = wrapping_add_usize(at, wrapping_add_usize(size, 1));
         passed += 1;
     }
-    head(behind(row, at), b'|')
+    head(behind(s, at), byte)
 }
 
-// Puts bytes at a place, as many as there is room for, and tells the place behind them.
-pub fn append(text: &mut [u8], at: usize, bytes: &[u8]) -> usize {
-    let mut next = at;
-    let mut k: usize = 0;
-    while k < bytes.len() {
-        if text.len() <= next {
-            return next;
-        }
-        text[next] = bytes[k];
-        next += 1;
-        k += 1;
+// A number with one digit more; a byte that is no digit leaves it.
+fn longer(value: u64, byte: u8) -> u64 {
+    let digit = wrapping_sub_u8(byte, b'0');
+    if digit < 10 {
+        wrapping_add_u64(value % TENTH * 10, digit as u64)
+    } else {
+        value
     }
-    next
+}
+
+// The number whose digits stand in a word; the other one where there is no word.
+pub fn number(word: &[u8], other: u64) -> u64 {
+    if word.len() == 0 {
+        return other;
+    }
+    let mut value: u64 = 0;
+    let mut at: usize = 0;
+    while at < word.len() {
+        value = longer(value, word[at]);
+        at += 1;
+    }
+    value
+}
+
+// Whether every byte of a buffer from a place on is this one.
+pub fn kept(buffer: &[u8], from: usize, byte: u8) -> bool {
+    let mut at = from;
+    while at < buffer.len() {
+        if buffer[at] != byte {
+            return false;
+        }
+        at += 1;
+    }
+    true
 }

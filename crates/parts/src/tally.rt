@@ -8,23 +8,34 @@ pub struct Tally {
     pub differ: u64,
 }
 
-pub fn none() -> Tally {
+// Nothing shown yet. A table that fills its buffer may have been cut: that is one difference.
+pub fn start(size: usize, buffer: &[u8]) -> Tally {
+    let differ = if size < buffer.len() { 0 } else { 1 };
+    Tally { shown: 0, differ }
+}
+
+// Whether a line of a table is a row: one with nothing in it and one that begins with '#' are there for the reader.
+pub fn is_row(line: &[u8]) -> bool {
+    let first = wire::byte_at(line, 0);
+    (first != 0) & (first != b'#')
+}
+
+// One example more, and so many differences.
+pub fn counted(t: Tally, differ: u64) -> Tally {
     Tally {
-        shown: 0,
-        differ: 0,
+        shown: wrapping_add_u64(t.shown, 1),
+        differ: wrapping_add_u64(t.differ, differ),
     }
 }
 
-// One example more: what it gave is held against what it must give, which is printed where the two differ.
-pub fn counted(t: Tally, given: &[u8], right: &[u8]) -> Tally {
-    let shown = wrapping_add_u64(t.shown, 1);
-    let differ = t.differ;
-    if check::same(given, right) {
-        return Tally { shown, differ };
+// The end of the line in which an example was said up to a place; what must stand there is printed where they differ.
+pub fn ended(t: Tally, right: &[u8], at: usize) -> Tally {
+    io::write_all(STDOUT_FILENO, b"\n");
+    if at == right.len() {
+        return counted(t, 0);
     }
     print_line(b"  DIFFERS ", right);
-    let differ = wrapping_add_u64(differ, 1);
-    Tally { shown, differ }
+    counted(t, 1)
 }
 
 pub fn print_line(label: &[u8], text: &[u8]) {
@@ -33,12 +44,11 @@ pub fn print_line(label: &[u8], text: &[u8]) {
     io::write_all(STDOUT_FILENO, b"\n");
 }
 
-// The last line of a program: its name and its tally.
-pub fn print(name: &[u8], t: Tally) {
+// The last line of a program: its name, its tally, and the word for what it counts.
+pub fn print(name: &[u8], t: Tally, word: &[u8]) {
     io::write_all(STDOUT_FILENO, name);
-    io::write_all(STDOUT_FILENO, b": ");
     io::print_decimal(STDOUT_FILENO, t.shown);
-    io::write_all(STDOUT_FILENO, b" shown, ");
+    io::write_all(STDOUT_FILENO, word);
     io::print_decimal(STDOUT_FILENO, t.differ);
     io::write_all(STDOUT_FILENO, b" differ\n");
 }

@@ -4,7 +4,8 @@ mod showing;
 
 fn main() {
     let mut buffer = io::large_buffer();
-    let size = parts::tables::read(&mut buffer);
-    let t = showing::examples(parts::tally::none(), parts::before(&buffer, size));
-    parts::tally::print(b"pdus", parts::tables::whole(t, size, &buffer));
+    let size = io::read_full(libc::STDIN_FILENO, &mut buffer);
+    let t = parts::tally::start(size, &buffer);
+    let t = showing::examples(t, parts::before(&buffer, size));
+    parts::tally::print(b"pdus: ", t, b" shown, ");
 }

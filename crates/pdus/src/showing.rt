@@ -4,67 +4,68 @@
 use crate::driving::Given;
 use crate::driving::bring;
 use crate::driving::send;
-use parts::append;
+use libc::STDOUT_FILENO;
 use parts::before;
 use parts::end_of;
 use parts::field;
-use parts::hex::append_hex;
 use parts::hex::parse;
-use parts::numbers::append_decimal;
-use parts::numbers::append_named;
-use parts::tables::is_row;
+use parts::hex::say_hex;
+use parts::saying::say_form;
 use parts::tally::Tally;
-use parts::tally::counted;
+use parts::tally::ended;
+use parts::tally::is_row;
 use parts::tally::print_line;
 
-// What a call gave, as text.
-fn tell(given: Given, out: &[u8], text: &mut [u8]) -> usize {
+// Says what a call gave.
+fn tell(right: &[u8], given: Given, out: &[u8]) -> usize {
     match given {
-        Given::Refused(number) => append_named(text, 0, b"refusal ", number as u64),
+        Given::Refused(number) => say_form(right, 0, b"refusal D", number as u64, 0, 0),
         Given::Frame(size, raw) => {
-            let at = append_decimal(text, 0, raw.partial as u64);
-            let at = append_named(text, at, b",", raw.value as u64);
-            let at = append(text, at, b":");
-            append_hex(text, at, before(out, size))
+            let at = say_form(right, 0, b"D,D:", raw.partial as u64, raw.value as u64, 0);
+            say_hex(right, at, before(out, size))
         }
     }
 }
 
-// Runs the request, or the reply to it if there is one, and tells what comes of it.
-fn run(request: &[u8], reply: &[u8], text: &mut [u8]) -> usize {
-    let mut asked = [0u8; 260];
+// What a request gives, or the reply to it if there is one.
+fn give(request: &[u8], reply: &[u8], out: &mut [u8]) -> Given {
     let mut answer = [0u8; 260];
-    let mut out = [0u8; 260];
-    let asked_size = parse(request, &mut asked);
-    if reply.len() == 0 {
-        let given = send(before(&asked, asked_size), &mut out);
-        return tell(given, &out, text);
+    let size = parse(reply, &mut answer);
+    if size == 0 {
+        return send(request, out);
     }
-    let answer_size = parse(reply, &mut answer);
-    let given = bring(
-        before(&asked, asked_size),
-        before(&answer, answer_size),
-        &mut out,
-    );
-    tell(given, &out, text)
+    bring(request, before(&answer, size), out)
+}
+
+// Runs an example, and says what comes of it.
+fn run(right: &[u8], request: &[u8], reply: &[u8]) -> usize {
+    let mut asked = [0u8; 260];
+    let mut out = [0u8; 260];
+    let size = parse(request, &mut asked);
+    let given = give(before(&asked, size), reply, &mut out);
+    tell(right, given, &out)
+}
+
+// Prints an example up to where what comes of it is said.
+fn print_example(name: &[u8], request: &[u8], reply: &[u8]) {
+    let labels = b"|  request      |  reply        |  gives   |";
+    print_line(field(labels, b'|', 0), name);
+    print_line(field(labels, b'|', 1), request);
+    if 0 < reply.len() {
+        print_line(field(labels, b'|', 2), reply);
+    }
+    io::write_all(STDOUT_FILENO, field(labels, b'|', 3));
 }
 
 fn example(t: Tally, row: &[u8]) -> Tally {
     if !is_row(row) {
         return t;
     }
-    let request = field(row, 1);
-    let reply = field(row, 2);
-    let mut text = [0u8; 1024];
-    let size = run(request, reply, &mut text);
-    let given = before(&text, size);
-    print_line(b"", field(row, 0));
-    print_line(b"  request      ", request);
-    if 0 < reply.len() {
-        print_line(b"  reply        ", reply);
-    }
-    print_line(b"  gives   ", given);
-    counted(t, given, field(row, 3))
+    let request = field(row, b'|', 1);
+    let reply = field(row, b'|', 2);
+    let right = field(row, b'|', 3);
+    print_example(field(row, b'|', 0), request, reply);
+    ended(t, right, run(right, request, reply))
 }
 
 // Every row of a table.

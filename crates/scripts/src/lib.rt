@@ -1,4 +1,7 @@
-// The words of a script: which call a row names, and a row printed. The calls that leave the state are run and told here.
+// The words of a script: which call a row names, a row printed, and what came of a call said. The calls that leave the state are run here.
 pub mod apart;
 pub mod naming;
-pub mod printing;
+mod printing;
+pub mod telling;
+
+pub use printing::print_call;

@@ -9,65 +9,45 @@
 // Behind a comma may stand lengths other than the usual ones: "out 259" and "list 15" for the lent buffers, "size 261" for the frame, which
 // is filled up with zeros.
 ghost use Prim.Native.Nat.{_≤_};
-use parts::numbers::number;
+use parts::field;
+use parts::number;
 use parts::rest;
 use settings::Settings;
 
-pub enum Call {
-    Fresh,
-    Attach,
-    Detach,
-    Request,
-    Reply,
-    Tick,
-    LinkLost,
-    Cursor,
-    Split,
-    Read,
-    Write,
-}
-
-// Of request, reply and read the third letter tells which.
-fn third_named(call: &[u8]) -> Call {
-    match wire::byte_at(call, 2) {
-        b'q' => Call::Request,
-        b'p' => Call::Reply,
-        _ => Call::Read,
-    }
-}
-
-// The call that a row names: its first letter tells which.
-pub fn named(call: &[u8]) -> Call {
-    match wire::byte_at(call, 0) {
-        b'f' => Call::Fresh,
-        b'a' => Call::Attach,
-        b'd' => Call::Detach,
-        b'r' => third_named(call),
-        b't' => Call::Tick,
-        b'l' => Call::LinkLost,
-        b's' => Call::Split,
-        b'w' => Call::Write,
-        _ => Call::Cursor,
+// The letter that tells a call: its first; of request, reply and read the third, in upper case.
+pub fn letter(call: &[u8]) -> u8 {
+    let first = wire::byte_at(call, 0);
+    if first == b'r' {
+        std::num::wrapping_sub_u8(wire::byte_at(call, 2), 32)
+    } else {
+        first
     }
 }
 
 // Document 01's settings, read from their text.
 pub fn document_value() -> Settings {
-    let found = reading::read_text(&parts::document());
+    let found = reading::read_text(
+        b"version=1\ntimeout=3000\njoin=1\ntags=2\naddr=1024\nwidth=16\naddr=1026\nwidth=32\n",
+    );
     found.settings
 }
 
-// A 32-bit number of a call.
-pub fn short_number(call: &[u8], k: usize, other: u32) -> u32 {
-    (number(call, k, other as u64) % 4294967296) as u32
+// The number that is the k-th word of a call, counted from 0.
+pub fn number_in(call: &[u8], k: usize) -> u64 {
+    number(field(call, b' ', k), 0)
+}
+
+// A 32-bit number in a word; the other one where there is no word.
+pub fn short_number(word: &[u8], other: u32) -> u32 {
+    (number(word, other as u64) % 4294967296) as u32
 }
 
 // Document 01's settings with the numbers of a call.
 pub fn value_in(call: &[u8]) -> Settings {
     let mut s = document_value();
-    s.timeout = short_number(call, 0, s.timeout);
-    s.join = short_number(call, 1, s.join);
-    s.tags = short_number(call, 2, s.tags);
+    s.timeout = short_number(field(call, b' ', 2), s.timeout);
+    s.join = short_number(field(call, b' ', 4), s.join);
+    s.tags = short_number(field(call, b' ', 6), s.tags);
     s
 }
 
@@ -75,7 +55,8 @@ pub fn value_in(call: &[u8]) -> Settings {
 pub fn length_in(call: &[u8], letter: u8, usual: usize, most: usize) -> usize
     ensures { λ r. ⌜ r ≤ most ⌝ }
 {
-    let given = number(rest(rest(call, b','), letter), 0, usual as u64);
+    let word = field(rest(rest(call, b','), letter), b' ', 1);
+    let given = number(word, usual as u64);
     if given <= most as u64 {
         given as usize
     } else {

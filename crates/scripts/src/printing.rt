@@ -1,35 +1,40 @@
 // A row of a script, lined up: the bytes of a call stand above the bytes that came of it.
 use libc::STDOUT_FILENO;
+use parts::behind;
 use parts::head;
 use parts::rest;
-use parts::tally::print_line;
+use parts::saying::print_held;
+use parts::saying::say;
 
 // Where the bytes begin, behind the mark.
 const COLUMN: usize = 28;
 
-// Prints a text whose bytes, behind the first ':', begin at the column.
-fn print_lined(mark: &[u8], text: &[u8]) {
-    let label = head(text, b':');
-    let bytes = rest(text, b':');
-    if bytes.len() == 0 {
-        print_line(mark, text);
-        return;
-    }
-    io::write_all(STDOUT_FILENO, mark);
-    io::write_all(STDOUT_FILENO, label);
-    io::write_all(STDOUT_FILENO, b":");
-    if label.len() < COLUMN {
-        let blanks = [b' '; COLUMN];
-        io::write_all(STDOUT_FILENO, &blanks[label.len()..]);
-    }
-    print_line(b"", bytes);
+// Says the ':' behind which the bytes begin at the column.
+pub fn say_colon(right: &[u8], at: usize) -> usize {
+    let blanks = [b' '; COLUMN];
+    let next = say(right, at, b":");
+    print_held(right, behind(&blanks, at));
+    next
 }
 
-// Prints a call and what came of it, under the name if there is one.
-pub fn print_row(name: &[u8], call: &[u8], given: &[u8]) {
-    if 0 < name.len() {
-        print_line(b"", name);
+// Prints a call whose bytes, behind the first ':', begin at the column.
+fn print_lined(call: &[u8]) {
+    let bytes = rest(call, b':');
+    if bytes.len() == 0 {
+        io::write_all(STDOUT_FILENO, call);
+        return;
     }
-    print_lined(b"    ", call);
-    print_lined(b"  = ", given);
+    let label = head(call, b':');
+    io::write_all(STDOUT_FILENO, label);
+    say_colon(call, label.len());
+    io::write_all(STDOUT_FILENO, bytes);
+}
+
+// Prints a call under its name, if there is one, up to where what came of it is said.
+pub fn print_call(name: &[u8], call: &[u8]) {
+    io::write_all(STDOUT_FILENO, name);
+    let skipped = if name.len() == 0 { 1 } else { 0 };
+    io::write_all(STDOUT_FILENO, behind(b"\n    ", skipped));
+    print_lined(call);
+    io::write_all(STDOUT_FILENO, b"\n  = ");
 }

@@ -5,23 +5,21 @@ use parts::before;
 use parts::behind;
 use parts::head;
 use parts::hex::parse;
-use parts::lent::KEPT;
-use parts::numbers::number;
 use parts::rest;
 use scripts::apart;
-use scripts::naming::Call;
 use scripts::naming::length_in;
-use scripts::naming::named;
-use scripts::naming::short_number;
+use scripts::naming::letter;
+use scripts::naming::number_in;
 use scripts::naming::value_in;
+use scripts::telling::KEPT;
+use scripts::telling::KEPT_PLACE;
+use scripts::telling::tell;
 use state::State;
-use telling::KEPT_PLACE;
-use telling::tell;
 
-// The state afterwards, and the length of the text that tells what came of the call.
+// The state afterwards, and how far what came of the call is what must come of it.
 pub struct Ran {
     pub state: State,
-    pub size: usize,
+    pub at: usize,
 }
 
 // A call on the state; those that need none leave it, and are not made here.
@@ -29,15 +27,15 @@ fn step(state: State, call: &[u8], frame: &[u8], out: &mut [u8], list: &mut [u16
     requires { ⌜ Made state ⌝ }
     ensures { λ r. ⌜ Made (r .state) ⌝ }
 {
-    let client = short_number(call, 0, 0);
-    let time = number(call, 0, 0);
-    match named(call) {
-        Call::Fresh => calls::fresh(value_in(call)),
-        Call::Attach => calls::attach(state, client),
-        Call::Detach => calls::detach(state, client),
-        Call::Request => requests::request(state, client, number(call, 1, 0), frame, out),
-        Call::Reply => replies::reply(state, time, frame, out, list),
-        Call::Tick => ticks::tick(state, time, out, list),
+    let client = (number_in(call, 1) % 4294967296) as u32;
+    let time = number_in(call, 2);
+    match letter(call) {
+        b'f' => calls::fresh(value_in(call)),
+        b'a' => calls::attach(state, client),
+        b'd' => calls::detach(state, client),
+        b'Q' => requests::request(state, client, number_in(call, 3), frame, out),
+        b'P' => replies::reply(state, time, frame, out, list),
+        b't' => ticks::tick(state, time, out, list),
         _ => calls::link_lost(state),
     }
 }
@@ -59,7 +57,7 @@ fn lend(state: State, call: &[u8], frame: &[u8], out: &mut [u8], list: &mut [u16
 }
 
 // A call on the state, in buffers that are filled before it and looked at as a whole behind it.
-fn run_call(state: State, call: &[u8], bytes: &[u8], text: &mut [u8]) -> Ran
+fn run_call(state: State, right: &[u8], call: &[u8], bytes: &[u8]) -> Ran
     requires { ⌜ Made state ⌝ }
     ensures { λ r. ⌜ Made (r .state) ⌝ }
 {
@@ -71,33 +69,21 @@ fn run_call(state: State, call: &[u8], bytes: &[u8], text: &mut [u8]) -> Ran
     let r = lend(state, call, before(&frame, size), &mut out, &mut list);
     let state = r.state;
     let answer = r.answer;
-    let size = tell(answer, &out, &list, text);
-    Ran { state, size }
+    let at = tell(right, answer, &out, &list);
+    Ran { state, at }
 }
 
-// A call that leaves the state, told in a text of this length.
-fn left(state: State, size: usize) -> Ran
-    requires { ⌜ Made state ⌝ }
-    ensures { λ r. ⌜ Made (r .state) ⌝ }
-{
-    Ran { state, size }
-}
-
-// A call, with what came of it as text.
-pub fn run(state: State, row: &[u8], text: &mut [u8]) -> Ran
+// A call, with what came of it said.
+pub fn run(state: State, right: &[u8], row: &[u8]) -> Ran
     requires { ⌜ Made state ⌝ }
     ensures { λ r. ⌜ Made (r .state) ⌝ }
 {
     let call = head(row, b':');
     let bytes = behind(rest(row, b':'), 1);
-    match named(call) {
-        Call::Cursor => {
-            let size = apart::cursor(state.cursor.0, state.clock, state.attached, text);
-            left(state, size)
-        }
-        Call::Split => left(state, apart::split(call, bytes, text)),
-        Call::Read => left(state, apart::read(bytes, text)),
-        Call::Write => left(state, apart::write(call, text)),
-        _ => run_call(state, call, bytes, text),
+    if !apart::leaves(call) {
+        return run_call(state, right, call, bytes);
     }
+    let cursor = state.cursor.0;
+    let at = apart::run(right, call, bytes, cursor, state.clock, state.attached);
+    Ran { state, at }
 }

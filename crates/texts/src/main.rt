@@ -1,16 +1,45 @@
-// Settings texts, each with the line at which document 01 finds it wrong, or 0 where it is right; most of them are document 01's own text with other lines.
-mod making;
-mod places;
-mod rows;
-mod tables;
-mod tally;
+// Settings texts, each with the line at which document 01 finds it wrong, or 0 where it is right: the table is in the file stdin.
+// Its first line is the pieces that the rows name, each ended by '|', with '/' for LF. A row is the wrong line, a blank, and the text as it is spelled:
+// \n, \r, \t, \0 and \s are LF, CR, tab, NUL and a blank, and \1 to \9 the pieces. In place of a line's number, v has the value looked at.
+mod spelling;
+mod texts;
 
-use tally::Tally;
+use libc::STDIN_FILENO;
+use parts::before;
+use parts::behind;
+use parts::end_of;
+use parts::head;
+use parts::rest;
+use parts::tally;
+use parts::tally::Tally;
+
+fn row<'a>(t: Tally, pieces: &'a [u8], row: &'a [u8]) -> Tally {
+    if !tally::is_row(row) {
+        return t;
+    }
+    let mut text = [0u8; 8192];
+    let size = spelling::spell(pieces, rest(row, b' '), &mut text);
+    let word = head(row, b' ');
+    texts::read(t, word, before(&text, size))
+}
+
+// Every row of a table.
+fn rows<'a>(t: Tally, pieces: &'a [u8], table: &'a [u8]) -> Tally {
+    let mut tally = t;
+    let mut at: usize = 0;
+    while at < table.len() {
+        let end = end_of(table, at, b'\n');
+        tally = row(tally, pieces, &table[at..end]);
+        at = end + 1;
+    }
+    tally
+}
 
 fn main() {
-    let t = Tally { read: 0, differ: 0 };
-    let t = tally::read_value(t, &parts::document());
-    let t = tables::all(t);
-    let t = places::all(t);
-    tally::print(t);
+    let mut buffer = io::large_buffer();
+    let size = io::read_full(STDIN_FILENO, &mut buffer);
+    let table = before(&buffer, size);
+    let t = tally::start(size, &buffer);
+    let t = rows(t, head(table, b'\n'), rest(table, b'\n'));
+    tally::print(b"texts: ", t, b" read, ");
 }

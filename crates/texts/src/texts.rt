@@ -1,0 +1,69 @@
+// One text read, and held against what is said beside it.
+ghost use Prim.Native.Nat.{_<_};
+use libc::STDOUT_FILENO;
+use parts::before;
+use parts::number;
+use parts::tally::Tally;
+use parts::tally::counted;
+use settings::Settings;
+use writing::Wrote;
+
+// How many bytes the text of a value takes in a buffer of which so many are lent: 0 where they are too few, one more than there are on any other refusal.
+fn written(s: Settings, buffer: &mut [u8], lent: usize) -> usize {
+    if buffer.len() < lent {
+        return laws::MOST_TEXT;
+    }
+    match writing::write_text(s, &mut buffer[0..lent]) {
+        Wrote::Text(size) => size,
+        Wrote::TooShort => 0,
+        Wrote::Invalid => laws::MOST_TEXT,
+    }
+}
+
+// Whether the text is what is written of the value: a buffer as long as the text takes it, and one that is a byte shorter is too short.
+fn comes_back(s: Settings, text: &[u8]) -> bool {
+    let mut buffer = [0u8; laws::MOST_TEXT];
+    let size = text.len();
+    let short = written(s, &mut buffer, std::num::wrapping_sub_usize(size, 1));
+    let whole = written(s, &mut buffer, size);
+    (short == 0) & (whole == size) & check::same(before(&buffer, size), text)
+}
+
+// Whether a value has document 01's timeout and join, and so many tags.
+fn is_usual(s: Settings, tags: u32) -> bool {
+    (s.timeout == 3000) & (s.join == 1) & (s.tags == tags)
+}
+
+fn has_tag(s: Settings, k: usize, address: u16, width: u16) -> bool
+    requires { ⌜ k < 256 ⌝ }
+{
+    (s.addr[k] == address) & (s.width[k] == width)
+}
+
+// Whether a value is document 01's, number by number; unused tag places are 0.
+fn is_document(s: Settings) -> bool {
+    let used = has_tag(s, 0, 1024, 16) & has_tag(s, 1, 1026, 32);
+    let unused = has_tag(s, 2, 0, 0) & has_tag(s, 255, 0, 0);
+    is_usual(s, 2) & used & unused
+}
+
+// Whether the value that a text was read to is right: that of a wrong text has timeout 3000, join 1 and no tags.
+fn is_right(s: Settings, word: &[u8], text: &[u8]) -> bool {
+    match wire::byte_at(word, 0) {
+        b'v' => is_document(s),
+        b'0' => comes_back(s, text),
+        _ => is_usual(s, 0),
+    }
+}
+
+// Reads a text, of which the word tells the wrong line; one that comes out otherwise is printed.
+pub fn read(t: Tally, word: &[u8], text: &[u8]) -> Tally {
+    let found = reading::read_text(text);
+    let right = is_right(found.settings, word, text);
+    if right & (found.line as u64 == number(word, 0)) {
+        return counted(t, 0);
+    }
+    io::write_all(STDOUT_FILENO, word);
+    parts::tally::print_line(b" is the wrong line of\n", text);
+    counted(t, 1)
+}
