@@ -23,7 +23,7 @@ def facts(log):
             continue
         part, path, _, name = found.groups()
         if first is not None:
-            if name and name not in others and name not in first and part != 'src':
+            if name and name not in others and name not in first and part != 'src' and 'has no ' not in line:
                 others.append(name)
         elif part == 'proofs' and path.endswith('/Proof.antt'):
             first = f'the promise of `{path.split("/")[-2]}`, at `{name}` of its proof'

@@ -1,6 +1,6 @@
 // Settings texts, each with the line at which document 01 finds it wrong, or 0 where it is right: the table is in the file stdin.
-// Its first line is the pieces that the rows name, each ended by '|', with '/' for LF. A row is the wrong line, a blank, and the text as it is spelled:
-// \n, \r, \t, \0 and \s are LF, CR, tab, NUL and a blank, and \1 to \9 the pieces. In place of a line's number, v has the value looked at.
+// Its first line is the pieces that the rows name, each ended by '|'. A row is the wrong line, a blank, and the text as it is spelled: ';' is LF, '^' CR,
+// '~' tab, '_' a blank, '$' NUL, and '@1' to '@9' the pieces. In place of a line's number, v has the value looked at.
 mod spelling;
 mod texts;
 

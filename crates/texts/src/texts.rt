@@ -8,7 +8,7 @@ use parts::tally::counted;
 use settings::Settings;
 use writing::Wrote;
 
-// How many bytes the text of a value takes in a buffer of which so many are lent: 0 where they are too few, one more than there are on any other refusal.
+// How many bytes the text of a value takes in a buffer of which so many are lent: 0 where they are too few; on any other refusal the length of the longest, of which no byte is then written.
 fn written(s: Settings, buffer: &mut [u8], lent: usize) -> usize {
     if buffer.len() < lent {
         return laws::MOST_TEXT;
