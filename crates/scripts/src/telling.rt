@@ -22,11 +22,12 @@ fn say_outcome(right: &[u8], r: Report) -> usize {
     let forms =
         b"refusal D|done|issued 0xX D,D|joined 0xX D,D|exception B D,D|answered 0xX D,D|timed out 0xX D,D|nothing due|";
     let outcome = r.outcome;
-    let first = match outcome {
-        0 => r.refusal,
-        4 => r.code,
-        _ => r.id,
+    let named = if outcome == machine::EXCEPTION {
+        r.code
+    } else {
+        r.id
     };
+    let first = if outcome == 0 { r.refusal } else { named };
     let form = field(forms, b'|', outcome as usize);
     say_form(
         right,
