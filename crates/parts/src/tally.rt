@@ -1,4 +1,6 @@
 // The count of examples, and a printed line.
+ghost use mathlib.Core.Path.{_≡_};
+ghost use Rattle.parts.specs.Tallies.{started, isRow, counted as countedOf, ended as endedOf};
 use libc::STDOUT_FILENO;
 use std::num::wrapping_add_u64;
 
@@ -9,19 +11,25 @@ pub struct Tally {
 }
 
 // Nothing shown yet. A table that fills its buffer may have been cut: that is one difference.
-pub fn start(size: usize, buffer: &[u8]) -> Tally {
+pub fn start(size: usize, buffer: &[u8]) -> Tally
+    ensures { λ r. ⌜ r ≡ started size (now (buffer .entry)) ⌝ }
+{
     let differ = if size < buffer.len() { 0 } else { 1 };
     Tally { shown: 0, differ }
 }
 
 // Whether a line of a table is a row: one with nothing in it and one that begins with '#' are there for the reader.
-pub fn is_row(line: &[u8]) -> bool {
+pub fn is_row(line: &[u8]) -> bool
+    ensures { λ r. ⌜ r ≡ isRow (now (line .entry)) ⌝ }
+{
     let first = wire::byte_at(line, 0);
     (first != 0) & (first != b'#')
 }
 
 // One example more, and so many differences.
-pub fn counted(t: Tally, differ: u64) -> Tally {
+pub fn counted(t: Tally, differ: u64) -> Tally
+    ensures { λ r. ⌜ r ≡ countedOf t differ ⌝ }
+{
     Tally {
         shown: wrapping_add_u64(t.shown, 1),
         differ: wrapping_add_u64(t.differ, differ),
@@ -29,7 +37,9 @@ pub fn counted(t: Tally, differ: u64) -> Tally {
 }
 
 // The end of the line in which an example was said up to a place; what must stand there is printed where they differ.
-pub fn ended(t: Tally, right: &[u8], at: usize) -> Tally {
+pub fn ended(t: Tally, right: &[u8], at: usize) -> Tally
+    ensures { λ r. ⌜ r ≡ endedOf t (now (right .entry)) at ⌝ }
+{
     io::write_all(STDOUT_FILENO, b"\n");
     if at == right.len() {
         return counted(t, 0);

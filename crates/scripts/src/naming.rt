@@ -9,51 +9,66 @@
 // Behind a comma may stand lengths other than the usual ones: "out 259" and "list 15" for the lent buffers, "size 261" for the frame, which
 // is filled up with zeros.
 ghost use Prim.Native.Nat.{_≤_};
+ghost use mathlib.Core.Path.{_≡_};
+ghost use Rattle.settings.specs.Values.{settingsOf};
+ghost use Rattle.scripts.specs.Words.{letterOf, document, shortNumber, settingsIn, lengthIn};
 use parts::field;
 use parts::number;
 use parts::rest;
 use settings::Settings;
 
 // The letter that tells a call: its first; of request, reply and read the third, in upper case.
-pub fn letter(call: &[u8]) -> u8 {
+pub fn letter(call: &[u8]) -> u8
+    ensures { λ r. ⌜ r ≡ letterOf (now (call .entry)) ⌝ }
+{
     let first = wire::byte_at(call, 0);
     if first == b'r' {
-        std::num::wrapping_sub_u8(wire::byte_at(call, 2), 32)
+        wire::byte_at(call, 2) % 32 + 64
     } else {
         first
     }
 }
 
-// Document 01's settings, read from their text.
-pub fn document_value() -> Settings {
-    let found = reading::read_text(
-        b"version=1\ntimeout=3000\njoin=1\ntags=2\naddr=1024\nwidth=16\naddr=1026\nwidth=32\n",
-    );
-    found.settings
+// Document 01's settings.
+fn document_value() -> Settings
+    ensures { λ r. ⌜ r ≡ settingsOf document ⌝ }
+{
+    let mut addr = [0u16; laws::MOST_TAGS];
+    let mut width = [0u16; laws::MOST_TAGS];
+    addr[0] = 1024;
+    width[0] = 16;
+    addr[1] = 1026;
+    width[1] = 32;
+    Settings {
+        timeout: laws::USUAL_TIMEOUT,
+        join: 1,
+        tags: 2,
+        addr,
+        width,
+    }
 }
 
-// The number that is the k-th word of a call, counted from 0.
-pub fn number_in(call: &[u8], k: usize) -> u64 {
-    number(field(call, b' ', k), 0)
-}
-
-// A 32-bit number in a word; the other one where there is no word.
-pub fn short_number(word: &[u8], other: u32) -> u32 {
-    (number(word, other as u64) % 4294967296) as u32
+// The k-th word of a call as a 32-bit number; the other one where there is none.
+fn short_number(call: &[u8], k: usize, other: u32) -> u32
+    ensures { λ r. ⌜ r ≡ shortNumber (now (call .entry)) k other ⌝ }
+{
+    (number(field(call, b' ', k), other as u64) % 4294967296) as u32
 }
 
 // Document 01's settings with the numbers of a call.
-pub fn value_in(call: &[u8]) -> Settings {
+pub fn value_in(call: &[u8]) -> Settings
+    ensures { λ r. ⌜ r ≡ settingsIn (now (call .entry)) ⌝ }
+{
     let mut s = document_value();
-    s.timeout = short_number(field(call, b' ', 2), s.timeout);
-    s.join = short_number(field(call, b' ', 4), s.join);
-    s.tags = short_number(field(call, b' ', 6), s.tags);
+    s.timeout = short_number(call, 2, s.timeout);
+    s.join = short_number(call, 4, s.join);
+    s.tags = short_number(call, 6, s.tags);
     s
 }
 
 // A length behind the comma, by a letter that no other word there has: o, l, z for out, list, size.
 pub fn length_in(call: &[u8], letter: u8, usual: usize, most: usize) -> usize
-    ensures { λ r. ⌜ r ≤ most ⌝ }
+    ensures { λ r. ⌜ (r ≡ lengthIn (now (call .entry)) letter usual most) × (r ≤ most) ⌝ }
 {
     let word = field(rest(rest(call, b','), letter), b' ', 1);
     let given = number(word, usual as u64);

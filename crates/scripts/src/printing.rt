@@ -1,21 +1,9 @@
 // A row of a script, lined up: the bytes of a call stand above the bytes that came of it.
+use crate::pieces::say_colon;
 use libc::STDOUT_FILENO;
 use parts::behind;
 use parts::head;
 use parts::rest;
-use parts::saying::print_held;
-use parts::saying::say;
-
-// Where the bytes begin, behind the mark.
-const COLUMN: usize = 28;
-
-// Says the ':' behind which the bytes begin at the column.
-pub fn say_colon(right: &[u8], at: usize) -> usize {
-    let blanks = [b' '; COLUMN];
-    let next = say(right, at, b":");
-    print_held(right, behind(&blanks, at));
-    next
-}
 
 // Prints a call whose bytes, behind the first ':', begin at the column.
 fn print_lined(call: &[u8]) {

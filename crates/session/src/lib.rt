@@ -28,7 +28,7 @@ struct Session {
 fn start(tally: Tally) -> Session
     ensures { λ r. ⌜ Made (r .state) ⌝ }
 {
-    let made = calls::fresh(scripts::naming::document_value());
+    let made = calls::fresh(scripts::naming::value_in(b""));
     let state = made.state;
     Session { state, tally }
 }

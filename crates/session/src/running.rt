@@ -3,23 +3,32 @@ ghost use Rattle.state.specs.States.{Made};
 use calls::Stepped;
 use parts::before;
 use parts::behind;
+use parts::field;
 use parts::head;
 use parts::hex::parse;
+use parts::number;
 use parts::rest;
 use scripts::apart;
 use scripts::naming::length_in;
 use scripts::naming::letter;
-use scripts::naming::number_in;
 use scripts::naming::value_in;
 use scripts::telling::KEPT;
 use scripts::telling::KEPT_PLACE;
 use scripts::telling::tell;
 use state::State;
 
+// How many places the list has of which a call is lent the start: some more than it needs.
+const LISTED: usize = laws::LIST_BUFFER + 4;
+
 // The state afterwards, and how far what came of the call is what must come of it.
 pub struct Ran {
     pub state: State,
     pub at: usize,
+}
+
+// The number that is the k-th word of a call, counted from 0.
+fn number_in(call: &[u8], k: usize) -> u64 {
+    number(field(call, b' ', k), 0)
 }
 
 // A call on the state; those that need none leave it, and are not made here.
@@ -65,7 +74,7 @@ fn run_call(state: State, right: &[u8], call: &[u8], bytes: &[u8]) -> Ran
     let parsed = parse(bytes, &mut frame);
     let size = length_in(call, b'z', parsed, 300);
     let mut out = [KEPT; 300];
-    let mut list = [KEPT_PLACE; 20];
+    let mut list = [KEPT_PLACE; LISTED];
     let r = lend(state, call, before(&frame, size), &mut out, &mut list);
     let state = r.state;
     let answer = r.answer;

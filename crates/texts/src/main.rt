@@ -6,7 +6,6 @@ mod texts;
 
 use libc::STDIN_FILENO;
 use parts::before;
-use parts::behind;
 use parts::end_of;
 use parts::head;
 use parts::rest;

@@ -1,0 +1,16 @@
+-- `scripts::naming::letter` meets its contract: the third letter behind an r, else the first.
+-- Assumes nothing.
+use denote.Ref.{now}
+use Rattle.scripts.proofs.WordLaws.{letter-third, letter-first}
+use borrow.Author.Needs.{needs}
+use Rattle.scripts.proofs.naming.letter.Statement.{statement}
+use Rattle.scripts.proofs.naming.letter.Tie as tie
+
+returns : tie.Need-returns
+returns c = cc (letter-third (now (c .before .before .before .before .args .call)) (cc))
+
+returns-2 : tie.Need-returns-2
+returns-2 c = cc (letter-first (now (c .before .before .before .args .call)) (λ z. c .if1 .left (cc)))
+
+pub letter-spec : {M : Type 1} → statement M
+letter-spec = tie.close (tie.spec (λ c κs. search needs) (λ c κs. search needs) (λ c. search needs) returns returns-2)

@@ -1,0 +1,43 @@
+-- The letter that tells a call, and the lengths and settings in it.
+-- Assumes nothing.
+use Prim.Native.Nat.{ℕ, _+_, _%_, _^_, min}
+use mathlib.Core.Bool.{Bool, cond, _||_}
+use mathlib.Core.List.{List, [], _∷_}
+use lib.ListN.{getD}
+use lib.Dec.{eqb}
+use Rattle.laws.specs.Numbers.{usualTimeout}
+use Rattle.settings.specs.declared.Settings.{Settings}
+use Rattle.settings.specs.Grammar.{Value}
+use Rattle.settings.specs.Values.{settingsOf}
+use Rattle.parts.specs.Texts.{restOf, fieldOf, numberOf}
+
+-- a call's first letter; of request, reply and read, which begin with 'r', the third, in upper case
+abbrev pub letterOf : List ℕ → ℕ
+letterOf call = cond (eqb (getD call 0 0) 114) (getD call 2 0 % 32 + 64) (getD call 0 0)
+
+-- cursor, split, read and write leave the state: 'c', 's', 'A', 'w'
+abbrev pub leavesState : List ℕ → Bool
+leavesState call = eqb (letterOf call) 99 || (eqb (letterOf call) 115 || (eqb (letterOf call) 65 || eqb (letterOf call) 119))
+
+-- document 01's settings
+abbrev pub document : Value
+document = record { timeout = usualTimeout; join = 1; tags = record { address = 1024; width = 16 } ∷ record { address = 1026; width = 32 } ∷ [] }
+
+-- the k-th word of a call as a number of 32 bits, the other one where there is none
+abbrev pub shortNumber : List ℕ → ℕ → ℕ → ℕ
+shortNumber call k other = numberOf (fieldOf 32 k call) other % 2 ^ 32
+
+-- the same with the numbers of a call: timeout, join and tags are its words 2, 4 and 6
+unfoldable pub settingsIn : List ℕ → Settings
+settingsIn call =
+    record {
+      timeout = shortNumber call 2 (document .timeout);
+      join = shortNumber call 4 (document .join);
+      tags = shortNumber call 6 2;
+      addr = settingsOf document .addr;
+      width = settingsOf document .width;
+    }
+
+-- a length behind the comma, by a letter that no other word there has
+unfoldable pub lengthIn : List ℕ → ℕ → ℕ → ℕ → ℕ
+lengthIn call letter usual most = min (numberOf (fieldOf 32 1 (restOf letter (restOf 44 call))) usual) most
