@@ -1,7 +1,7 @@
 -- What the tender asks of any history, in one place: every list of calls on a fresh machine, refused calls included, whatever the settings value.
 -- `afterCalls v xs` is the machine after the calls xs, `ledgerOf v xs` the ledger kept from the calls and what the host saw of them: the C answer's numbers, the bytes and the list.
 -- Assumes nothing.
-use Prim.Native.Nat.{ℕ, suc, _+_, _≤_, _<_}
+use Prim.Native.Nat.{ℕ, suc, _+_, _-_, _≤_, _<_}
 use mathlib.Core.Path.{_≡_, refl, ap, sym, _∙_}
 use mathlib.Core.Logic.{_↔_}
 use mathlib.Core.Bool.{true, false}
@@ -10,7 +10,7 @@ use mathlib.Core.List.{List, [], _∷_, _++_, append-assoc, List·Memᴰ}
 use native.Mathlib.Omega.{arith}
 use lib.ListN.{length, getD}
 use borrow.Author.Tests.{eqb-true}
-use Rattle.laws.specs.Numbers.{places}
+use Rattle.laws.specs.Numbers.{places, ids}
 use Rattle.laws.specs.Lists.{filter}
 use Rattle.laws.proofs.FilterLaws.{filter-in}
 use Rattle.bcd.specs.Bcd.{inRange}
@@ -91,11 +91,11 @@ module _ (v : Value) (xs : List Call) where
   live-ids-differ = good .differ
 
   -- Tender 3: an id is not issued again until at least 65,472 others were.
-  pub an-id-comes-round-late : (a c : ℕ) → a < c → c < length (ledgerOf v xs .issues) → getD (ledgerOf v xs .issues) a 0 ≡ getD (ledgerOf v xs .issues) c 0 → a + 65472 < c
+  pub an-id-comes-round-late : (a c : ℕ) → a < c → c < length (ledgerOf v xs .issues) → getD (ledgerOf v xs .issues) a 0 ≡ getD (ledgerOf v xs .issues) c 0 → a + (ids - places) < c
   an-id-comes-round-late = accounted v xs .apart
 
   -- and those others are of different ids
-  pub the-others-differ : (i j : ℕ) → i < j → j ≤ i + 65472 → j < length (ledgerOf v xs .issues) → getD (ledgerOf v xs .issues) i 0 ≡ getD (ledgerOf v xs .issues) j 0 → ⊥
+  pub the-others-differ : (i j : ℕ) → i < j → j ≤ i + (ids - places) → j < length (ledgerOf v xs .issues) → getD (ledgerOf v xs .issues) i 0 ≡ getD (ledgerOf v xs .issues) j 0 → ⊥
   the-others-differ = issues-differ rules (afterCalls v xs .book) (toldBy v xs) (ledgerOf v xs) (accounted v xs)
 
   -- Tender 3: an accepted request stands in the party places afterwards, as the latest party of a live entry that asks what it asks.
@@ -196,8 +196,8 @@ leaving-told : (v : Value) (m : Machine) (c : ℕ) (ys : List Call) → refusal 
 unfolding history events told granted numbers
 leaving-told v m c ys h = ap (λ (d : Outcome). events v (detach c) (seenOf d) ++ history (product v) (outcome m (detach c) .after) ys) (granted-is m (detach c) h)
 
--- link lost is never refused
-never-refused : (m : Machine) → refusal m linkLost ≡ 0
+-- Link lost is never refused.
+pub never-refused : (m : Machine) → refusal m linkLost ≡ 0
 unfolding rows lowest
 never-refused m = refl
 

@@ -1,20 +1,20 @@
--- Exception 04 is given exactly when a legal request can join nothing and every place is live; an accepted request stands in the party places afterwards.
+-- Exception 04 is given exactly when a legal request can join nothing and every place is live; an exception changes only the clock, and no other call says one.
 -- Assumes nothing.
 use Prim.Native.Nat.{ℕ, suc, _≤_, _<_}
 use mathlib.Core.Path.{_≡_, refl, ap, sym, _∙_}
 use mathlib.Core.Logic.{⊎-elim, _⊎_, _↔_}
-use mathlib.Core.Bool.{true, false}
+use mathlib.Core.Bool.{Bool, true, false, cond}
 use mathlib.Core.Option.{Option, some, none}
 use mathlib.Core.List.{List}
 use native.Mathlib.Omega.{arith}
 use lib.Dec.{eqb}
 use borrow.Author.Tests.{ltb-true, ltb-false, le-ltb, not-true}
 use Rattle.laws.specs.Numbers.{places, deviceFailure}
-use Rattle.laws.proofs.Choice.{true-or, eq-or, lt-or}
+use Rattle.laws.proofs.Choice.{true-or, eq-or, lt-or, never}
 use Rattle.wire.specs.Frame.{misframed, functionOf}
 use Rattle.pdu.specs.Requests.{classOf, badFunction, badLength, badValue, badAddress, faultOf, legal}
 use Rattle.pdu.specs.Replies.{What}
-use Rattle.book.specs.Book.{Live, Good}
+use Rattle.book.specs.Book.{Live, Good, at}
 use Rattle.book.specs.Book.Move.{pass}
 use Rattle.book.specs.Desk.{NoneOpen, AllLive, freePlace}
 use Rattle.book.proofs.GoodLaws.{good-move}
@@ -156,6 +156,36 @@ granted-none m (request c t f o) h z = absurd (h c t f o refl)
 granted-none m (reply t f o l) h z = let e = reply-finds m t f o l z in rw (e .1) refl
 granted-none m (tick t o l) h z = expired-none (clocked m t) _ o l _
 granted-none m linkLost h z = refl
+
+-- what a legal request comes to, where that is an exception, leaves the machine
+joined-leaves : (m : Machine) (k c : ℕ) (f o : List ℕ) (q : Option (Live What Note)) (n : ℕ) → joinedTo m k c f o q .says ≡ answer.Excepted n → joinedTo m k c f o q .after ≡ m
+unfolding joinedTo excepted
+joined-leaves m k c f o none n e = refl
+joined-leaves m k c f o (some l) n e = never (cc)
+
+issued-leaves : (m : Machine) (c : ℕ) (f o : List ℕ) (n : ℕ) → issuedTo m c f o .says ≡ answer.Excepted n → issuedTo m c f o .after ≡ m
+unfolding issuedTo
+issued-leaves m c f o n e = never (cc)
+
+served-leaves : (m : Machine) (c : ℕ) (f o : List ℕ) (n : ℕ) → served m c f o .says ≡ answer.Excepted n → served m c f o .after ≡ m
+unfolding served excepted
+served-leaves m c f o n = by (canJoin m f) (exhausted m c)
+  where
+    by : (joinable full : Bool)
+        → cond joinable (joinedTo m (joiningPlace m f) c f o (at (m .book) (joiningPlace m f))) (cond full (excepted m deviceFailure f o) (issuedTo m c f o)) .says ≡ answer.Excepted n
+        → cond joinable (joinedTo m (joiningPlace m f) c f o (at (m .book) (joiningPlace m f))) (cond full (excepted m deviceFailure f o) (issuedTo m c f o)) .after ≡ m
+    by true full e = joined-leaves m (joiningPlace m f) c f o (at (m .book) (joiningPlace m f)) n e
+    by false true e = refl
+    by false false e = issued-leaves m c f o n e
+
+-- An exception changes only the clock.
+pub exception-leaves : (m : Machine) (c t : ℕ) (f o : List ℕ) (n : ℕ) → refusal m (request c t f o) ≡ 0 → outcome m (request c t f o) .says ≡ answer.Excepted n → outcome m (request c t f o) .after ≡ clocked m t
+unfolding excepted
+exception-leaves m c t f o n h e =
+    ⊎-elim
+    (λ z. let is = granted-code m c t f o h .0 z in rw is (served-leaves (clocked m t) c f o n (rw is at e)))
+    (λ z. rw (granted-code m c t f o h .1 z))
+    (true-or (eqb (faultOf f) 0))
 
 -- No other call says an exception.
 pub no-other-exception : (m : Machine) (x : Call) → ((c t : ℕ) (f o : List ℕ) → x ≡ request c t f o → ⊥) → codeOf (outcome m x .says) ≡ 0

@@ -52,6 +52,15 @@ module _ (tags : List Tag) (f : List ℕ) where
   length-returned-by (MultipleWrite s q) = refl
   length-returned-by Other = refl
 
+  -- A request to read and one of any other function pass unchanged, and no tag is counted.
+  pub forwarded-read : (s q : ℕ) → forwarded tags (Read s q) f ≡ outcome 0 0 f
+  unfolding forwarded
+  forwarded-read s q = refl
+
+  pub forwarded-other : forwarded tags Other f ≡ outcome 0 0 f
+  unfolding forwarded
+  forwarded-other = refl
+
   module _ (w : What) where
     -- An exception reply passes unchanged, and no tag is counted.
     pub returned-exception : excepts (w .function) f ≡ true → returned tags w f ≡ outcome 0 0 f
@@ -62,6 +71,18 @@ module _ (tags : List Tag) (f : List ℕ) where
     pub returned-other : excepts (w .function) f ≡ false → returned tags w f ≡ returnedBy tags (w .asked) f
     unfolding returned
     returned-other e = rw e
+
+    -- A reply that would not be rewritten passes unchanged, exception or not: to a request 16, and to one of any other function.
+    unchanged : returnedBy tags (w .asked) f ≡ outcome 0 0 f → returned tags w f ≡ outcome 0 0 f
+    unchanged e = ⊎-elim returned-exception (λ x. returned-other x ∙ e) (true-or (excepts (w .function) f))
+
+    pub returned-multiple : (s q : ℕ) → w .asked ≡ MultipleWrite s q → returned tags w f ≡ outcome 0 0 f
+    unfolding returnedBy
+    returned-multiple s q e = unchanged (rw e)
+
+    pub returned-any : w .asked ≡ Other → returned tags w f ≡ outcome 0 0 f
+    unfolding returnedBy
+    returned-any e = unchanged (rw e)
 
     -- A reply's frame keeps its length.
     pub length-returned : length (returned tags w f .bytes) ≡ length f
