@@ -1,4 +1,4 @@
--- Document 01's examples P1 to P8, one list of data, computed by the definitions.
+-- Words read and sent as each kind, one list of data, computed by the definitions: in range, at its end, beyond it, with a nibble above 9. Document 01's examples are in machine/proofs/Examples.antt.
 -- Assumes nothing.
 use Prim.Native.Nat.{ℕ}
 use mathlib.Core.Path.{_≡_, refl}
@@ -46,16 +46,16 @@ computed (example way kind words number o) = example way kind words (numberOf wo
 
 unfoldable pub examples : List Example
 examples =
-    -- P1, P2
+    -- read
     example read Width16 (0x1234 ∷ []) 0x1234 (becomes 1234 (0x04D2 ∷ [])) ∷
     example read Width32 (0x1234 ∷ 0x5678 ∷ []) 0x56781234 (becomes 56781234 (0x69B2 ∷ 0x0362 ∷ [])) ∷
-    -- P3, P4, P5
+    -- sent
     example sent Width32 (0x614E ∷ 0x00BC ∷ []) 12345678 (becomes 0x12345678 (0x5678 ∷ 0x1234 ∷ [])) ∷
     example sent Width16 (0x270F ∷ []) 9999 (becomes 0x9999 (0x9999 ∷ [])) ∷
     example sent Width16 (0x2710 ∷ []) 10000 aboveRange ∷
-    -- P6
+    -- a nibble above 9
     example read Width16 (0x00AB ∷ []) 0x00AB nibbleAboveNine ∷
-    -- P7, P8
+    -- the last in range, and one more
     example sent Width32 (0xE0FF ∷ 0x05F5 ∷ []) 99999999 (becomes 0x99999999 (0x9999 ∷ 0x9999 ∷ [])) ∷
     example sent Width32 (0xE100 ∷ 0x05F5 ∷ []) 100000000 aboveRange ∷
     []

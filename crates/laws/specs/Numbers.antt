@@ -1,6 +1,7 @@
 -- The sizes, bounds and codes of document 01, once and by name. The code has them as constants of the same names; only the number of ids, which 16 bits do not hold, is the last
--- id there, and digits to a register are a word of the definitions alone. A refusal's number stands where it is given: in the rows of machine/specs/Refusals.antt, for a
--- fresh state in proxy/specs/Gates.antt, and in the reports of the calls that need no device.
+-- id there, and digits to a register are a word of the definitions alone. A refusal's number is its name in document 01, and a width that of a kind of tag: they stand where they
+-- are given. Refusals: the rows of machine/specs/Refusals.antt, proxy/specs/Gates.antt for those told before a frame is looked into and for a fresh state, and the reports of the
+-- calls that need no device.
 -- Assumes nothing.
 use Prim.Native.Nat.{ℕ, _*_, _-_, _^_}
 

@@ -1,4 +1,4 @@
-// Facts on lists, digits, bits, bytes and searches, each said once, and every number of document 01.
+// Facts on lists, digits, bits, bytes and searches, each said once, and document 01's sizes, bounds and codes.
 ghost use mathlib.Core.Path.{_≡_};
 ghost use Prim.Native.Nat.{_<_};
 

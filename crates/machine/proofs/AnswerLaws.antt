@@ -1,4 +1,4 @@
--- What a reply's parties and a tick's parties get, and that ticking at one time comes to an end.
+-- What a reply's parties and a tick's parties get, and when nothing is due.
 -- Assumes nothing.
 use Prim.Native.Nat.{ℕ, _≤_, _<_}
 use mathlib.Core.Path.{_≡_, refl, ap, sym, _∙_}

@@ -56,17 +56,17 @@ pub struct Report {
 // The outcomes' numbers: ZB_DONE and so on. Reading and writing settings are done too.
 pub const DONE: u32 = 1;
 
-pub const ISSUED: u32 = 2;
+const ISSUED: u32 = 2;
 
-pub const JOINED: u32 = 3;
+const JOINED: u32 = 3;
 
 pub const EXCEPTION: u32 = 4;
 
-pub const ANSWERED: u32 = 5;
+const ANSWERED: u32 = 5;
 
-pub const TIMED_OUT: u32 = 6;
+const TIMED_OUT: u32 = 6;
 
-pub const NOTHING_DUE: u32 = 7;
+const NOTHING_DUE: u32 = 7;
 
 // A report of an answer that names no entry.
 fn plain(refusal: u32, outcome: u32, length: u32, set: u32, code: u32) -> Report

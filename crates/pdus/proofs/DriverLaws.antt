@@ -1,4 +1,4 @@
--- A legal request has in its frame the registers that the rewriter asks for, and so has a reply that answers it.
+-- The frames of the examples are as the rewriter asks: a legal request, a reply that answers it, and document 01's two tags as words.
 -- Assumes nothing.
 use Prim.Native.Nat.{ℕ, _≤_, _<_}
 use mathlib.Core.Path.{_≡_}

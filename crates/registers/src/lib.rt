@@ -19,7 +19,7 @@ use rewrite::Way;
 use tagwords::tag_address;
 use tagwords::tag_kind;
 
-// How many words a register can hold.
+// How many values a register can hold.
 const WORDS: u32 = 65536;
 
 // What a tag that was left raw adds to the counts: one for partial cover, or one for its value.
@@ -82,11 +82,11 @@ fn turn(way: Way, kind: Kind, n: u32) -> Turned
     match way {
         Way::ToBcd => match bcd::encode(kind, n) {
             Encoded::Bcd(w) => Turned::Number(w),
-            Encoded::OutOfRange => Turned::Refused,
+            Encoded::OutOfRange => Turned::LeftRaw,
         },
         Way::ToBinary => match bcd::decode(kind, n) {
             Decoded::Binary(v) => Turned::Number(v),
-            Decoded::NoNumber => Turned::Refused,
+            Decoded::NoNumber => Turned::LeftRaw,
         },
     }
 }

@@ -14,7 +14,7 @@ use Rattle.pdu.specs.declared.Asked.{Asked}
 use Rattle.pdu.specs.declared.Asked.the-variants.{Read, SingleWrite, MultipleWrite, Other}
 use Rattle.rewrite.specs.Frames.{readBase, singleBase, multipleBase}
 use Rattle.rewrite.specs.declared.Turned.{Turned}
-use Rattle.rewrite.specs.declared.Turned.the-variants.{Number, Refused}
+use Rattle.rewrite.specs.declared.Turned.the-variants.{Number, LeftRaw}
 
 -- the tags that the first words are
 abbrev pub tagsOf : ℕ → List ℕ → List Tag
@@ -56,4 +56,4 @@ reaches words start k = leb start (lastOf (tagOf (getD words k 0)))
 -- what the code makes of a tag's number, as the definition has it
 abbrev pub numberIn : Turned → Option ℕ
 numberIn (Number n) = some n
-numberIn Refused = none
+numberIn LeftRaw = none

@@ -22,10 +22,10 @@ pub const NOT_RAW: Raw = Raw {
     value: 0,
 };
 
-// A tag's number rewritten, or the notice that its value does not allow it.
+// A tag's number rewritten, or the notice that its value leaves it raw.
 pub enum Turned {
     Number(u32),
-    Refused,
+    LeftRaw,
 }
 
 // The last register of a tag.

@@ -1,4 +1,4 @@
--- The writer's parts: decimals of any number of digits, lines, tags and the whole text, their lengths and how they are overAt over the buffer.
+-- The writer's parts: decimals of any number of digits, lines, tags and the whole text, their lengths and how they are laid over the buffer.
 -- Assumes nothing.
 use Prim.Native.Nat.{ℕ, zero, suc, _+_, _*_, _-_, _/_, _%_, _^_, _≤_, _<_}
 use mathlib.Core.Path.{_≡_, refl, ap, sym, _∙_}
