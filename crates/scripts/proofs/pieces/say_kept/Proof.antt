@@ -5,7 +5,7 @@ use Rattle.scripts.proofs.pieces.say_kept.Statement.{statement}
 use Rattle.scripts.proofs.pieces.say_kept.Tie as tie
 
 returns : tie.Need-returns
-returns c = cc
+returns c = rw (c .before .kept .ensures) at (c .say-touched .ensures)
 
 pub say-kept-spec : {M : Type 1} → statement M
 say-kept-spec = tie.close (tie.spec (λ c κs. search needs) (λ c κs. search needs) returns)

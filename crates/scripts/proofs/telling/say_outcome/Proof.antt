@@ -7,7 +7,7 @@ use Rattle.scripts.proofs.telling.say_outcome.Tie as tie
 
 returns : tie.Need-returns
 unfolding outcomeText
-returns c = cc
+returns c = rw (c .before .before .before .first-number .ensures, c .before .before .before .before .field .ensures) at (c .say-form .ensures)
 
 pub say-outcome-spec : {M : Type 1} → statement M
 say-outcome-spec =

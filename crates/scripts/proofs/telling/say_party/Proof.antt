@@ -5,7 +5,9 @@ use Rattle.scripts.proofs.telling.say_party.Statement.{statement}
 use Rattle.scripts.proofs.telling.say_party.Tie as tie
 
 returns : tie.Need-returns
-returns c = cc
+returns c =
+    let formed = c .before .before .before in
+    rw (formed .behind .ensures, formed .before .skipped .ensures, c .before .before .place-at .ensures, c .before .place-at2 .ensures) at (c .say-form .ensures)
 
 pub say-party-spec : {M : Type 1} → statement M
 say-party-spec =
