@@ -1,4 +1,7 @@
-// The check of a request: what it may ask.
+// The check of a request: what it may ask; what was asked as one word; the check of a reply.
+pub mod matching;
+pub mod words;
+
 ghost use mathlib.Core.Path.{_≡_};
 ghost use Prim.Native.Nat.{_+_};
 ghost use mathlib.Core.Bool.{cond};

@@ -30,7 +30,7 @@ pub fn fresh<'a>(
 ) -> Report
     ensures { λ r. ⌜ FreshlyTold from r (lent (now (ids .exit)) (now (asked .exit)) (now (callers .exit)) (now (deadlines .exit)) (now (counts .exit)) (now (clients .exit)) (now (originals .exit)) (now (top .exit)) (now (cursor .exit)) (now (attached .exit)) (now (clock .exit)) (now (timeout .exit)) (now (join .exit)) (now (tagged .exit)) (now (tags .exit))) ⌝ }
 {
-    machine::report_of(making::fresh(
+    machine::report_of(proxy::making::fresh(
         ids,
         asked,
         callers,

@@ -1,4 +1,6 @@
 // What a frame's payload becomes: a request's on its way to the controller, a reply's on its way back.
+pub mod registers;
+
 ghost use mathlib.Core.Path.{_≡_};
 ghost use mathlib.Core.Bool.{false};
 ghost use Prim.Native.Nat.{ℕ};
@@ -26,10 +28,10 @@ fn send(frame: &mut [u8], asked: Asked, tags: &[u64; laws::MOST_TAGS], tagged: u
 {
     match asked {
         Asked::SingleWrite { address } => {
-            registers::rewrite(frame, SINGLE_BASE, address, 1, Way::ToBcd, tags, tagged)
+            crate::registers::rewrite(frame, SINGLE_BASE, address, 1, Way::ToBcd, tags, tagged)
         }
         Asked::MultipleWrite { start, quantity } => {
-            registers::rewrite(
+            crate::registers::rewrite(
                 frame,
                 MULTIPLE_BASE,
                 start,
@@ -59,12 +61,12 @@ fn bring(
     requires { ⌜ TagWords tagged (now tags) ⌝ }
     ensures { λ r. ⌜ ((unit : ℕ) → outcome (r .partial) (r .value) (now (frame .exit)) ≡ returned (tagsOf tagged (now (tags .entry))) (what unit function asked) (now (frame .entry))) ⌝ }
 {
-    if matching::is_exception(function, frame) {
+    if checking::matching::is_exception(function, frame) {
         return rewrite::NOT_RAW;
     }
     match asked {
         Asked::Read { start, quantity } => {
-            registers::rewrite(
+            crate::registers::rewrite(
                 frame,
                 READ_BASE,
                 start,
@@ -75,7 +77,7 @@ fn bring(
             )
         }
         Asked::SingleWrite { address } => {
-            registers::rewrite(frame, SINGLE_BASE, address, 1, Way::ToBinary, tags, tagged)
+            crate::registers::rewrite(frame, SINGLE_BASE, address, 1, Way::ToBinary, tags, tagged)
         }
         Asked::MultipleWrite {
             start: _,
@@ -102,7 +104,7 @@ pub fn forward(
     let n = frame.len();
     wire::copy(out, frame);
     let raw = send(&mut out[..n], asked, tags, tagged);
-    frames::lay_id(out, id.0);
+    wire::frames::lay_id(out, id.0);
     raw
 }
 
@@ -123,6 +125,6 @@ pub fn give_back(
     let n = frame.len();
     wire::copy(out, frame);
     let raw = bring(&mut out[..n], function, asked, tags, tagged);
-    frames::lay_id(out, 0);
+    wire::frames::lay_id(out, 0);
     raw
 }

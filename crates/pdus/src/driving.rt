@@ -3,7 +3,7 @@ ghost use Rattle.rewrite.specs.Lent.{TagWords};
 use pdu::Checked;
 use pdu::ProxyId;
 use rewrite::Raw;
-use tagwords::tag_word;
+use values::tagwords::tag_word;
 
 // The id that the proxy gives each request here.
 const ISSUED: u16 = 9;
@@ -28,7 +28,7 @@ pub fn send(frame: &[u8], out: &mut [u8]) -> Given {
     if out.len() < laws::FRAME_BUFFER {
         return Given::Refused(1);
     }
-    if frames::is_misframed(frame) {
+    if wire::frames::is_misframed(frame) {
         return Given::Refused(4);
     }
     let unit = wire::unit_of(frame);
@@ -38,7 +38,7 @@ pub fn send(frame: &[u8], out: &mut [u8]) -> Given {
         Checked::BadLength => Given::Refused(6),
         Checked::Excepted(code) => {
             let id = wire::pair_at(frame, 0);
-            frames::except(out, id, unit, function, code);
+            wire::frames::except(out, id, unit, function, code);
             let raw = Raw {
                 partial: 0,
                 value: 0,
@@ -58,10 +58,10 @@ pub fn bring(request: &[u8], reply: &[u8], out: &mut [u8]) -> Given {
     if out.len() < laws::FRAME_BUFFER {
         return Given::Refused(1);
     }
-    if frames::is_misframed(request) {
+    if wire::frames::is_misframed(request) {
         return Given::Refused(4);
     }
-    if frames::is_misframed(reply) {
+    if wire::frames::is_misframed(reply) {
         return Given::Refused(4);
     }
     let unit = wire::unit_of(request);
@@ -69,7 +69,7 @@ pub fn bring(request: &[u8], reply: &[u8], out: &mut [u8]) -> Given {
     let Checked::Legal(asked) = checking::check_request(request) else {
         return Given::Refused(7);
     };
-    if !matching::answers(unit, function, asked, reply) {
+    if !checking::matching::answers(unit, function, asked, reply) {
         return Given::Refused(8);
     }
     let tags = tag_words();

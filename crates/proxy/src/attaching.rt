@@ -71,7 +71,7 @@ pub fn detach<'a>(
     if is_stranger(*attached, client) {
         return Answer::Refused { number: 2 };
     }
-    striking::strike(counts, clients, originals, *top, client as u8);
+    moves::striking::strike(counts, clients, originals, *top, client as u8);
     *attached = *attached & !(1 << client);
     Answer::Done
 }

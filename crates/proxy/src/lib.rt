@@ -1,2 +1,3 @@
-// What a state in columns is, and the calls on one that carry no time: attach, detach, link lost.
+// What a state in columns is; a fresh one, and the calls on one that carry no time: attach, detach, link lost.
 pub mod attaching;
+pub mod making;

@@ -1,10 +1,10 @@
 // The reply over a state by value, for programs and tests.
-use calls::Stepped;
 use state::State;
+use state::calls::Stepped;
 ghost use Rattle.machine.specs.Calls.Call.{reply as replies};
 ghost use Rattle.proxy.specs.State.{lent, Sounds};
 ghost use Rattle.state.specs.States.{Made};
-ghost use Rattle.calls.specs.Stepped.{Served, Carried};
+ghost use Rattle.state.specs.Stepped.{Served, Carried};
 
 // The controller's reply, over columns by value.
 fn replied(
@@ -78,7 +78,7 @@ pub fn reply(s: State, time: u64, frame: &[u8], out: &mut [u8], list: &mut [u16]
     ensures { λ r. ⌜ Served s (replies time (now (frame .entry)) (now (out .entry)) (now (list .entry))) r (now (out .exit)) (now (list .exit)) ⌝ }
 {
     let entries = s.entries;
-    let c = calls::columns_of(entries);
+    let c = state::calls::columns_of(entries);
     let ids = c.ids;
     let asked = c.asked;
     let callers = c.callers;

@@ -34,7 +34,7 @@ fn reply_refusal(out: usize, list: usize, time: u64, clock: u64, frame: &[u8]) -
     if refused != 0 {
         return refused;
     }
-    if frames::is_misframed(frame) {
+    if wire::frames::is_misframed(frame) {
         return 4;
     }
     0
@@ -44,10 +44,10 @@ fn reply_refusal(out: usize, list: usize, time: u64, clock: u64, frame: &[u8]) -
 fn answers_word(word: u64, frame: &[u8]) -> bool
     ensures { λ r. ⌜ r ≡ answering (whatOf word) (now (frame .entry)) ⌝ }
 {
-    matching::answers(
-        words::unit_in(word),
-        words::function_in(word),
-        words::asked_in(word),
+    checking::matching::answers(
+        checking::words::unit_in(word),
+        checking::words::function_in(word),
+        checking::words::asked_in(word),
         frame,
     )
 }
@@ -65,8 +65,8 @@ fn write_reply(
     requires { ⌜ TagWords tagged (now tags) ⌝ }
     ensures { λ r. ⌜ rewritten (r .partial) (r .value) (now (out .exit)) ≡ under 0 (now (out .entry)) (returned (tagsOf tagged (now (tags .entry))) (whatOf word) (now (frame .entry))) ⌝ }
 {
-    let function = words::function_in(word);
-    let asked = words::asked_in(word);
+    let function = checking::words::function_in(word);
+    let asked = checking::words::asked_in(word);
     payloads::give_back(out, frame, function, asked, tags, tagged)
 }
 
@@ -100,7 +100,7 @@ pub fn reply<'a>(
     if refused != 0 {
         return Answer::Refused { number: refused };
     }
-    let place = finding::find(ids, *top as usize, pdu::proxy_of(frame));
+    let place = moves::finding::find(ids, *top as usize, pdu::proxy_of(frame));
     if place == laws::PLACES {
         return Answer::Refused { number: 7 };
     }
@@ -110,7 +110,7 @@ pub fn reply<'a>(
     }
     *clock = time;
     let id = table::id_at(ids, place);
-    let parties = ending::end_at(ids, counts, clients, originals, top, place, list);
+    let parties = moves::ending::end_at(ids, counts, clients, originals, top, place, list);
     let raw = write_reply(out, frame, word, tags, *tagged as usize);
     let length = frame.len() as u32;
     Answer::Answered {
@@ -152,18 +152,18 @@ pub fn tick<'a>(
         return Answer::Refused { number: refused };
     }
     *clock = time;
-    let place = finding::earliest(ids, deadlines, *top as usize, time);
+    let place = moves::finding::earliest(ids, deadlines, *top as usize, time);
     if place == laws::PLACES {
         return Answer::NothingDue;
     }
     let word = asked[place];
     let id = table::id_at(ids, place);
-    let parties = ending::end_at(ids, counts, clients, originals, top, place, list);
-    frames::except(
+    let parties = moves::ending::end_at(ids, counts, clients, originals, top, place, list);
+    wire::frames::except(
         out,
         0,
-        words::unit_in(word),
-        words::function_in(word),
+        checking::words::unit_in(word),
+        checking::words::function_in(word),
         laws::NO_RESPONSE,
     );
     Answer::TimedOut { id, parties }

@@ -9,18 +9,18 @@ use lib.ListN.{length}
 use lib.Dec.{ltb}
 use Rattle.laws.specs.Numbers.{mostText, mostFrame}
 use Rattle.laws.specs.Bytes.{over}
-use Rattle.splitting.specs.Splitting.{standingOf, firstFrame}
-use Rattle.splitting.specs.declared.Split.{Split}
-use Rattle.splitting.specs.declared.Split.the-variants.{Frame}
-use Rattle.splitting.proofs.SplittingLaws.{starts, first-size}
+use Rattle.wire.specs.Splitting.{standingOf, firstFrame}
+use Rattle.wire.specs.declared.splitting.Split.{Split}
+use Rattle.wire.specs.declared.splitting.Split.the-variants.{Frame}
+use Rattle.wire.proofs.SplittingLaws.{starts, first-size}
 use Rattle.settings.specs.Grammar.{Value, Read, newest, textIn, valid, readText}
 use Rattle.settings.specs.Grammar.Read.{got, wrong}
 use Rattle.settings.proofs.GrammarLaws.{wrong-lines, longest}
-use Rattle.reading.specs.declared.ReadText.{ReadText}
-use Rattle.writing.specs.declared.Wrote.{Wrote}
-use Rattle.writing.specs.declared.Wrote.the-variants.{Text, TooShort, Invalid}
-use Rattle.reading.specs.Reports.{reported}
-use Rattle.writing.specs.Reports.{Writing, writing, writtenTo}
+use Rattle.settingstext.specs.declared.reading.ReadText.{ReadText}
+use Rattle.settingstext.specs.declared.writing.Wrote.{Wrote}
+use Rattle.settingstext.specs.declared.writing.Wrote.the-variants.{Text, TooShort, Invalid}
+use Rattle.settingstext.specs.TextRead.{reported}
+use Rattle.settingstext.specs.TextWritten.{Writing, writing, writtenTo}
 use Rattle.machine.specs.Numbers.{isDone}
 use Rattle.machine.specs.declared.Report.{Report}
 use Rattle.reports.specs.Reports.{told, splitTold, settingsRead, readTold, textSeen, wroteTold, writeTold}

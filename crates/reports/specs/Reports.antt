@@ -2,15 +2,15 @@
 -- Assumes nothing.
 use Prim.Native.Nat.{ℕ}
 use mathlib.Core.List.{List}
-use Rattle.splitting.specs.declared.Split.{Split}
-use Rattle.splitting.specs.declared.Split.the-variants.{Frame, MoreNeeded, Refused}
+use Rattle.wire.specs.declared.splitting.Split.{Split}
+use Rattle.wire.specs.declared.splitting.Split.the-variants.{Frame, MoreNeeded, Refused}
 use Rattle.settings.specs.Grammar.{Value, Read}
 use Rattle.settings.specs.Grammar.Read.{got, wrong}
 use Rattle.settings.specs.Values.{settingsOf, usual}
 use Rattle.settings.specs.declared.Settings.{Settings}
-use Rattle.writing.specs.declared.Wrote.{Wrote}
-use Rattle.writing.specs.declared.Wrote.the-variants.{Text, TooShort, Invalid}
-use Rattle.writing.specs.Reports.{Writing}
+use Rattle.settingstext.specs.declared.writing.Wrote.{Wrote}
+use Rattle.settingstext.specs.declared.writing.Wrote.the-variants.{Text, TooShort, Invalid}
+use Rattle.settingstext.specs.TextWritten.{Writing}
 use Rattle.machine.specs.Numbers.{isDone}
 use Rattle.machine.specs.declared.Report.{Report}
 use Rattle.reports.specs.declared.SettingsRead.{SettingsRead}

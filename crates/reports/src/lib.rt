@@ -2,14 +2,14 @@
 use machine::DONE;
 use machine::Report;
 use settings::Settings;
-use splitting::Split;
-use writing::Wrote;
+use settingstext::writing::Wrote;
+use wire::splitting::Split;
 ghost use mathlib.Core.Path.{_≡_};
 ghost use lib.ListN.{length};
-ghost use Rattle.splitting.specs.Splitting.{standingOf, firstFrame};
+ghost use Rattle.wire.specs.Splitting.{standingOf, firstFrame};
 ghost use Rattle.settings.specs.Grammar.{readText};
 ghost use Rattle.settings.specs.Values.{valueOf};
-ghost use Rattle.writing.specs.Reports.{writtenTo};
+ghost use Rattle.settingstext.specs.TextWritten.{writtenTo};
 ghost use Rattle.reports.specs.Reports.{told, splitTold, readTold, textSeen, writeTold};
 
 // The outcomes' numbers beside the machine's: ZB_FRAME and ZB_MORE.
@@ -46,9 +46,9 @@ pub struct SettingsRead {
 pub fn split(run: &[u8]) -> Report
     ensures { λ r. ⌜ r ≡ splitTold (standingOf (now (run .entry))) (length (firstFrame (now (run .entry)))) ⌝ }
 {
-    match splitting::standing(run) {
+    match wire::splitting::standing(run) {
         Split::Frame => {
-            let size = splitting::first_frame(run).len();
+            let size = wire::splitting::first_frame(run).len();
             said(0, 0, FRAME, size as u32)
         }
         Split::MoreNeeded => said(0, 0, MORE, 0),
@@ -60,7 +60,7 @@ pub fn split(run: &[u8]) -> Report
 pub fn read(text: &[u8]) -> SettingsRead
     ensures { λ r. ⌜ r ≡ readTold (readText (now (text .entry))) ⌝ }
 {
-    let read = reading::read_text(text);
+    let read = settingstext::reading::read_text(text);
     let line = read.line;
     let settings = read.settings;
     if line == 0 {
@@ -75,7 +75,7 @@ pub fn read(text: &[u8]) -> SettingsRead
 pub fn write(from: Settings, text: &mut [u8]) -> Report
     ensures { λ r. ⌜ textSeen r (now (text .exit)) ≡ writeTold (writtenTo (valueOf from) (now (text .entry))) ⌝ }
 {
-    match writing::write_text(from, text) {
+    match settingstext::writing::write_text(from, text) {
         Wrote::Text(size) => said(0, 0, DONE, size as u32),
         Wrote::TooShort => said(1, 0, 0, 0),
         Wrote::Invalid => said(10, 0, 0, 0),

@@ -43,7 +43,7 @@ fn gate(out: usize, client: u32, attached: u32, time: u64, clock: u64, frame: &[
     if (laws::LATEST_TIME < time) | (time < clock) {
         return 3;
     }
-    if frames::is_misframed(frame) {
+    if wire::frames::is_misframed(frame) {
         return 4;
     }
     0
@@ -57,7 +57,7 @@ fn except_caller(out: &mut [u8], frame: &[u8], code: u8) -> Answer
     let id = pdu::original_of(frame);
     let unit = wire::unit_of(frame);
     let function = wire::function_of(frame);
-    frames::except(out, id.0, unit, function, code);
+    wire::frames::except(out, id.0, unit, function, code);
     Answer::Excepted { code }
 }
 
@@ -86,7 +86,7 @@ fn word_asked(frame: &[u8], what: Asked) -> u64
 {
     let unit = frame[laws::UNCOUNTED];
     let function = frame[laws::HEADER_SIZE];
-    words::word_of(unit, function, what)
+    checking::words::word_of(unit, function, what)
 }
 
 // Joins a request to the live request at an open place; no frame is written.
@@ -106,7 +106,7 @@ fn join_request<'a>(
         × Joined place (party client (idOf (now (frame .entry)))) (now (counts .entry)) (now (clients .entry)) (now (originals .entry)) (now (counts .exit)) (now (clients .exit)) (now (originals .exit)) ⌝ }
 {
     let original = pdu::original_of(frame);
-    changing::join(counts, clients, originals, place, client, original);
+    moves::changing::join(counts, clients, originals, place, client, original);
     let id = table::id_at(ids, place);
     Answer::Joined { id }
 }
@@ -142,10 +142,10 @@ fn issue_request<'a>(
         (λ m. issuedTo m client (now (frame .entry)) (now (out .entry)))
         (columns (now (ids .entry)) (now (asked .entry)) (now (callers .entry)) (now (deadlines .entry)) (now (counts .entry)) (now (clients .entry)) (now (originals .entry)) (now (top .entry))) (now (cursor .entry))) ⌝ }
 {
-    let id = finding::free_id(ids, *top as usize, ProxyId(*cursor));
+    let id = moves::finding::free_id(ids, *top as usize, ProxyId(*cursor));
     let deadline = time + timeout as u64;
     let original = pdu::original_of(frame);
-    changing::issue(
+    moves::changing::issue(
         ids,
         asked,
         callers,
@@ -202,7 +202,7 @@ fn serve<'a>(
         (columns (now (ids .entry)) (now (asked .entry)) (now (callers .entry)) (now (deadlines .entry)) (now (counts .entry)) (now (clients .entry)) (now (originals .entry)) (now (top .entry))) (now (cursor .entry)) ⌝ }
 {
     let word = word_asked(frame, what);
-    let seats = finding::find_seats(
+    let seats = moves::finding::find_seats(
         ids,
         asked,
         deadlines,

@@ -1,11 +1,11 @@
 // The request over a state by value, for programs and tests.
-use calls::Stepped;
 use state::State;
+use state::calls::Stepped;
 ghost use mathlib.Core.List.{[]};
 ghost use Rattle.machine.specs.Calls.Call.{request as asks};
 ghost use Rattle.proxy.specs.State.{lent, Sounds};
 ghost use Rattle.state.specs.States.{Made};
-ghost use Rattle.calls.specs.Stepped.{Served, Carried};
+ghost use Rattle.state.specs.Stepped.{Served, Carried};
 
 // A client's request, over columns by value.
 fn requested(
@@ -79,7 +79,7 @@ pub fn request(s: State, client: u32, time: u64, frame: &[u8], out: &mut [u8]) -
     ensures { λ r. ⌜ Served s (asks client time (now (frame .entry)) (now (out .entry))) r (now (out .exit)) [] ⌝ }
 {
     let entries = s.entries;
-    let c = calls::columns_of(entries);
+    let c = state::calls::columns_of(entries);
     let ids = c.ids;
     let asked = c.asked;
     let callers = c.callers;

@@ -1,8 +1,8 @@
 // The definitions of a rewriting, with their laws: the tags over a run of registers, rewritten in place, with both raw counts.
 ghost use mathlib.Core.Path.{_≡_};
 ghost use Rattle.settings.specs.TagWords.{tagOf, lastOf};
-use tagwords::tag_address;
-use tagwords::tag_kind;
+use values::tagwords::tag_address;
+use values::tagwords::tag_kind;
 
 // Which way a rewriting goes.
 pub enum Way {

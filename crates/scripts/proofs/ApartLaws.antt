@@ -9,10 +9,10 @@ use lib.Dec.{eqb}
 use borrow.Author.Tests.{eq-eqb, ne-eqb}
 use Rattle.laws.proofs.ListLaws.{getD-tab}
 use Rattle.settings.specs.Grammar.{readText}
-use Rattle.reading.specs.declared.ReadText.{ReadText}
-use Rattle.reading.specs.Reports.{reported}
-use Rattle.writing.specs.declared.Wrote.{Wrote}
-use Rattle.writing.specs.Reports.{Writing, writing}
+use Rattle.settingstext.specs.declared.reading.ReadText.{ReadText}
+use Rattle.settingstext.specs.TextRead.{reported}
+use Rattle.settingstext.specs.declared.writing.Wrote.{Wrote}
+use Rattle.settingstext.specs.TextWritten.{Writing, writing}
 use Rattle.parts.specs.Texts.{headOf}
 use Rattle.parts.specs.Said.{said, formed}
 use Rattle.parts.proofs.SaidLaws.{said-said}

@@ -7,17 +7,17 @@ use lib.ListN.{length, getD, take, drop, replicate}
 use lib.Dec.{eqb}
 use Rattle.laws.specs.Bytes.{over}
 use Rattle.laws.specs.Lists.{tab}
-use Rattle.splitting.specs.Splitting.{standingOf, firstFrame}
-use Rattle.splitting.specs.declared.Split.{Split}
-use Rattle.splitting.specs.declared.Split.the-variants.{Frame, MoreNeeded, Refused}
+use Rattle.wire.specs.Splitting.{standingOf, firstFrame}
+use Rattle.wire.specs.declared.splitting.Split.{Split}
+use Rattle.wire.specs.declared.splitting.Split.the-variants.{Frame, MoreNeeded, Refused}
 use Rattle.settings.specs.declared.Settings.{Settings}
 use Rattle.settings.specs.Grammar.{readText}
 use Rattle.settings.specs.Values.{valueOf}
-use Rattle.reading.specs.declared.ReadText.{ReadText}
-use Rattle.reading.specs.Reports.{reported}
-use Rattle.writing.specs.declared.Wrote.{Wrote}
-use Rattle.writing.specs.declared.Wrote.the-variants.{Text, TooShort, Invalid}
-use Rattle.writing.specs.Reports.{Writing, writtenTo}
+use Rattle.settingstext.specs.declared.reading.ReadText.{ReadText}
+use Rattle.settingstext.specs.TextRead.{reported}
+use Rattle.settingstext.specs.declared.writing.Wrote.{Wrote}
+use Rattle.settingstext.specs.declared.writing.Wrote.the-variants.{Text, TooShort, Invalid}
+use Rattle.settingstext.specs.TextWritten.{Writing, writtenTo}
 use Rattle.parts.specs.Texts.{headOf, bytesOf}
 use Rattle.parts.specs.Said.{formed}
 use Rattle.scripts.specs.Words.{letterOf, settingsIn, lengthIn}

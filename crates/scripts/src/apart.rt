@@ -17,10 +17,10 @@ use parts::head;
 use parts::hex::parse;
 use parts::saying::say;
 use parts::saying::say_form;
-use reading::ReadText;
 use settings::Settings;
-use splitting::Split;
-use writing::Wrote;
+use settingstext::reading::ReadText;
+use settingstext::writing::Wrote;
+use wire::splitting::Split;
 
 // What stands at the start of a run.
 fn say_standing(right: &[u8], standing: Split) -> usize
@@ -37,8 +37,8 @@ fn say_standing(right: &[u8], standing: Split) -> usize
 fn split_run(right: &[u8], run: &[u8]) -> usize
     ensures { λ r. ⌜ r ≡ said (now (right .entry)) 0 (runText (now (run .entry))) ⌝ }
 {
-    let at = say_standing(right, splitting::standing(run));
-    say_frame(right, at, splitting::first_frame(run))
+    let at = say_standing(right, wire::splitting::standing(run));
+    say_frame(right, at, wire::splitting::first_frame(run))
 }
 
 // The first frame of a run.
@@ -92,7 +92,7 @@ fn written(right: &[u8], from: Settings, lent: usize) -> usize
     ensures { λ r. ⌜ r ≡ said (now (right .entry)) 0 (writtenText from lent) ⌝ }
 {
     let mut buffer = [KEPT; 512];
-    let wrote = writing::write_text(from, &mut buffer[0..lent]);
+    let wrote = settingstext::writing::write_text(from, &mut buffer[0..lent]);
     told(right, wrote, &buffer)
 }
 
@@ -118,7 +118,7 @@ fn read(right: &[u8], bytes: &[u8]) -> usize
     ensures { λ r. ⌜ r ≡ said (now (right .entry)) 0 (textRead (now (bytes .entry))) ⌝ }
 {
     let lines = exchanged(bytes, b'/', b'\n');
-    let found = reading::read_text(before(&lines, bytes.len()));
+    let found = settingstext::reading::read_text(before(&lines, bytes.len()));
     if found.line == 0 {
         written(right, found.settings, 512)
     } else {

@@ -1,4 +1,6 @@
 // The state by value: a struct a live entry, the flat party arrays, cursor, clock, attached set and settings; spread into columns and gathered again.
+pub mod calls;
+
 use pdu::Entry;
 use pdu::ProxyId;
 ghost use mathlib.Core.Path.{_≡_};
@@ -42,7 +44,7 @@ fn number_of(p: Place) -> u32
 fn word_in(p: Place) -> u64
     ensures { λ r. ⌜ r ≡ wordIn p ⌝ }
 {
-    words::word_of_entry(p.entry)
+    checking::words::word_of_entry(p.entry)
 }
 
 // The id that a number in the column of ids stands for; 0 for a free place.
@@ -60,7 +62,7 @@ fn id_in(number: u32) -> ProxyId
 fn place_of(number: u32, word: u64, caller: u8, deadline: u64, count: u8) -> Place
     ensures { λ r. ⌜ r ≡ placeOf number word caller deadline count ⌝ }
 {
-    let entry = words::entry_of(id_in(number), word, deadline);
+    let entry = checking::words::entry_of(id_in(number), word, deadline);
     Place {
         live: number != 0,
         entry,

@@ -6,14 +6,14 @@ use parts::number;
 use parts::tally::Tally;
 use parts::tally::counted;
 use settings::Settings;
-use writing::Wrote;
+use settingstext::writing::Wrote;
 
 // How many bytes the text of a value takes in a buffer of which so many are lent: 0 where they are too few; on any other refusal the length of the longest, of which no byte is then written.
 fn written(s: Settings, buffer: &mut [u8], lent: usize) -> usize {
     if buffer.len() < lent {
         return laws::MOST_TEXT;
     }
-    match writing::write_text(s, &mut buffer[0..lent]) {
+    match settingstext::writing::write_text(s, &mut buffer[0..lent]) {
         Wrote::Text(size) => size,
         Wrote::TooShort => 0,
         Wrote::Invalid => laws::MOST_TEXT,
@@ -58,7 +58,7 @@ fn is_right(s: Settings, word: &[u8], text: &[u8]) -> bool {
 
 // Reads a text, of which the word tells the wrong line; one that comes out otherwise is printed.
 pub fn read(t: Tally, word: &[u8], text: &[u8]) -> Tally {
-    let found = reading::read_text(text);
+    let found = settingstext::reading::read_text(text);
     let right = is_right(found.settings, word, text);
     if right & (found.line as u64 == number(word, 0)) {
         return counted(t, 0);

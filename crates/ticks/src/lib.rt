@@ -1,10 +1,10 @@
 // The tick over a state by value, for programs and tests.
-use calls::Stepped;
 use state::State;
+use state::calls::Stepped;
 ghost use Rattle.machine.specs.Calls.Call.{tick as ticks};
 ghost use Rattle.proxy.specs.State.{lent, Sounds};
 ghost use Rattle.state.specs.States.{Made};
-ghost use Rattle.calls.specs.Stepped.{Served, Carried};
+ghost use Rattle.state.specs.Stepped.{Served, Carried};
 
 // Time goes on, over columns by value.
 fn ticked(
@@ -76,7 +76,7 @@ pub fn tick(s: State, time: u64, out: &mut [u8], list: &mut [u16]) -> Stepped
     ensures { λ r. ⌜ Served s (ticks time (now (out .entry)) (now (list .entry))) r (now (out .exit)) (now (list .exit)) ⌝ }
 {
     let entries = s.entries;
-    let c = calls::columns_of(entries);
+    let c = state::calls::columns_of(entries);
     let ids = c.ids;
     let asked = c.asked;
     let callers = c.callers;

@@ -1,4 +1,6 @@
-// Whether a settings value is valid, and whether two are equal.
+// Whether a settings value is valid, and whether two are equal; its tags as the words that the state keeps.
+pub mod tagwords;
+
 ghost use mathlib.Core.Path.{_≡_};
 ghost use mathlib.Core.Bool.{_&&_};
 ghost use mathlib.Core.List.{[], _∷_};

@@ -1,4 +1,7 @@
 // Frames on the wire: 16-bit numbers in bytes, the unit and the function of a frame, copying; what a frame, its refusal and an exception frame are.
+pub mod frames;
+pub mod splitting;
+
 ghost use mathlib.Core.Path.{_≡_};
 ghost use Prim.Native.Nat.{_+_, _<_, _≤_};
 ghost use lib.ListN.{length, getD};

@@ -4,11 +4,11 @@ use Prim.Native.Nat.{ℕ}
 use mathlib.Core.Path.{_≡_, ap, sym, _∙_}
 use mathlib.Core.List.{List}
 use lib.ListN.{length}
-use Rattle.splitting.specs.Splitting.{standingOf, firstFrame}
+use Rattle.wire.specs.Splitting.{standingOf, firstFrame}
 use Rattle.settings.specs.declared.Settings.{Settings}
 use Rattle.settings.specs.Grammar.{readText}
 use Rattle.settings.specs.Values.{valueOf}
-use Rattle.writing.specs.Reports.{writtenTo}
+use Rattle.settingstext.specs.TextWritten.{writtenTo}
 use Rattle.machine.specs.Calls.{Call}
 use Rattle.machine.specs.declared.Report.{Report}
 use Rattle.proxy.specs.State.{machineOf}

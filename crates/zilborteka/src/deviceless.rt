@@ -4,10 +4,10 @@ use reports::SettingsRead;
 use settings::Settings;
 ghost use mathlib.Core.Path.{_≡_};
 ghost use lib.ListN.{length};
-ghost use Rattle.splitting.specs.Splitting.{standingOf, firstFrame};
+ghost use Rattle.wire.specs.Splitting.{standingOf, firstFrame};
 ghost use Rattle.settings.specs.Grammar.{readText};
 ghost use Rattle.settings.specs.Values.{valueOf};
-ghost use Rattle.writing.specs.Reports.{writtenTo};
+ghost use Rattle.settingstext.specs.TextWritten.{writtenTo};
 ghost use Rattle.reports.specs.Reports.{splitTold, readTold, textSeen, writeTold};
 ghost use Rattle.device.specs.Device.{stateSize};
 

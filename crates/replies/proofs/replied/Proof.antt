@@ -1,6 +1,6 @@
 -- `replies::replied` meets its contract: the core serves the reply over the columns, and they are gathered.
 -- Assumes nothing.
-use Rattle.calls.proofs.CallLaws.{carried}
+use Rattle.state.proofs.CallLaws.{carried}
 use borrow.Author.Needs.{needs}
 use Rattle.replies.proofs.replied.Statement.{statement}
 use Rattle.replies.proofs.replied.Tie as tie

@@ -1,6 +1,6 @@
 -- `requests::requested` meets its contract: the core serves the request over the columns, and they are gathered.
 -- Assumes nothing.
-use Rattle.calls.proofs.CallLaws.{carried}
+use Rattle.state.proofs.CallLaws.{carried}
 use borrow.Author.Needs.{needs}
 use Rattle.requests.proofs.requested.Statement.{statement}
 use Rattle.requests.proofs.requested.Tie as tie

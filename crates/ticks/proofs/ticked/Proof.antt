@@ -1,6 +1,6 @@
 -- `ticks::ticked` meets its contract: the core serves the tick over the columns, and they are gathered.
 -- Assumes nothing.
-use Rattle.calls.proofs.CallLaws.{carried}
+use Rattle.state.proofs.CallLaws.{carried}
 use borrow.Author.Needs.{needs}
 use Rattle.ticks.proofs.ticked.Statement.{statement}
 use Rattle.ticks.proofs.ticked.Tie as tie

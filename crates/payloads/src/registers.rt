@@ -1,0 +1,150 @@
+// A run of registers in a buffer, rewritten in place by the tag words.
+ghost use mathlib.Core.Path.{_≡_};
+ghost use Prim.Native.Nat.{_+_, _*_, _≤_};
+ghost use mathlib.Core.List.{[], _∷_};
+ghost use lib.ListN.{length};
+ghost use Rattle.laws.specs.Search.{first};
+ghost use Rattle.bcd.specs.Bcd.{registers};
+ghost use Rattle.bcd.specs.Words.{wordsOf, numberOf};
+ghost use Rattle.settings.specs.TagWords.{tagOf};
+ghost use Rattle.rewrite.specs.Registers.{registersAt, laidAt};
+ghost use Rattle.rewrite.specs.Rewriting.{turned, outcome, rewriting};
+ghost use Rattle.rewrite.specs.Lent.{tagsOf, TagWords, Run, reaches, numberIn};
+use bcd::Decoded;
+use bcd::Encoded;
+use bcd::Kind;
+use rewrite::Raw;
+use rewrite::Turned;
+use rewrite::Way;
+use values::tagwords::tag_address;
+use values::tagwords::tag_kind;
+
+// How many values a register can hold.
+const WORDS: u32 = 65536;
+
+// What a tag that was left raw adds to the counts: one for partial cover, or one for its value.
+const RAW_PARTIAL: Raw = Raw {
+    partial: 1,
+    value: 0,
+};
+
+const RAW_VALUE: Raw = Raw {
+    partial: 0,
+    value: 1,
+};
+
+// The first tag that does not end before start.
+fn first_tag(tags: &[u64; laws::MOST_TAGS], tagged: usize, start: usize) -> usize
+    requires { ⌜ TagWords tagged (now tags) ⌝ }
+    ensures { λ r. ⌜ r ≡ first (reaches (now (tags .entry)) start) tagged ⌝ }
+{
+    let mut low: usize = 0;
+    let mut high = tagged;
+    while low < high {
+        let middle = low + (high - low) / 2;
+        if rewrite::last_of(tags[middle]) < start {
+            low = middle + 1;
+        } else {
+            high = middle;
+        }
+    }
+    low
+}
+
+// The number that a tag's registers from byte k on are.
+fn number_at(d: &[u8], k: usize, kind: Kind) -> u32
+    requires { ⌜ k + 2 * registers kind ≤ length (now d) ⌝ }
+    ensures { λ r. ⌜ r ≡ numberOf (registersAt k (registers kind) (now (d .entry))) ⌝ }
+{
+    let low = wire::pair_at(d, k) as u32;
+    if bcd::registers_of(kind) == 1 {
+        return low;
+    }
+    let high = wire::pair_at(d, k + 2) as u32;
+    low + WORDS * high
+}
+
+// Lays a number into a tag's registers from byte k on.
+fn lay_number(d: &mut [u8], k: usize, kind: Kind, n: u32)
+    requires { ⌜ k + 2 * registers kind ≤ length (now d) ⌝ }
+    ensures { λ r. ⌜ now (d .exit) ≡ laidAt k (wordsOf kind n) (now (d .entry)) ⌝ }
+{
+    if 1 < bcd::registers_of(kind) {
+        wire::put_at(d, k + 2, (n / WORDS) as u16);
+    }
+    wire::put_at(d, k, (n % WORDS) as u16);
+}
+
+// A tag's number, rewritten if its value allows.
+fn turn(way: Way, kind: Kind, n: u32) -> Turned
+    ensures { λ r. ⌜ numberIn r ≡ turned way kind n ⌝ }
+{
+    match way {
+        Way::ToBcd => match bcd::encode(kind, n) {
+            Encoded::Bcd(w) => Turned::Number(w),
+            Encoded::OutOfRange => Turned::LeftRaw,
+        },
+        Way::ToBinary => match bcd::decode(kind, n) {
+            Decoded::Binary(v) => Turned::Number(v),
+            Decoded::NoNumber => Turned::LeftRaw,
+        },
+    }
+}
+
+// One tag over a run of registers.
+fn one_tag(d: &mut [u8], base: usize, start: u16, quantity: u16, way: Way, word: u64) -> Raw
+    requires { ⌜ Run base start quantity (now d) ⌝ }
+    ensures { λ r. ⌜ outcome (r .partial) (r .value) (now (d .exit)) ≡ rewriting way base start quantity (tagOf word ∷ []) (now (d .entry)) ⌝ }
+{
+    let kind = tag_kind(word);
+    let address = tag_address(word) as usize;
+    let last = rewrite::last_of(word);
+    let from = start as usize;
+    let end = from + quantity as usize;
+    if (last < from) | (end <= address) {
+        return rewrite::NOT_RAW;
+    }
+    if (address < from) | (end <= last) {
+        return RAW_PARTIAL;
+    }
+    let k = base + 2 * (address - from);
+    let Turned::Number(n) = turn(way, kind, number_at(d, k, kind)) else {
+        return RAW_VALUE;
+    };
+    lay_number(d, k, kind, n);
+    rewrite::NOT_RAW
+}
+
+// Every tag over the run of registers from byte base on, those of the addresses from start on.
+pub fn rewrite(
+    d: &mut [u8],
+    base: usize,
+    start: u16,
+    quantity: u16,
+    way: Way,
+    tags: &[u64; laws::MOST_TAGS],
+    tagged: usize,
+) -> Raw
+    requires { ⌜ Run base start quantity (now d) ⌝ }
+    requires { ⌜ TagWords tagged (now tags) ⌝ }
+    ensures { λ r. ⌜ outcome (r .partial) (r .value) (now (d .exit)) ≡ rewriting way base start quantity (tagsOf tagged (now (tags .entry))) (now (d .entry)) ⌝ }
+{
+    let end = start as usize + quantity as usize;
+    let mut partial: u32 = 0;
+    let mut value: u32 = 0;
+    let mut i = first_tag(tags, tagged, start as usize);
+    while i < tagged {
+        let word = tags[i];
+        if end <= tag_address(word) as usize {
+            break;
+        }
+        let raw = one_tag(d, base, start, quantity, way, word);
+        partial += raw.partial;
+        value += raw.value;
+        i += 1;
+    }
+    Raw {
+        partial: partial,
+        value: value,
+    }
+}

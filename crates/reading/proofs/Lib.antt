@@ -1,4 +1,0 @@
-pub mod PlaceLaws
-pub mod AnswerLaws
-pub mod ListingLaws
-pub mod HeadLaws

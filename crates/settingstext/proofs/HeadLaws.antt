@@ -1,0 +1,103 @@
+-- The lines before the tags: each answer of the code's line reader is a step of reading the text.
+-- Assumes nothing.
+use Prim.Native.Nat.{ℕ, _-_, _≤_}
+use mathlib.Core.Path.{_≡_, refl, ap, sym, _∙_}
+use mathlib.Core.Logic.{⊎-elim}
+use mathlib.Core.Bool.{true, false}
+use mathlib.Core.Option.{Option, some, none, Option·some-ne-none}
+use mathlib.Core.List.{List, [], _∷_, _++_}
+use native.Mathlib.Omega.{arith}
+use lib.ListN.{length, drop}
+use lib.Dec.{leb, eqb}
+use borrow.Author.Tests.{le-leb, leb-true, eq-eqb, eqb-true}
+use Rattle.laws.specs.Numbers.{newestVersion, leastTimeout, mostTimeout, mostTags}
+use Rattle.laws.proofs.Choice.{true-or, and-left, and-right, same-test}
+use Rattle.settings.specs.Lines.{Numbered, equals, lineIn}
+use Rattle.settings.specs.Grammar.{Line, line, versionKey, timeoutKey, joinKey, tagsKey, rightTimeout, rightJoin, rightTags, newest, versionIn, readLines, readIn, readText, readBehind, kept}
+use Rattle.settings.specs.Grammar.Read.{wrong}
+use Rattle.settingstext.specs.declared.reading.LineRead.{LineRead}
+use Rattle.settingstext.specs.declared.reading.LineRead.the-variants.{Numbered as numberedAt, Wrong}
+use Rattle.settingstext.specs.Reading.{lineBehind, within, placed}
+use Rattle.settings.proofs.RowLaws.{kept-rule}
+use Rattle.settings.proofs.VersionLaws.{text-version, text-head}
+use Rattle.settingstext.proofs.AnswerLaws.{unplaced, replaced, placed-inside, key-line, line-placed, read-stop, read-step}
+
+-- the answer of the code's line reader
+abbrev pub asked : List ℕ → ℕ → List ℕ → ℕ → ℕ → LineRead
+asked text at key least most = placed text (kept (within least most) (lineBehind (key ++ (equals ∷ [])) (drop at text)))
+
+abbrev timeoutLine : Line
+timeoutLine = line timeoutKey (λ prior own n. rightTimeout n)
+
+abbrev joinLine : Line
+joinLine = line joinKey (λ prior own n. rightJoin n)
+
+abbrev tagsLine : Line
+tagsLine = line tagsKey (λ prior own n. rightTags n)
+
+-- the version's rule is a range of one number
+version-rule : (n : ℕ) → within newestVersion newestVersion n ≡ eqb newestVersion n
+version-rule n =
+    same-test _ _
+    (λ t. eq-eqb newestVersion n (omega (arith, leb-true newestVersion n (and-left (leb newestVersion n) _ t), leb-true n newestVersion (and-right (leb newestVersion n) _ t))))
+    (λ t. let e : n ≡ newestVersion = sym (eqb-true newestVersion n t) in rw e)
+
+from-zero : (most n : ℕ) → within 0 most n ≡ leb n most
+from-zero most n = rw (le-leb 0 n (omega arith))
+
+pub version-stop : (text : List ℕ) → Wrong ≡ asked text 0 versionKey newestVersion newestVersion → readText text ≡ wrong 1
+unfolding readText versionIn kept
+version-stop text e = go (lineIn versionKey text) refl
+  where
+    unkept : kept (within newestVersion newestVersion) (lineIn versionKey text) ≡ none
+    unkept = unplaced text _ (e ∙ ap (λ o. placed text (kept (within newestVersion newestVersion) o)) (key-line versionKey text))
+
+    go : (o : Option Numbered) → lineIn versionKey text ≡ o → readText text ≡ wrong 1
+    go none q = rw (q, readText)
+    go (some x) q =
+        ⊎-elim
+        (λ (t : within newestVersion newestVersion (x .number) ≡ true). absurd (Option·some-ne-none x (rw (q, t) at unkept)))
+        (λ (t : within newestVersion newestVersion (x .number) ≡ false). rw (q, readText) (rw (sym (version-rule (x .number)) ∙ t)))
+        (true-or (within newestVersion newestVersion (x .number)))
+
+pub version-read : (text : List ℕ) (n second : ℕ) → numberedAt n second ≡ asked text 0 versionKey newestVersion newestVersion → readText text ≡ readIn newest (drop second text)
+unfolding versionIn
+version-read text n second e =
+    let x = replaced text n second _ (e ∙ ap (λ o. placed text (kept (within newestVersion newestVersion) o)) (key-line versionKey text)) in
+    go (x .0) (kept-rule (within newestVersion newestVersion) (lineIn versionKey text) (x .0) (x .1)) (x .3)
+  where
+    go : (x : Numbered) → (lineIn versionKey text ≡ some x) × (within newestVersion newestVersion (x .number) ≡ true) → second ≡ length text - length (x .rest) → readText text ≡ readIn newest (drop second text)
+    go x k p =
+        text-version text x newest (k .0) (rw (sym (version-rule (x .number)) ∙ k .1))
+        ∙ ap (readIn newest) (sym (rw p (line-placed versionKey text 0 x (omega arith) (k .0))))
+
+-- the three lines behind the version line
+module _ (text : List ℕ) (start : ℕ) (inside : start ≤ length text) where
+  head-wrong : (k : ℕ) → readLines 2 (newest .head) [] [] (drop start text) ≡ wrong k → readIn newest (drop start text) ≡ wrong k
+  unfolding readIn
+  head-wrong k e = rw (e, readIn)
+
+  pub timeout-stop : Wrong ≡ asked text start timeoutKey leastTimeout mostTimeout → readIn newest (drop start text) ≡ wrong 2
+  timeout-stop e = head-wrong 2 (read-stop text start 2 timeoutLine (joinLine ∷ tagsLine ∷ []) [] [] (within leastTimeout mostTimeout) (λ m. refl) e)
+
+  module _ (timeout third : ℕ) (first : numberedAt timeout third ≡ asked text start timeoutKey leastTimeout mostTimeout) where
+    timeout-read : readLines 2 (newest .head) [] [] (drop start text) ≡ readLines 3 (joinLine ∷ tagsLine ∷ []) [] (timeout ∷ []) (drop third text)
+    timeout-read = read-step text start 2 timeoutLine (joinLine ∷ tagsLine ∷ []) [] [] (within leastTimeout mostTimeout) (λ m. refl) timeout third inside first
+
+    pub join-stop : Wrong ≡ asked text third joinKey 0 1 → readIn newest (drop start text) ≡ wrong 3
+    join-stop e = head-wrong 3 (timeout-read ∙ read-stop text third 3 joinLine (tagsLine ∷ []) [] (timeout ∷ []) (within 0 1) (from-zero 1) e)
+
+    module _ (join fourth : ℕ) (second : numberedAt join fourth ≡ asked text third joinKey 0 1) where
+      join-read : readLines 2 (newest .head) [] [] (drop start text) ≡ readLines 4 (tagsLine ∷ []) [] (timeout ∷ join ∷ []) (drop fourth text)
+      join-read =
+          timeout-read
+          ∙ read-step text third 3 joinLine (tagsLine ∷ []) [] (timeout ∷ []) (within 0 1) (from-zero 1) join fourth (placed-inside text timeout third _ first) second
+
+      pub tags-stop : Wrong ≡ asked text fourth tagsKey 0 mostTags → readIn newest (drop start text) ≡ wrong 4
+      tags-stop e = head-wrong 4 (join-read ∙ read-stop text fourth 4 tagsLine [] [] (timeout ∷ join ∷ []) (within 0 mostTags) (from-zero mostTags) e)
+
+      pub head-read : (tags next : ℕ) → numberedAt tags next ≡ asked text fourth tagsKey 0 mostTags → readIn newest (drop start text) ≡ readBehind newest (timeout ∷ join ∷ tags ∷ []) (drop next text)
+      unfolding readLines
+      head-read tags next e =
+          text-head newest (drop start text) (timeout ∷ join ∷ tags ∷ []) (drop next text)
+          (join-read ∙ read-step text fourth 4 tagsLine [] [] (timeout ∷ join ∷ []) (within 0 mostTags) (from-zero mostTags) tags next (placed-inside text join fourth _ second) e)

@@ -1,0 +1,5 @@
+pub mod PlaceLaws
+pub mod AnswerLaws
+pub mod ListingLaws
+pub mod HeadLaws
+pub mod WritingLaws

@@ -1,0 +1,132 @@
+-- The turns of the loop over the tags: what has been read stands in the settings, and what is left is read from the place on.
+-- Assumes nothing.
+use Prim.Native.Nat.{ℕ, suc, _+_, _*_, _-_, _/_, _≤_, _<_}
+use mathlib.Core.Path.{_≡_, refl, ap, sym, _∙_}
+use mathlib.Core.Logic.{⊎-elim}
+use mathlib.Core.Bool.{false}
+use mathlib.Core.List.{List, [], _∷_, _++_, map, map-append, append-nil}
+use native.Mathlib.Omega.{arith}
+use lib.ListN.{length, drop, set, length-map, length-append, length-drop}
+use lib.Seq.{drop-length}
+use lib.Dec.{eqb}
+use borrow.Author.Tests.{ne-eqb}
+use Rattle.laws.specs.Numbers.{mostTags}
+use Rattle.settings.specs.Grammar.{Tag, Value, Read, newest, readLines, readTags, readBehind}
+use Rattle.settings.specs.Grammar.Read.{got, wrong}
+use Rattle.settings.specs.Values.{padded, settingsOf}
+use Rattle.settingstext.specs.TextRead.{reported}
+use Rattle.settingstext.specs.Reading.{lowest, placedTag}
+use Rattle.settings.specs.declared.Settings.{Settings}
+use Rattle.settingstext.specs.declared.reading.ReadText.{ReadText}
+use Rattle.settingstext.specs.declared.reading.TagRead.the-variants.{Tagged, WrongAt}
+use Rattle.laws.proofs.ListLaws.{set-padded}
+use Rattle.settings.proofs.RowLaws.{onto, onto-onto, tag-wrong, tag-right}
+use Rattle.settings.proofs.VersionLaws.{text-tags}
+use Rattle.settingstext.proofs.AnswerLaws.{untagged, tagged}
+
+-- settings of so many tags, of which these were read
+abbrev pub settled : ℕ → ℕ → ℕ → List Tag → Settings
+settled timeout join count ts =
+    record { timeout = timeout; join = join; tags = count; addr = padded (map (λ (t : Tag). t .address) ts); width = padded (map (λ (t : Tag). t .width) ts) }
+
+pub record Listed (text rest : List ℕ) (timeout join count k at number least : ℕ) (s : Settings) : Type 0 where
+  pub tags : List Tag
+  pub prior : List ℕ
+  pub size : length tags ≡ k
+  pub few : k ≤ count
+  pub inside : at ≤ length text
+  pub line : number ≡ 5 + 2 * k
+  pub low : least ≡ lowest prior
+  pub left : readTags count 5 (newest .tag) [] rest ≡ onto tags (readTags (count - k) number (newest .tag) prior (drop at text))
+  pub held : s ≡ settled timeout join count tags
+
+onto-none : (o : Read (List Tag)) → onto [] o ≡ o
+unfolding onto
+onto-none (got us r) = refl
+onto-none (wrong k) = refl
+
+pub listed-none : (text : List ℕ) (start timeout join count : ℕ) → start ≤ length text → Listed text (drop start text) timeout join count 0 start 5 0 (settled timeout join count [])
+unfolding lowest
+listed-none text start timeout join count h =
+    let e : count - 0 ≡ count = omega arith in
+    record { tags = []; prior = []; size = refl; few = omega arith; inside = h; line = refl; low = refl; left = rw e (sym (onto-none _)); held = refl }
+
+column-more : (f : Tag → ℕ) (ts : List Tag) (t : Tag) (k : ℕ) → length ts ≡ k → k < mostTags → set (padded (map f ts)) k (f t) ≡ padded (map f (ts ++ (t ∷ [])))
+column-more f ts t k e h =
+    let n : length (map f ts) ≡ k = length-map ts f ∙ e in
+    rw (map-append f ts (t ∷ []), ← n) (set-padded 0 (f t) (map f ts) mostTags (omega arith))
+
+abbrev pub stored : Settings → ℕ → ℕ → ℕ → Settings
+stored s k address width = record { timeout = s .timeout; join = s .join; tags = s .tags; addr = set (s .addr) k address; width = set (s .width) k width }
+
+columns-more : (timeout join count : ℕ) (ts : List Tag) (t : Tag) (k : ℕ) → length ts ≡ k → k < mostTags → stored (settled timeout join count ts) k (t .address) (t .width) ≡ settled timeout join count (ts ++ (t ∷ []))
+columns-more timeout join count ts t k e h =
+    λ i. record {
+      timeout = timeout;
+      join = join;
+      tags = count;
+      addr = column-more (λ (u : Tag). u .address) ts t k e h i;
+      width = column-more (λ (u : Tag). u .width) ts t k e h i;
+    }
+
+abbrev pub right : Settings → ReadText
+right s = record { line = 0; settings = s }
+
+module _ (text rest : List ℕ) (timeout join count k at number least : ℕ) (s : Settings) (l : Listed text rest timeout join count k at number least s) where
+  abbrev whole : Read Value
+  whole = readBehind newest (timeout ∷ join ∷ count ∷ []) rest
+
+  module _ (more : k < count) where
+    one-left : count - k ≡ suc (count - (k + 1))
+    one-left = omega arith
+
+    pub listed-stop : (j : ℕ) → WrongAt j ≡ placedTag text (readLines number (newest .tag) (l .prior) [] (drop at text)) → whole ≡ wrong j
+    unfolding onto readBehind
+    listed-stop j e =
+        let t = tag-wrong (count - (k + 1)) number (newest .tag) (l .prior) (drop at text) j (untagged text j _ e) in
+        let all : readTags count 5 (newest .tag) [] rest ≡ wrong j = l .left ∙ rw (one-left, t) in
+        rw (all, readBehind)
+
+    pub listed-more : count ≤ mostTags → (address width next : ℕ) → Tagged address width next ≡ placedTag text (readLines number (newest .tag) (l .prior) [] (drop at text))
+        → Listed text rest timeout join count (k + 1) next (number + 2) (address + width / 16) (stored s k address width)
+    unfolding lowest
+    listed-more h address width next e =
+        let t = tagged text (l .prior) at number address width next (l .inside) e in
+        let tag : Tag = record { address = address; width = width } in
+        let low : address + width / 16 ≡ lowest (address ∷ width ∷ []) = ⊎-elim (λ (w : width ≡ 16). rw w) (λ (w : width ≡ 32). rw w (omega arith)) (t .fit) in
+        record {
+          tags = l .tags ++ (tag ∷ []);
+          prior = address ∷ width ∷ [];
+          size = omega (arith, length-append (l .tags) (tag ∷ []), l .size);
+          few = omega arith;
+          inside = t .inside;
+          line = omega (arith, l .line);
+          low = low;
+          left =
+              l .left
+              ∙ ap (onto (l .tags)) (rw one-left (tag-right (count - (k + 1)) number (newest .tag) (l .prior) (drop at text) (address ∷ width ∷ []) (drop next text) (t .read)))
+              ∙ onto-onto (l .tags) (tag ∷ []) _;
+          held = ap (λ (x : Settings). stored x k address width) (l .held) ∙ columns-more timeout join count (l .tags) tag k (l .size) (omega arith);
+        }
+
+  module _ (all : count ≤ k) where
+    listed-all : readTags count 5 (newest .tag) [] rest ≡ got (l .tags) (drop at text)
+    unfolding onto readTags
+    listed-all =
+        let e : count - k ≡ 0 = omega arith in
+        l .left ∙ rw e (ap (λ ts. got ts (drop at text)) (append-nil (l .tags)))
+
+    pub listed-done : at ≡ length text → right s ≡ reported whole
+    unfolding reported settingsOf
+    listed-done e =
+        let q : drop at text ≡ [] = rw e (drop-length text) in
+        let v = text-tags newest (timeout ∷ join ∷ count ∷ []) rest (l .tags) (rw q at listed-all) in
+        let n : length (l .tags) ≡ count = omega (arith, l .size, l .few) in
+        ap right (l .held ∙ ap (λ (m : ℕ). settled timeout join m (l .tags)) (sym n)) ∙ sym (ap reported v)
+
+    pub listed-extra : (at ≡ length text → ⊥) → whole ≡ wrong number
+    unfolding readBehind
+    listed-extra d =
+        let e : eqb (length (drop at text)) 0 ≡ false = ne-eqb (length (drop at text)) 0 (λ z. omega (arith, length-drop at text, l .inside, d)) in
+        let n : 5 + 2 * length (l .tags) ≡ number = omega (arith, l .size, l .line) in
+        rw (listed-all, readBehind) (rw e (ap wrong n))

@@ -1,0 +1,4 @@
+pub mod TextRead
+pub mod Reading
+pub mod TextWritten
+pub mod Parts

@@ -1,0 +1,55 @@
+-- What each function of the reader answers for a place in a text: a line's number, or a tag's numbers, with the place behind it.
+-- Assumes nothing.
+use Prim.Native.Nat.{ℕ, _+_, _-_, min}
+use mathlib.Core.Bool.{Bool, true, false, _&&_}
+use mathlib.Core.Option.{Option, some, none}
+use mathlib.Core.List.{List, [], _∷_}
+use lib.ListN.{length, getD, replicate}
+use lib.Dec.{leb}
+use Rattle.laws.specs.Numbers.{mostTags}
+use Rattle.settings.specs.Lines.{Numbered, behind, numberIn}
+use Rattle.settings.specs.Grammar.{Read, lastRegister}
+use Rattle.settings.specs.Grammar.Read.{got, wrong}
+use Rattle.settings.specs.declared.Settings.{Settings}
+use Rattle.settingstext.specs.declared.reading.LineRead.{LineRead}
+use Rattle.settingstext.specs.declared.reading.LineRead.the-variants.{Numbered as numberedAt, Wrong}
+use Rattle.settingstext.specs.declared.reading.TagRead.{TagRead}
+use Rattle.settingstext.specs.declared.reading.TagRead.the-variants.{Tagged, WrongAt}
+
+-- the code's numbers stay here: above every number that a line may have
+abbrev pub ceiling : ℕ
+ceiling = 1000000
+
+unfoldable pub capped : Option Numbered → Option Numbered
+capped none = none
+capped (some x) = some (record { number = min (x .number) ceiling; rest = x .rest })
+
+-- whether there is something behind a beginning; and the number there
+unfoldable pub found : Option (List ℕ) → Bool
+found none = false
+found (some r) = true
+
+unfoldable pub lineBehind : List ℕ → List ℕ → Option Numbered
+lineBehind key t = elim (behind key t) [ none ↦ none | some r ↦ numberIn r ]
+
+-- a rule that is a range
+abbrev pub within : ℕ → ℕ → ℕ → Bool
+within least most n = leb least n && leb n most
+
+-- the lowest address behind a tag, if there is one
+unfoldable pub lowest : List ℕ → ℕ
+lowest [] = 0
+lowest (a ∷ ns) = lastRegister (a ∷ ns) + 1
+
+-- what was read, with the place in the text where the rest begins
+unfoldable pub placed : List ℕ → Option Numbered → LineRead
+placed text none = Wrong
+placed text (some x) = numberedAt (x .number) (length text - length (x .rest))
+
+unfoldable pub placedTag : List ℕ → Read (List ℕ) → TagRead
+placedTag text (wrong k) = WrongAt k
+placedTag text (got ns r) = Tagged (getD ns 0 0) (getD ns 1 0) (length text - length r)
+
+-- settings whose tag places are all 0
+abbrev pub blankOf : ℕ → ℕ → ℕ → Settings
+blankOf timeout join tags = record { timeout = timeout; join = join; tags = tags; addr = replicate mostTags 0; width = replicate mostTags 0 }

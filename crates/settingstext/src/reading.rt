@@ -1,0 +1,220 @@
+// From a settings text to the value: forward, each byte once.
+ghost use mathlib.Core.Path.{_≡_};
+ghost use mathlib.Core.List.{List, [], _∷_};
+ghost use Prim.Native.Nat.{ℕ, _+_, _*_, _-_, _≤_, _<_, min};
+ghost use lib.ListN.{length, drop};
+ghost use Rattle.laws.specs.Numbers.{mostTags};
+ghost use Rattle.settings.specs.Lines.{behind, numberIn};
+ghost use Rattle.settings.specs.Grammar.{newest, readLines, readBehind, readIn, readText};
+ghost use Rattle.settings.specs.Grammar.Read.{wrong};
+ghost use Rattle.settingstext.specs.TextRead.{reported};
+ghost use Rattle.settings.specs.Grammar.{kept};
+ghost use Rattle.settingstext.specs.Reading.{ceiling, found, capped, placed, within, lineBehind, lowest, placedTag, blankOf};
+use settings::Settings;
+
+// What reading a text comes to: line 0 and the value, or the first wrong line and the usual value.
+#[repr(C)]
+pub struct ReadText {
+    pub line: u32,
+    pub settings: Settings,
+}
+
+// A longer number stays here: above every number that a line may have.
+const CEILING: u32 = 1000000;
+
+// A line's number and the place behind the line; or that the line is wrong.
+pub enum LineRead {
+    Numbered(u32, usize),
+    Wrong,
+}
+
+// A tag's address and width and the place behind its lines; or the number of its wrong line.
+pub enum TagRead {
+    Tagged(u32, u32, usize),
+    WrongAt(u32),
+}
+
+// Whether these bytes stand at a place.
+fn begins(text: &[u8], at: usize, key: &[u8]) -> bool
+    requires { ⌜ at ≤ length (now text) ⌝ }
+    ensures { λ r. ⌜ r ≡ found (behind (now (key .entry)) (drop at (now (text .entry)))) ⌝ }
+{
+    let mut i = 0;
+    while i < key.len() {
+        let place = at + i;
+        if text.len() <= place {
+            return false;
+        }
+        if text[place] != key[i] {
+            return false;
+        }
+        i += 1;
+    }
+    true
+}
+
+// A number with one more digit.
+fn grown(number: u32, digit: u8) -> u32
+    requires { ⌜ (number ≤ ceiling) × (48 ≤ digit) × (digit ≤ 57) ⌝ }
+    ensures { λ r. ⌜ r ≡ min (number * 10 + (digit - 48)) ceiling ⌝ }
+{
+    let sum = number * 10 + (digit - b'0') as u32;
+    if sum < CEILING { sum } else { CEILING }
+}
+
+// The number whose digits begin at a place, if an LF ends it. A digit behind a single zero makes that a leading zero.
+fn number_at(text: &[u8], at: usize) -> LineRead
+    ensures { λ r. ⌜ r ≡ placed (now (text .entry)) (capped (numberIn (drop at (now (text .entry))))) ⌝ }
+{
+    let mut number: u32 = 0;
+    let mut next = at;
+    while next < text.len() {
+        let byte = text[next];
+        if (byte == b'\n') & (next != at) {
+            return LineRead::Numbered(number, next + 1);
+        }
+        if (byte < b'0') | (b'9' < byte) | ((number == 0) & (next != at)) {
+            return LineRead::Wrong;
+        }
+        number = grown(number, byte);
+        next += 1;
+    }
+    LineRead::Wrong
+}
+
+// The line with this key at a place, if its number is one of least to most.
+fn line_at(text: &[u8], at: usize, key: &[u8], least: u32, most: u32) -> LineRead
+    requires { ⌜ (at ≤ length (now text)) × (most < ceiling) ⌝ }
+    ensures { λ r. ⌜ r ≡ placed (now (text .entry)) (kept (within least most) (lineBehind (now (key .entry)) (drop at (now (text .entry))))) ⌝ }
+{
+    if !begins(text, at, key) {
+        return LineRead::Wrong;
+    }
+    let LineRead::Numbered(number, next) = number_at(text, at + key.len()) else {
+        return LineRead::Wrong;
+    };
+    if (least <= number) & (number <= most) {
+        LineRead::Numbered(number, next)
+    } else {
+        LineRead::Wrong
+    }
+}
+
+// The two lines of a tag whose address is at least `least`.
+fn tag_at(text: &[u8], at: usize, line: u32, least: u32) -> TagRead
+    requires { ⌜ (at ≤ length (now text)) × (line < ceiling) ⌝ }
+    ensures { λ r. ⌜ ((prior : List ℕ) → least ≡ lowest prior → r ≡ placedTag (now (text .entry)) (readLines line (newest .tag) prior [] (drop at (now (text .entry))))) ⌝ }
+{
+    let LineRead::Numbered(address, second) = line_at(
+        text,
+        at,
+        b"addr=",
+        least,
+        laws::ADDRESSES - 1,
+    ) else {
+        return TagRead::WrongAt(line);
+    };
+    let LineRead::Numbered(width, next) = line_at(text, second, b"width=", 16, 32) else {
+        return TagRead::WrongAt(line + 1);
+    };
+    if (width == 16) | ((width == 32) & (address + 1 < laws::ADDRESSES)) {
+        TagRead::Tagged(address, width, next)
+    } else {
+        TagRead::WrongAt(line + 1)
+    }
+}
+
+// Settings whose tag places are all 0.
+fn blank(timeout: u32, join: u32, tags: u32) -> Settings
+    ensures { λ r. ⌜ r ≡ blankOf timeout join tags ⌝ }
+{
+    Settings {
+        timeout,
+        join,
+        tags,
+        addr: [0; laws::MOST_TAGS],
+        width: [0; laws::MOST_TAGS],
+    }
+}
+
+// A wrong line, with the usual value.
+fn wrong_at(line: u32) -> ReadText
+    ensures { λ r. ⌜ r ≡ reported (wrong line) ⌝ }
+{
+    let settings = blank(laws::USUAL_TIMEOUT, 1, 0);
+    ReadText { line, settings }
+}
+
+// The tags behind the four lines before them, and the end of the text.
+fn read_behind(text: &[u8], start: usize, timeout: u32, join: u32, tags: u32) -> ReadText
+    requires { ⌜ (start ≤ length (now text)) × (tags ≤ mostTags) ⌝ }
+    ensures { λ r. ⌜ r ≡ reported (readBehind newest (timeout ∷ join ∷ tags ∷ []) (drop start (now (text .entry)))) ⌝ }
+{
+    let mut settings = blank(timeout, join, tags);
+    let count = tags as usize;
+    let mut at = start;
+    let mut line: u32 = 5;
+    let mut least: u32 = 0;
+    let mut k = 0;
+    while k < count {
+        match tag_at(text, at, line, least) {
+            TagRead::WrongAt(first) => {
+                return wrong_at(first);
+            }
+            TagRead::Tagged(address, width, next) => {
+                settings.addr[k] = address as u16;
+                settings.width[k] = width as u16;
+                // One register for each 16 bits.
+                least = address + width / 16;
+                at = next;
+            }
+        }
+        line += 2;
+        k += 1;
+    }
+    if at == text.len() {
+        ReadText { line: 0, settings }
+    } else {
+        wrong_at(line)
+    }
+}
+
+// The lines behind the version line.
+fn read_in(text: &[u8], start: usize) -> ReadText
+    requires { ⌜ start ≤ length (now text) ⌝ }
+    ensures { λ r. ⌜ r ≡ reported (readIn newest (drop start (now (text .entry)))) ⌝ }
+{
+    let LineRead::Numbered(timeout, third) = line_at(
+        text,
+        start,
+        b"timeout=",
+        laws::LEAST_TIMEOUT,
+        laws::MOST_TIMEOUT,
+    ) else {
+        return wrong_at(2);
+    };
+    let LineRead::Numbered(join, fourth) = line_at(text, third, b"join=", 0, 1) else {
+        return wrong_at(3);
+    };
+    let LineRead::Numbered(tags, next) = line_at(text, fourth, b"tags=", 0, laws::MOST_TAGS as u32)
+    else {
+        return wrong_at(4);
+    };
+    read_behind(text, next, timeout, join, tags)
+}
+
+// The value that a text is, or its first wrong line with the usual value.
+pub fn read_text(text: &[u8]) -> ReadText
+    ensures { λ r. ⌜ r ≡ reported (readText (now (text .entry))) ⌝ }
+{
+    let LineRead::Numbered(_, next) = line_at(
+        text,
+        0,
+        b"version=",
+        laws::NEWEST_VERSION,
+        laws::NEWEST_VERSION,
+    ) else {
+        return wrong_at(1);
+    };
+    read_in(text, next)
+}

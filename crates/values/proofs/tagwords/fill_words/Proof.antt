@@ -1,0 +1,29 @@
+-- `values::tagwords::fill_words` meets its contract: the words of the tags stand in their places, and 0 in the places behind.
+-- Assumes nothing.
+use Prim.Native.Nat.{_-_}
+use native.Mathlib.Omega.{arith}
+use Rattle.settings.proofs.TagLaws.{Worded, worded-none, worded-more, worded-all}
+use borrow.Author.Needs.{needs}
+use Rattle.values.proofs.tagwords.fill_words.Statement.{statement}
+use Rattle.values.proofs.tagwords.fill_words.Tie as tie
+
+abbrev Inv-loop : tie.InvT-loop
+Inv-loop words₀ s k₀ words k = Worded s words k
+
+abbrev μ-loop : tie.MeasureT-loop
+μ-loop words₀ s k₀ words k = s .tags - k
+
+loop-holds : tie.Need-loop-holds Inv-loop μ-loop
+loop-holds c = worded-none (c .before .args .t1) (c .before .pre)
+
+loop-again : tie.Need-loop-again Inv-loop μ-loop
+loop-again c = worded-more (omega arith) (c .before .before .before .before .loop .inv) (c .tag-word .ensures)
+
+returns : tie.Need-returns Inv-loop μ-loop
+returns c = worded-all (omega arith) (c .before .loop .inv)
+
+pub fill-words-spec : {M : Type 1} → statement M
+fill-words-spec =
+    tie.close
+    (tie.spec Inv-loop μ-loop loop-holds (λ c. search needs) (λ c. search needs) (λ c. search needs) (λ c. search needs) (λ c. search needs)
+    (λ c κs. search needs) (λ c. search needs) (λ c. search needs) (λ c. search needs) (λ c. search needs) loop-again returns)

@@ -1,0 +1,20 @@
+-- `values::tagwords::tag_word` meets its contract: address and kind make the word.
+-- Assumes nothing.
+use mathlib.Core.Path.{ap, _∙_}
+use Prim.Native.Nat.{ℕ, _+_, _*_}
+use Rattle.laws.specs.Numbers.{addresses}
+use Rattle.settings.specs.TagWords.{wordOf, kindNumber}
+use borrow.Author.Needs.{needs}
+use Rattle.values.proofs.tagwords.tag_word.Statement.{statement}
+use Rattle.values.proofs.tagwords.tag_word.Tie as tie
+
+returns : tie.Need-returns
+unfolding wordOf
+returns c =
+    let a = c .before .before .args .address in
+    ap (λ (n : ℕ). a + addresses * n) (c .kind-number .ensures .0 ∙ ap kindNumber (c .before .kind-of .ensures a))
+
+pub tag-word-spec : {M : Type 1} → statement M
+tag-word-spec =
+    tie.close
+    (tie.spec (λ c. search needs) (λ c κs. search needs) (λ c κs. search needs) (λ c. search needs) (λ c. search needs) returns)
