@@ -1,5 +1,6 @@
 # demo proves the demonstration program, runs it on its file stdin, holds what it writes to its file stdout and prints that; test is the gate.
-# host builds the archive and runs the example host in C; host-test does so and runs tests/host (SEED=n: with another seed).
+# host builds the archive and runs the example host in C; host-test also compiles the header alone under four language
+# versions, runs the example as C++, and runs tests/host (SEED=n: with another seed).
 .PHONY: demo test archive host host-test
 
 SEED ?= 1
@@ -19,5 +20,7 @@ host: archive
 	tests/host/run host examples/host.c
 
 host-test: host
+	tests/host/headers
+	STD=c++11 tests/host/run host-as-c++ examples/host.c
 	tests/host/run host-examples tests/host/examples.c $(AGAINST_MODEL)
 	ARGS=$(SEED) tests/host/run host-generated tests/host/generated.c tests/host/ledger.c tests/host/making.c $(AGAINST_MODEL)

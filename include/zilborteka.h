@@ -5,9 +5,15 @@
    The code uses SSE registers and the red zone of the System V x86-64 convention: a kernel calls it where both are kept. */
 #ifndef ZILBORTEKA_H
 #define ZILBORTEKA_H
-#include <stdint.h>
 #include <stddef.h>
-#include <stdbool.h>
+#include <stdint.h>
+
+#ifdef __cplusplus
+#define ZB_STATIC_ASSERT static_assert
+extern "C" {
+#else
+#define ZB_STATIC_ASSERT _Static_assert
+#endif
 
 /* One device's state, which only these calls make and change; the host owns the memory and lends it for each call.
    The fields are spelled out so that a host can place a device statically. They are not for the host to read or write. */
@@ -33,7 +39,7 @@ typedef struct zb_state {
 } zb_state;
 
 #define ZB_STATE_SIZE 5032
-_Static_assert(sizeof(zb_state) == ZB_STATE_SIZE, "zb_state has the size that the core was proved for");
+ZB_STATIC_ASSERT(sizeof(zb_state) == ZB_STATE_SIZE, "zb_state has the size that the core was proved for");
 
 size_t zb_state_size(void);
 
@@ -108,4 +114,8 @@ zb_answer zb_tick(zb_state *st, uint64_t now,
                   uint16_t *list, size_t list_len);
 zb_answer zb_link_lost(zb_state *st);
 zb_answer zb_split(const uint8_t *run, size_t run_len);
+
+#ifdef __cplusplus
+}
+#endif
 #endif

@@ -1,6 +1,7 @@
 /* Shows document 01's examples from C, each refusal of each call by a case written by hand, and that the header's
    structs lie as the archive has them. Every call also goes to the model, with guard bytes around what is lent. */
 #include "pair.h"
+#include <stdbool.h>
 #include <stddef.h>
 #include <stdio.h>
 #include <stdlib.h>

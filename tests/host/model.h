@@ -3,6 +3,7 @@
 #ifndef MODEL_H
 #define MODEL_H
 #include "zilborteka.h"
+#include <stdbool.h>
 
 #define MODEL_LIVE 64
 #define MODEL_PARTIES 8

@@ -2,6 +2,7 @@
 #ifndef REACHED_H
 #define REACHED_H
 #include "zilborteka.h"
+#include <stdbool.h>
 
 enum call {
     CALL_FRESH, CALL_ATTACH, CALL_DETACH, CALL_REQUEST, CALL_REPLY, CALL_TICK, CALL_LINK_LOST, CALL_SPLIT, CALL_READ,
