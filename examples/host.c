@@ -4,12 +4,41 @@
 #include <string.h>
 
 static zb_state device;
-static uint8_t out[260];
-static uint16_t list[16];
+static uint8_t out[ZB_FRAME_BUFFER];
+static uint16_t list[ZB_LIST_BUFFER];
 
 static const char *const names[] = {
-    "refused", "done", "issued", "joined", "exception", "answered", "timed out", "nothing due", "frame", "more needed",
+    "refused:", "done", "issued", "joined", "exception", "answered", "timed out", "nothing due", "frame", "more needed",
 };
+
+/* docs/HOST.md has what a host does with each. */
+static const char *refusal(uint32_t number)
+{
+    switch (number) {
+    case ZB_REFUSED_BUFFER:
+        return "a buffer is too short";
+    case ZB_REFUSED_CLIENT:
+        return "not an attached client";
+    case ZB_REFUSED_TIME:
+        return "the clock went back";
+    case ZB_REFUSED_FRAME:
+        return "its header is wrong";
+    case ZB_REFUSED_FUNCTION:
+        return "function 0 or 128 to 255";
+    case ZB_REFUSED_LENGTH:
+        return "the wrong length for its function";
+    case ZB_REFUSED_UNKNOWN:
+        return "its id is not live";
+    case ZB_REFUSED_MISMATCH:
+        return "it does not answer the request with its id";
+    case ZB_REFUSED_ATTACHED:
+        return "attached already";
+    case ZB_REFUSED_SETTINGS:
+        return "wrong settings";
+    default:
+        return "a number that the header does not have";
+    }
+}
 
 static void bytes(const uint8_t *frame, uint32_t length)
 {
@@ -23,7 +52,7 @@ static void told(const char *call, zb_answer a)
 {
     printf("%-28s %s", call, names[a.outcome]);
     if (a.refusal)
-        printf(" with %u", (unsigned)a.refusal);
+        printf(" %s", refusal(a.refusal));
     printf("%s", a.length ? ":" : "\n");
     if (a.length)
         bytes(out, a.length);
@@ -54,14 +83,14 @@ int main(void)
     told("screen 5 attaches", zb_attach(&device, 5));
     told("screen 3 reads 1024 at 100", zb_request(&device, 3, 100, read_3, sizeof read_3, out, sizeof out));
     told("screen 5 reads 1024 at 101", zb_request(&device, 5, 101, read_5, sizeof read_5, out, sizeof out));
-    zb_answer a = zb_reply(&device, 150, reply, sizeof reply, out, sizeof out, list, 16);
+    zb_answer a = zb_reply(&device, 150, reply, sizeof reply, out, sizeof out, list, ZB_LIST_BUFFER);
     told("the controller replies", a);
     deliver(a);
-    told("the same reply again", zb_reply(&device, 151, reply, sizeof reply, out, sizeof out, list, 16));
+    told("the same reply again", zb_reply(&device, 151, reply, sizeof reply, out, sizeof out, list, ZB_LIST_BUFFER));
     told("screen 3 reads 1024 at 200", zb_request(&device, 3, 200, read_3, sizeof read_3, out, sizeof out));
-    told("tick at 3199", zb_tick(&device, 3199, out, sizeof out, list, 16));
-    for (a = zb_tick(&device, 3200, out, sizeof out, list, 16); a.outcome == ZB_TIMED_OUT;
-         a = zb_tick(&device, 3200, out, sizeof out, list, 16)) {
+    told("tick at 3199", zb_tick(&device, 3199, out, sizeof out, list, ZB_LIST_BUFFER));
+    for (a = zb_tick(&device, 3200, out, sizeof out, list, ZB_LIST_BUFFER); a.outcome == ZB_TIMED_OUT;
+         a = zb_tick(&device, 3200, out, sizeof out, list, ZB_LIST_BUFFER)) {
         told("tick at 3200", a);
         deliver(a);
     }

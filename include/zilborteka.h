@@ -1,8 +1,9 @@
 /* The C boundary of the register proxy.
    Every call may be given any bytes, any client number and any time, and a state that these calls made.
-   No pointer is NULL, even with length 0, and no length is longer than the memory behind its pointer. State,
-   frame, out and list do not overlap. The state is aligned to 8 bytes, a list to 2. One state is used by one thread at a time. zb_fresh comes first.
-   The code uses SSE registers and the red zone of the System V x86-64 convention: a kernel calls it where both are kept. */
+   No pointer is NULL, even with length 0, and no length is longer than the memory behind its pointer. State, frame, out
+   and list do not overlap. The state is aligned to 8 bytes, a list to 2. One state is used by one thread at a time.
+   zb_fresh comes first. The code uses SSE registers and the red zone of the System V x86-64 convention: a kernel calls
+   it where both are kept. */
 #ifndef ZILBORTEKA_H
 #define ZILBORTEKA_H
 #include <stddef.h>
@@ -15,18 +16,23 @@ extern "C" {
 #define ZB_STATIC_ASSERT _Static_assert
 #endif
 
-/* One device's state, which only these calls make and change; the host owns the memory and lends it for each call.
-   The fields are spelled out so that a host can place a device statically. They are not for the host to read or write. */
-#define ZB_PLACES 64
-#define ZB_PARTY_PLACES 512
+#define ZB_CLIENTS 32       /* a client number is below this */
+#define ZB_PLACES 64        /* live requests */
+#define ZB_PARTY_PLACES 512 /* parties of all live requests; of one: ZB_PARTY_PLACES / ZB_PLACES */
 #define ZB_MOST_TAGS 256
+#define ZB_FRAME_BUFFER 260 /* bytes that a frame buffer `out` has at least */
+#define ZB_LIST_BUFFER 16   /* numbers that a list has at least */
+
+/* One device's state, which only these calls make and change; the host owns the memory and lends it for each call.
+   The fields are spelled out so that a host can place a device statically. They are not for the host to read or
+   write. */
 typedef struct zb_state {
     uint32_t ids[ZB_PLACES];             /* a live place: its proxy id plus 1; 0: free */
     uint64_t asked[ZB_PLACES];           /* what was asked, in one word */
     uint8_t  callers[ZB_PLACES];         /* the client that it was issued for */
     uint64_t deadlines[ZB_PLACES];
     uint8_t  counts[ZB_PLACES];          /* parties of the entry */
-    uint8_t  clients[ZB_PARTY_PLACES];   /* entry number times eight plus place */
+    uint8_t  clients[ZB_PARTY_PLACES];   /* ZB_PARTY_PLACES / ZB_PLACES to an entry */
     uint16_t originals[ZB_PARTY_PLACES]; /* the clients' own ids, in the same places */
     uint32_t top;                        /* no place from here on is live */
     uint16_t cursor;                     /* the next proxy id to try */
@@ -46,16 +52,16 @@ size_t zb_state_size(void);
 typedef struct {
     uint32_t timeout;     /* 100 to 60000 ms */
     uint32_t join;        /* 0 or 1 */
-    uint32_t tags;        /* 0 to 256: how many of the places below count */
+    uint32_t tags;        /* 0 to ZB_MOST_TAGS: how many of the places below count */
     uint16_t addr[ZB_MOST_TAGS];
     uint16_t width[ZB_MOST_TAGS];  /* 16 or 32 */
 } zb_settings;
 
 /* What a call reports. A field that a call does not speak of is 0. */
 typedef struct {
-    uint32_t refusal;  /* 0, or the refusal number 1 to 10 */
-    uint32_t line;     /* refusal 10 on reading: the first wrong line */
-    uint32_t outcome;  /* ZB_..., 0 on a refusal */
+    uint32_t refusal;  /* 0, or ZB_REFUSED_... */
+    uint32_t line;     /* ZB_REFUSED_SETTINGS on reading: the first wrong line */
+    uint32_t outcome;  /* ZB_DONE to ZB_MORE, 0 on a refusal */
     uint32_t length;   /* bytes written to the frame buffer or text buffer (split: of the first frame) */
     uint32_t parties;  /* pairs (client, original id) written to the list */
     uint32_t partial;  /* tags left raw for partial cover */
@@ -77,28 +83,33 @@ enum {
     ZB_MORE = 9         /* split: more bytes are needed */
 };
 
+/* Refusals: the lowest that applies is told. It changes no state and no byte, except that of zb_fresh (below). */
+enum {
+    ZB_REFUSED_BUFFER = 1,   /* a lent output buffer is shorter than stated below */
+    ZB_REFUSED_CLIENT = 2,   /* the client number is not below ZB_CLIENTS, or not attached (attach: only the first) */
+    ZB_REFUSED_TIME = 3,     /* the time is above 2^63 - 1, or below the state's clock */
+    ZB_REFUSED_FRAME = 4,    /* request or reply: size not 8 to 260, protocol not 0, or length field not size - 6;
+                                split: the header is wrong */
+    ZB_REFUSED_FUNCTION = 5, /* request: function 0 or 128 to 255 */
+    ZB_REFUSED_LENGTH = 6,   /* the PDU's length is wrong for request 03, 04, 06 or 16 */
+    ZB_REFUSED_UNKNOWN = 7,  /* the reply's id is not live */
+    ZB_REFUSED_MISMATCH = 8, /* the reply's id is live but it does not answer that request; the entry stays */
+    ZB_REFUSED_ATTACHED = 9, /* attach of an attached client */
+    ZB_REFUSED_SETTINGS = 10 /* the settings text is wrong, with its first wrong line; or a settings value is invalid,
+                                with line 0 */
+};
+
 typedef struct { zb_answer answer; zb_settings settings; } zb_read;
 
-/* Lengths: a frame buffer `out` has at least 260 bytes and a list at least 16 numbers, else refusal 1, whatever would be written.
-   Whatever is lent is used during the call alone. A refusal changes no state and no byte, except that of zb_fresh (below);
-   bytes and numbers beyond those written stay.
-
-   Refusals, the lowest that applies:
-   1  a lent output buffer is shorter than stated
-   2  the client number is above 31, or not attached (attach: only above 31)
-   3  the time is above 2^63 - 1, or below the state's clock
-   4  request or reply: size not 8 to 260, protocol not 0, or length field not size - 6; split: the header is wrong
-   5  request: function 0 or 128 to 255
-   6  the PDU's length is wrong for request 03, 04, 06 or 16
-   7  the reply's id is not live
-   8  the reply's id is live but it does not answer that request; the entry stays
-   9  attach of an attached client
-   10 the settings text is wrong, with its first wrong line; or a settings value is invalid, with line 0 */
+/* Lengths: `out` has at least ZB_FRAME_BUFFER bytes and a list at least ZB_LIST_BUFFER numbers, whatever would be
+   written; what zb_settings_write is lent is as long as the text. Whatever is lent is used during the call alone; bytes
+   and numbers beyond those written stay. */
 
 zb_read   zb_settings_read(const uint8_t *text, size_t text_len);
 zb_answer zb_settings_write(zb_settings from, uint8_t *text, size_t text_len);
-/* An invalid value: refusal 10, and the state is made nevertheless, for timeout 3000, join 1 and no tags. Whatever the value, nobody is
-   attached afterwards, nothing is live, and ids are issued from 0 on: the old link's replies must not be given to it. */
+/* An invalid value: ZB_REFUSED_SETTINGS, and the state is made nevertheless, for timeout 3000, join 1 and no tags.
+   Whatever the value, nobody is attached afterwards, nothing is live, and ids are issued from 0 on: the old link's
+   replies must not be given to it. */
 zb_answer zb_fresh(zb_state *st, zb_settings from);
 zb_answer zb_attach(zb_state *st, uint32_t client);
 zb_answer zb_detach(zb_state *st, uint32_t client);

@@ -52,36 +52,38 @@ static const session at_the_wrap = {
     "at the wrap", 0, SETTINGS_OF_THE_DOCUMENT, {0, 90, 90, 700, 20, 1, 0, 0, 0, 0}, 3, 200, 0, PINS,
 };
 
-enum { BALANCE_EVERY = 64, PINNED_EVERY = 4096, LIVE_WITH_PINS = 50 };
+enum { BALANCE_EVERY = 64, PINNED_EVERY = 4096, LIVE_WITH_PINS = ZB_PLACES - 14 };
 
 static const uint64_t LAST_TIME = ((uint64_t)1 << 63) - 1;
 static zb_settings settings;
 
 static size_t some_out_len(uint32_t wrong)
 {
-    static const size_t lengths[] = {259, 0, 9, 12, 258};
-    return one_in(wrong * 4) ? lengths[below(5)] : one_in(4) ? 260 + below(MOST_FRAME - 260 + 1) : 260;
+    static const size_t lengths[] = {ZB_FRAME_BUFFER - 1, 0, 9, 12, ZB_FRAME_BUFFER - 2};
+    uint32_t more = MOST_FRAME - ZB_FRAME_BUFFER + 1;
+    return one_in(wrong * 4) ? lengths[below(5)] : one_in(4) ? ZB_FRAME_BUFFER + below(more) : ZB_FRAME_BUFFER;
 }
 
 static size_t some_list_len(uint32_t wrong)
 {
-    static const size_t lengths[] = {15, 0, 2, 14};
-    return one_in(wrong * 4) ? lengths[below(4)] : one_in(4) ? 16 + below(MOST_LIST - 16 + 1) : 16;
+    static const size_t lengths[] = {ZB_LIST_BUFFER - 1, 0, 2, ZB_LIST_BUFFER - 2};
+    uint32_t more = MOST_LIST - ZB_LIST_BUFFER + 1;
+    return one_in(wrong * 4) ? lengths[below(4)] : one_in(4) ? ZB_LIST_BUFFER + below(more) : ZB_LIST_BUFFER;
 }
 
 static uint32_t some_client(uint32_t wrong)
 {
-    static const uint32_t clients[] = {32, 33, 63, 64, 259, 65539, UINT32_MAX, 0x80000003};
-    return one_in(wrong * 4) ? clients[below(8)] : below(32);
+    static const uint32_t clients[] = {ZB_CLIENTS, 33, 63, 64, 259, 65539, UINT32_MAX, 0x80000003};
+    return one_in(wrong * 4) ? clients[below(8)] : below(ZB_CLIENTS);
 }
 
 static uint32_t attached_client(uint32_t wrong)
 {
-    uint32_t client = below(32);
+    uint32_t client = below(ZB_CLIENTS);
     if (one_in(wrong * 2) || ledger.attached == 0)
         return some_client(wrong);
     while (!(ledger.attached >> client & 1))
-        client = (client + 1) % 32;
+        client = (client + 1) % ZB_CLIENTS;
     return client;
 }
 
@@ -149,7 +151,7 @@ static void do_tick(const session *s)
     if (a.outcome != ZB_TIMED_OUT || !one_in(2))
         return;
     do {
-        a = pair_tick(now, 260, 16);
+        a = pair_tick(now, ZB_FRAME_BUFFER, ZB_LIST_BUFFER);
         ledger_tick(now, a);
     } while (a.outcome == ZB_TIMED_OUT);
     reached(REACHED_DRAINED);
@@ -188,7 +190,7 @@ static void begin_session(const session *s)
     ledger_fresh(settings.timeout, settings.join);
     if (s->special == LATE) {
         uint64_t now = LAST_TIME - 100000;
-        ledger_tick(now, pair_tick(now, 260, 16));
+        ledger_tick(now, pair_tick(now, ZB_FRAME_BUFFER, ZB_LIST_BUFFER));
     }
 }
 

@@ -8,7 +8,7 @@
 #include <string.h>
 
 enum group { NEVER, HELD, BY_REPLY, BY_TIMEOUT, BY_LEAVING, BY_LOST_LINK };
-enum { OTHERS_BETWEEN = 65472 };
+enum { OTHERS_BETWEEN = 65536 - ZB_PLACES };
 
 ledger_book ledger;
 static uint8_t *group_of;          /* for each serial its group */
@@ -106,8 +106,8 @@ void ledger_detach(uint32_t client, zb_answer a)
 
 static void accept(ledger_entry *e, uint32_t client, uint64_t now, const uint8_t *frame)
 {
-    if (e->parties == 8)
-        pair_differs("ledger: a 9th party in one entry");
+    if (e->parties == PARTIES)
+        pair_differs("ledger: a party more than an entry has room for");
     ledger_party *p = &e->party[e->parties++];
     p->serial = (uint32_t)ledger.accepted++;
     p->client = client;
@@ -134,8 +134,8 @@ static equals equal_reads(uint64_t now, const uint8_t *frame, size_t size)
             || e->quantity != (frame[10] << 8 | frame[11]))
             continue;
         q.due += is_due(e, now);
-        q.full += !is_due(e, now) && e->parties == 8;
-        if (is_due(e, now) || e->parties == 8)
+        q.full += !is_due(e, now) && e->parties == PARTIES;
+        if (is_due(e, now) || e->parties == PARTIES)
             continue;
         q.joinable++;
         if (!q.smallest || e->id < q.smallest->id)
@@ -146,7 +146,7 @@ static equals equal_reads(uint64_t now, const uint8_t *frame, size_t size)
     return q;
 }
 
-/* Demand 3: an id is not issued again until 65,472 others were, and never while it is live. */
+/* Demand 3: an id is not issued again until OTHERS_BETWEEN others were, and never while it is live. */
 static void check_issued_id(uint16_t id)
 {
     if (live(id))
@@ -161,7 +161,7 @@ static void check_issued_id(uint16_t id)
     }
     if (next == 65535 && id == 0)
         reached(REACHED_SKIPPED_BEFORE_WRAP);
-    if (next == 65535 && id >= 1 && id < 64)
+    if (next == 65535 && id >= 1 && id < ZB_PLACES)
         reached(REACHED_SKIPPED_AT_WRAP);
     if (ledger.issues && id < ledger.last_id)
         reached(REACHED_WRAP);
@@ -170,8 +170,8 @@ static void check_issued_id(uint16_t id)
 static void issued(uint32_t client, uint64_t now, const uint8_t *frame, size_t size, zb_answer a)
 {
     check_issued_id((uint16_t)a.id);
-    if (ledger.lives == 64)
-        pair_differs("ledger: a 65th live request was issued");
+    if (ledger.lives == ZB_PLACES)
+        pair_differs("ledger: a live request more than there are places was issued");
     last_issue[a.id] = ++ledger.issues;
     ledger.last_id = (uint16_t)a.id;
     ledger_entry *e = &ledger.live[ledger.lives++];
@@ -184,8 +184,8 @@ static void issued(uint32_t client, uint64_t now, const uint8_t *frame, size_t s
     e->issued_at = now;
     e->issue = ledger.issues;
     accept(e, client, now, frame);
-    if (ledger.lives == 64)
-        reached(REACHED_LIVE_64);
+    if (ledger.lives == ZB_PLACES)
+        reached(REACHED_LAST_PLACE);
     if (now + ledger.timeout > INT64_MAX)
         reached(REACHED_NEVER_DUE);
 }
@@ -201,12 +201,12 @@ static void joined(uint32_t client, uint64_t now, const uint8_t *frame, zb_answe
         reached(REACHED_SMALLEST_IS_YOUNGER);
     if (e->parties == 0)
         reached(REACHED_EMPTY_JOINED);
-    if (e->parties == 7)
-        reached(REACHED_PARTY_8);
-    if (e->ever >= 8)
+    if (e->parties == PARTIES - 1)
+        reached(REACHED_LAST_PARTY);
+    if (e->ever >= PARTIES)
         reached(REACHED_ROOM_USED_AGAIN);
-    if (ledger.lives == 64)
-        reached(REACHED_JOINED_AT_64);
+    if (ledger.lives == ZB_PLACES)
+        reached(REACHED_JOINED_WHEN_FULL);
     accept(e, client, now, frame);
 }
 
@@ -219,9 +219,9 @@ static void got_exception(zb_answer a)
     if (a.code != 4)
         return;
     reached(REACHED_EXCEPTION_04);
-    reached(REACHED_LIVE_65);
-    if (ledger.lives != 64)
-        pair_differs("ledger: exception 04 with fewer than 64 live");
+    reached(REACHED_BEYOND_THE_PLACES);
+    if (ledger.lives != ZB_PLACES)
+        pair_differs("ledger: exception 04 while a place is free");
 }
 
 static void raw_counts_of_request(uint8_t function, zb_answer a)
@@ -236,9 +236,9 @@ static void raw_counts_of_request(uint8_t function, zb_answer a)
 
 static void why_refused(uint32_t client, uint64_t now, zb_answer a)
 {
-    if (a.refusal == 2 && (client == 259 || client == UINT32_MAX))
+    if (a.refusal == ZB_REFUSED_CLIENT && (client == 259 || client == UINT32_MAX))
         reached(REACHED_FULL_WIDTH_CLIENT);
-    if (a.refusal == 3)
+    if (a.refusal == ZB_REFUSED_TIME)
         reached(now > INT64_MAX ? REACHED_TIME_TOO_LARGE : REACHED_CLOCK_BACK);
 }
 
@@ -265,7 +265,7 @@ void ledger_request(uint32_t client, uint64_t now, const uint8_t *frame, size_t 
     if (a.outcome == ZB_EXCEPTION)
         return;
     if (q.full)
-        reached(REACHED_PARTY_9);
+        reached(REACHED_BEYOND_THE_PARTIES);
     raw_counts_of_request(frame[7], a);
     issued(client, now, frame, size, a);
 }

@@ -20,7 +20,7 @@ typedef struct {
     uint32_t ever;  /* parties that it ever had */
     uint32_t struck; /* clients struck out of it, bit n for client n */
     uint32_t parties;
-    ledger_party party[8];
+    ledger_party party[ZB_PARTY_PLACES / ZB_PLACES];
 } ledger_entry;
 
 /* What calls and outcomes have told since the fresh state. */
@@ -29,7 +29,7 @@ typedef struct {
     uint64_t clock;
     uint32_t attached;
     uint32_t lives;
-    ledger_entry live[64];
+    ledger_entry live[ZB_PLACES];
     uint32_t issues;
     uint16_t last_id; /* of the last issue */
     uint64_t accepted, by_reply, by_timeout, by_leaving, by_lost_link;

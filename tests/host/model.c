@@ -3,7 +3,7 @@
 #include <stdio.h>
 #include <string.h>
 
-enum { LEAST_OUT = 260, LEAST_LIST = 16, CLIENTS = 32, HEADER = 7 };
+enum { HEADER = 7 };
 enum { READ_HOLDING = 3, READ_INPUT = 4, WRITE_SINGLE = 6, WRITE_MULTIPLE = 16, EXCEPTION = 128 };
 
 static const uint64_t LAST_TIME = ((uint64_t)1 << 63) - 1;
@@ -26,7 +26,7 @@ static zb_answer came_to(uint32_t outcome)
 
 static bool is_attached(const model_state *st, uint32_t client)
 {
-    return client < CLIENTS && (st->attached >> client & 1) != 0;
+    return client < ZB_CLIENTS && (st->attached >> client & 1) != 0;
 }
 
 static bool is_wrong_time(const model_state *st, uint64_t now)
@@ -68,7 +68,7 @@ zb_answer model_split(const uint8_t *run, size_t run_len)
         return came_to(ZB_MORE);
     uint32_t length = word_at(run + 4);
     if (word_at(run + 2) != 0 || length < 2 || length > 254)
-        return refused(4);
+        return refused(ZB_REFUSED_FRAME);
     if (run_len < 6 + length)
         return came_to(ZB_MORE);
     zb_answer a = came_to(ZB_FRAME);
@@ -267,17 +267,17 @@ static zb_answer exception_to_caller(const uint8_t *frame, uint8_t code, uint8_t
 static uint32_t refusal_of_request(const model_state *st, uint32_t client, uint64_t now,
                                    const uint8_t *frame, size_t size, size_t out_len)
 {
-    if (out_len < LEAST_OUT)
-        return 1;
+    if (out_len < ZB_FRAME_BUFFER)
+        return ZB_REFUSED_BUFFER;
     if (!is_attached(st, client))
-        return 2;
+        return ZB_REFUSED_CLIENT;
     if (is_wrong_time(st, now))
-        return 3;
+        return ZB_REFUSED_TIME;
     if (is_wrong_frame(frame, size))
-        return 4;
+        return ZB_REFUSED_FRAME;
     if (frame[HEADER] == 0 || frame[HEADER] >= EXCEPTION)
-        return 5;
-    return is_wrong_pdu_length(frame + HEADER, size - HEADER) ? 6 : 0;
+        return ZB_REFUSED_FUNCTION;
+    return is_wrong_pdu_length(frame + HEADER, size - HEADER) ? ZB_REFUSED_LENGTH : 0;
 }
 
 zb_answer model_request(model_state *st, uint32_t client, uint64_t now,
@@ -349,17 +349,17 @@ zb_answer model_reply(model_state *st, uint64_t now,
                       uint8_t *out, size_t out_len,
                       uint16_t *list, size_t list_len)
 {
-    if (out_len < LEAST_OUT || list_len < LEAST_LIST)
-        return refused(1);
+    if (out_len < ZB_FRAME_BUFFER || list_len < ZB_LIST_BUFFER)
+        return refused(ZB_REFUSED_BUFFER);
     if (is_wrong_time(st, now))
-        return refused(3);
+        return refused(ZB_REFUSED_TIME);
     if (is_wrong_frame(frame, frame_len))
-        return refused(4);
+        return refused(ZB_REFUSED_FRAME);
     model_entry *e = live_entry(st, word_at(frame));
     if (!e)
-        return refused(7);
+        return refused(ZB_REFUSED_UNKNOWN);
     if (!does_answer(e, frame, frame_len))
-        return refused(8);
+        return refused(ZB_REFUSED_MISMATCH);
     st->clock = now;
     zb_answer a = came_to(ZB_ANSWERED);
     a.length = (uint32_t)frame_len;
@@ -391,10 +391,10 @@ zb_answer model_tick(model_state *st, uint64_t now,
                      uint8_t *out, size_t out_len,
                      uint16_t *list, size_t list_len)
 {
-    if (out_len < LEAST_OUT || list_len < LEAST_LIST)
-        return refused(1);
+    if (out_len < ZB_FRAME_BUFFER || list_len < ZB_LIST_BUFFER)
+        return refused(ZB_REFUSED_BUFFER);
     if (is_wrong_time(st, now))
-        return refused(3);
+        return refused(ZB_REFUSED_TIME);
     st->clock = now;
     model_entry *e = entry_due(st, now);
     if (!e)
@@ -408,10 +408,10 @@ zb_answer model_tick(model_state *st, uint64_t now,
 
 zb_answer model_attach(model_state *st, uint32_t client)
 {
-    if (client >= CLIENTS)
-        return refused(2);
+    if (client >= ZB_CLIENTS)
+        return refused(ZB_REFUSED_CLIENT);
     if (is_attached(st, client))
-        return refused(9);
+        return refused(ZB_REFUSED_ATTACHED);
     st->attached |= (uint32_t)1 << client;
     return came_to(ZB_DONE);
 }
@@ -429,7 +429,7 @@ static void strike(model_entry *e, uint32_t client)
 zb_answer model_detach(model_state *st, uint32_t client)
 {
     if (!is_attached(st, client))
-        return refused(2);
+        return refused(ZB_REFUSED_CLIENT);
     st->attached &= ~((uint32_t)1 << client);
     for (int n = 0; n < MODEL_LIVE; n++)
         if (st->entries[n].live)
@@ -477,7 +477,7 @@ zb_answer model_fresh(model_state *st, zb_settings from)
     bool valid = is_valid(&from);
     memset(st, 0, sizeof *st);
     st->settings = valid ? from : usual_settings();
-    return valid ? came_to(ZB_DONE) : refused(10);
+    return valid ? came_to(ZB_DONE) : refused(ZB_REFUSED_SETTINGS);
 }
 
 typedef struct {
@@ -541,7 +541,7 @@ zb_read model_settings_read(const uint8_t *text, size_t text_len)
     zb_read result = {0};
     result.answer = came_to(ZB_DONE);
     if (!read_text(&r, &result.settings)) {
-        result.answer = refused(10);
+        result.answer = refused(ZB_REFUSED_SETTINGS);
         result.answer.line = r.line;
         result.settings = usual_settings();
     }
@@ -552,13 +552,13 @@ zb_answer model_settings_write(zb_settings from, uint8_t *text, size_t text_len)
 {
     char whole[5161];
     if (!is_valid(&from))
-        return refused(10);
+        return refused(ZB_REFUSED_SETTINGS);
     size_t length = (size_t)sprintf(whole, "version=1\ntimeout=%u\njoin=%u\ntags=%u\n",
                                     (unsigned)from.timeout, (unsigned)from.join, (unsigned)from.tags);
     for (uint32_t t = 0; t < from.tags; t++)
         length += (size_t)sprintf(whole + length, "addr=%u\nwidth=%u\n", from.addr[t], from.width[t]);
     if (length > text_len)
-        return refused(1);
+        return refused(ZB_REFUSED_BUFFER);
     memcpy(text, whole, length);
     zb_answer a = came_to(ZB_DONE);
     a.length = (uint32_t)length;

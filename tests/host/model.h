@@ -1,12 +1,13 @@
 /* An ordinary proxy core in C, written from document 01 alone: what the archive is held against, call by call.
-   The calls take the arguments of include/zilborteka.h and give the same report; only the state is the model's own. */
+   The calls take the arguments of include/zilborteka.h and give the same report; only the state is the model's own.
+   Of the header it takes the names of numbers besides: sizes, outcomes, refusals. */
 #ifndef MODEL_H
 #define MODEL_H
 #include "zilborteka.h"
 #include <stdbool.h>
 
-#define MODEL_LIVE 64
-#define MODEL_PARTIES 8
+#define MODEL_LIVE ZB_PLACES
+#define MODEL_PARTIES (ZB_PARTY_PLACES / ZB_PLACES)
 
 typedef struct {
     uint32_t client;

@@ -3,7 +3,9 @@
 #define PAIR_H
 #include "zilborteka.h"
 
-enum { MOST_FRAME = 320, MOST_LIST = 40, MOST_TEXT = 5400 };
+enum { PARTIES = ZB_PARTY_PLACES / ZB_PLACES };
+/* The longest that is lent. */
+enum { MOST_FRAME = ZB_FRAME_BUFFER + 60, MOST_LIST = ZB_LIST_BUFFER + 24, MOST_TEXT = 5400 };
 
 void pair_open(uint64_t seed);
 uint64_t pair_calls(void);

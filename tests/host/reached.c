@@ -2,7 +2,7 @@
 #include "reached.h"
 #include <stdio.h>
 
-enum { REFUSALS = 11, OUTCOMES = 10 };
+enum { REFUSALS = ZB_REFUSED_SETTINGS + 1, OUTCOMES = ZB_MORE + 1 };
 
 const char *const call_names[CALLS] = {
     "fresh", "attach", "detach", "request", "reply", "tick", "link_lost", "split", "settings_read", "settings_write",
@@ -16,15 +16,17 @@ static const char *const words[REACHED_COUNT] = {
 
 /* Document 01's table of refusals, call by call: bit n for refusal n. */
 static const uint32_t can_refuse[CALLS] = {
-    [CALL_FRESH] = 1 << 10,
-    [CALL_ATTACH] = 1 << 2 | 1 << 9,
-    [CALL_DETACH] = 1 << 2,
-    [CALL_REQUEST] = 1 << 1 | 1 << 2 | 1 << 3 | 1 << 4 | 1 << 5 | 1 << 6,
-    [CALL_REPLY] = 1 << 1 | 1 << 3 | 1 << 4 | 1 << 7 | 1 << 8,
-    [CALL_TICK] = 1 << 1 | 1 << 3,
-    [CALL_SPLIT] = 1 << 4,
-    [CALL_READ] = 1 << 10,
-    [CALL_WRITE] = 1 << 1 | 1 << 10,
+    [CALL_FRESH] = 1 << ZB_REFUSED_SETTINGS,
+    [CALL_ATTACH] = 1 << ZB_REFUSED_CLIENT | 1 << ZB_REFUSED_ATTACHED,
+    [CALL_DETACH] = 1 << ZB_REFUSED_CLIENT,
+    [CALL_REQUEST] = 1 << ZB_REFUSED_BUFFER | 1 << ZB_REFUSED_CLIENT | 1 << ZB_REFUSED_TIME | 1 << ZB_REFUSED_FRAME
+        | 1 << ZB_REFUSED_FUNCTION | 1 << ZB_REFUSED_LENGTH,
+    [CALL_REPLY] = 1 << ZB_REFUSED_BUFFER | 1 << ZB_REFUSED_TIME | 1 << ZB_REFUSED_FRAME | 1 << ZB_REFUSED_UNKNOWN
+        | 1 << ZB_REFUSED_MISMATCH,
+    [CALL_TICK] = 1 << ZB_REFUSED_BUFFER | 1 << ZB_REFUSED_TIME,
+    [CALL_SPLIT] = 1 << ZB_REFUSED_FRAME,
+    [CALL_READ] = 1 << ZB_REFUSED_SETTINGS,
+    [CALL_WRITE] = 1 << ZB_REFUSED_BUFFER | 1 << ZB_REFUSED_SETTINGS,
 };
 
 /* The outcomes of each call: bit n for outcome n. */

@@ -11,11 +11,11 @@ enum call {
 extern const char *const call_names[CALLS];
 
 #define REACHED_LIST(X) \
-    X(PARTY_8, "the 8th party joins") \
-    X(PARTY_9, "a 9th equal read is issued on its own") \
-    X(LIVE_64, "the 64th live request is issued") \
-    X(LIVE_65, "the 65th gets exception 04") \
-    X(JOINED_AT_64, "a read joins while 64 are live") \
+    X(LAST_PARTY, "an entry's last party joins") \
+    X(BEYOND_THE_PARTIES, "a read equal to a full entry's is issued") \
+    X(LAST_PLACE, "the last place is taken") \
+    X(BEYOND_THE_PLACES, "the request after it gets exception 04") \
+    X(JOINED_WHEN_FULL, "a read joins while every place is taken") \
     X(WRAP, "the cursor passes 65,535") \
     X(SKIPPED, "an id is skipped because it is live") \
     X(SKIPPED_BEFORE_WRAP, "65,535 is skipped and 0 is issued") \
