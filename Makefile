@@ -1,10 +1,14 @@
 # demo proves the demonstration program, runs it on its file stdin, holds what it writes to its file stdout and prints that; test is the gate.
+# archive proves and compiles the archive for a process; kernel-archive that one and the one for a kernel, from one module.
 # host builds the archive and runs the example host in C; host-test also compiles the header alone under four language
-# versions, runs the example as C++, and runs tests/host (SEED=n: with another seed).
-.PHONY: demo test archive host host-test
+# versions, runs the example as C++, and runs tests/host (SEED=n: with another seed). ARCHIVE=path: over that archive, as
+# it stands.
+.PHONY: demo test archive kernel-archive host host-test
 
 SEED ?= 1
+ARCHIVE ?=
 AGAINST_MODEL = $(addprefix tests/host/, dice.c lent.c pair.c reached.c model.c)
+export ARCHIVE
 
 demo:
 	rt check demo
@@ -16,7 +20,10 @@ test:
 archive:
 	rt staticlib zilborteka
 
-host: archive
+kernel-archive:
+	tools/kernel-archive
+
+host: $(if $(ARCHIVE),,archive)
 	tests/host/run host examples/host.c
 
 host-test: host

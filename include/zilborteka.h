@@ -2,8 +2,9 @@
    Every call may be given any bytes, any client number and any time, and a state that these calls made.
    No pointer is NULL, even with length 0, and no length is longer than the memory behind its pointer. State, frame, out
    and list do not overlap. The state is aligned to 8 bytes, a list to 2. One state is used by one thread at a time.
-   zb_fresh comes first. The code uses SSE registers and the red zone of the System V x86-64 convention: a kernel calls
-   it where both are kept. */
+   zb_fresh comes first. Of the two archives that have these functions libzilborteka.a uses SSE registers and the red zone
+   of the System V x86-64 convention; libzilborteka-kernel.a uses neither: it is for code that is built with -mno-sse
+   -mno-red-zone. */
 #ifndef ZILBORTEKA_H
 #define ZILBORTEKA_H
 #include <stddef.h>
