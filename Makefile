@@ -3,10 +3,16 @@
 # host builds the archive and runs the example host in C; host-test also compiles the header alone under four language
 # versions, runs the example as C++, and runs tests/host (SEED=n: with another seed). ARCHIVE=path: over that archive, as
 # it stands.
-.PHONY: demo test archive kernel-archive host host-test
+# install puts header, both archives and a pkg-config file under DESTDIR and PREFIX; dist packs these and HOST.md into
+# target/dist/zilborteka-VERSION.tar.gz; install-test tries both in temporary directories.
+.PHONY: demo test archive kernel-archive host host-test install dist install-test
 
 SEED ?= 1
 ARCHIVE ?=
+PREFIX ?= /usr/local
+DESTDIR ?=
+VERSION = $(shell git describe --always)
+DIST = zilborteka-$(VERSION)
 AGAINST_MODEL = $(addprefix tests/host/, dice.c lent.c pair.c reached.c model.c)
 export ARCHIVE
 
@@ -31,3 +37,19 @@ host-test: host
 	STD=c++11 tests/host/run host-as-c++ examples/host.c
 	tests/host/run host-examples tests/host/examples.c $(AGAINST_MODEL)
 	ARGS=$(SEED) tests/host/run host-generated tests/host/generated.c tests/host/ledger.c tests/host/making.c $(AGAINST_MODEL)
+
+install: kernel-archive
+	install -d "$(DESTDIR)$(PREFIX)/include" "$(DESTDIR)$(PREFIX)/lib/pkgconfig"
+	install -m 644 include/zilborteka.h "$(DESTDIR)$(PREFIX)/include"
+	install -m 644 target/staticlib/libzilborteka.a target/kernel/libzilborteka-kernel.a "$(DESTDIR)$(PREFIX)/lib"
+	sed 's/@VERSION@/$(VERSION)/' tools/zilborteka.pc.in >"$(DESTDIR)$(PREFIX)/lib/pkgconfig/zilborteka.pc"
+
+# -o: the archives were made just now
+dist: kernel-archive
+	rm -rf target/dist
+	$(MAKE) -o kernel-archive install DESTDIR= PREFIX=target/dist/$(DIST)
+	install -m 644 docs/HOST.md target/dist/$(DIST)
+	tar -C target/dist --sort=name --owner=0 --group=0 -czf target/dist/$(DIST).tar.gz $(DIST)
+
+install-test: dist
+	tests/host/installed target/dist/$(DIST).tar.gz
