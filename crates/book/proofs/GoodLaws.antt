@@ -8,7 +8,7 @@ use mathlib.Core.Option.{Option, some, none, Option·map, Option·some-injective
 use mathlib.Core.List.{List, [], _∷_, map}
 use native.Mathlib.Omega.{arith}
 use lib.ListN.{length, getD, set, replicate, length-set, length-map, length-append, length-replicate}
-use Rattle.book.specs.Book.{Rules, Live, Book, Move, Good, Fits, at, book, entry, apply, added, struck, marked, isOf}
+use Rattle.book.specs.Book.{Rules, Live, Book, Move, Good, Fits, at, book, newEntry, apply, added, struck, marked, isOf}
 use Rattle.book.specs.Book.Move.{rest, pass, join, issue, reply, expire, strike, wipe, mark, adopt}
 use Rattle.laws.proofs.CircleLaws.{turn-low}
 use Rattle.laws.proofs.FilterLaws.{filter-le}
@@ -96,7 +96,7 @@ module _ {R W N : Type 0} (r : Rules R) where
   good-move b (issue k id w n d p) g h =
       let x = h .2 in
       let il : id < r .ids = rw (x .here) (turn-low (r .ids) (b .cursor + x .steps) (let a = g .turned in let c = x .near in omega arith)) in
-      placed b k (entry id w (p .client) n d (p ∷ [])) _ g (rw (g .long) (h .0)) (omega (arith, turn-low (r .ids) (id + 1) (omega arith), g .turned)) il (r .roomy)
+      placed b k (newEntry id w n d p) _ g (rw (g .long) (h .0)) (omega (arith, turn-low (r .ids) (id + 1) (omega arith), g .turned)) il (r .roomy)
       (λ j e ne q t. live-not (b .places) j e id (x .free) q t)
   good-move b (reply k e) g h = ended b k e g h
   good-move b (expire k e) g h = ended b k e g (h .0)

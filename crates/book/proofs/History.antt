@@ -3,7 +3,8 @@
 use Prim.Native.Nat.{ℕ, _+_, _-_, _≤_, _<_}
 use mathlib.Core.Path.{_≡_, refl, ap, sym, _∙_, subst, subst₂}
 use mathlib.Core.Bool.{true}
-use mathlib.Core.List.{List, [], _∷_, _++_, append-nil}
+use mathlib.Core.Logic.{⊎-elim}
+use mathlib.Core.List.{List, [], _∷_, _++_, append-nil, append-assoc, List·Memᴰ, List·Memᴰ·append-cases, List·Memᴰ·not-nil}
 use native.Mathlib.Omega.{arith}
 use lib.ListN.{length, getD}
 use Rattle.laws.proofs.FilterLaws.{filter-all}
@@ -107,6 +108,36 @@ module _ {R : Type 0} {r : Rules R} {W N O : Type 0} {A : O → Type 0} {S : Typ
         fair-append l vs (history M s′ os) (subst (AllFair l) (sym e) (i .1)) (j .1),
         j .2,
       )
+
+  -- the state after some calls and then others, and after one more; and what calls say that come after others
+  pub after-on : (s : S) (os us : List O) → after M s (os ++ us) ≡ after M (after M s os) us
+  unfolding after
+  after-on s [] us = refl
+  after-on s (o ∷ os) us = after-on (M .next s o) os us
+
+  pub after-one : (s : S) (os : List O) (o : O) → after M s (os ++ (o ∷ [])) ≡ M .next (after M s os) o
+  unfolding after
+  after-one s os o = after-on s os (o ∷ [])
+
+  pub history-on : (s : S) (os us : List O) → history M s (os ++ us) ≡ history M s os ++ history M (after M s os) us
+  unfolding after history
+  history-on s [] us = refl
+  history-on s (o ∷ os) us = ap (λ vs. M .seen o (M .answer s o) ++ vs) (history-on (M .next s o) os us) ∙ sym (append-assoc (M .seen o (M .answer s o)) _ _)
+
+  pub history-one : (s : S) (os : List O) (o : O) → history M s (os ++ (o ∷ [])) ≡ history M s os ++ M .seen o (M .answer (after M s os) o)
+  unfolding history
+  history-one s os o = history-on s os (o ∷ []) ∙ ap (λ vs. history M s os ++ vs) (append-nil (M .seen o (M .answer (after M s os) o)))
+
+  -- every line of a history is seen at one of its calls
+  pub seen-at : (s : S) (os : List O) (e : Event W) → List·Memᴰ e (history M s os)
+      → (xs : List O) × (o : O) × (ys : List O) × (os ≡ xs ++ o ∷ ys) × List·Memᴰ e (M .seen o (M .answer (after M s xs) o))
+  unfolding after history
+  seen-at s [] e m = absurd (List·Memᴰ·not-nil m)
+  seen-at s (o ∷ os) e m =
+      ⊎-elim
+      (λ (h : List·Memᴰ e (M .seen o (M .answer s o))). ([], o, os, refl, h))
+      (λ (h : List·Memᴰ e (history M (M .next s o) os)). let i = seen-at (M .next s o) os e h in (o ∷ i .0, i .1, i .2, ap (o ∷_) (i .3), i .4))
+      (List·Memᴰ·append-cases (M .seen o (M .answer s o)) m)
 
   -- for any list of calls from the start the history is accounted for
   pub always : (os : List O) → Accounted r (M .bookOf (after M (M .start) os)) (history M (M .start) os) (posts empty (history M (M .start) os))

@@ -12,7 +12,7 @@ use lib.Seq.{getD-set-same}
 use borrow.Author.Tests.{eq-eqb, ne-eqb, eqb-true, eqb-false, not-true}
 use Rattle.laws.specs.Lists.{filter}
 use Rattle.laws.proofs.FilterLaws.{filter-none, filter-in, filter-idle, filter-swap, map-filter, filter-snoc, filter-snoc-no}
-use Rattle.book.specs.Book.{Rules, Party, Live, Book, Move, Good, Fits, at, book, entry, apply, tell, liveIn, hasId, without, added, struck, marked, isOf}
+use Rattle.book.specs.Book.{Rules, Party, Live, Book, Move, Good, Fits, at, book, newEntry, apply, tell, liveIn, hasId, without, added, struck, marked, isOf}
 use Rattle.book.specs.Book.Move.{rest, pass, join, issue, reply, expire, strike, wipe, mark, adopt}
 use Rattle.book.specs.Book.Event.{issued}
 use Rattle.book.specs.Ledger.{Ticket, Ledger, post, posts, next, under, whose, partiesOf, Alike, AllFair}
@@ -103,7 +103,7 @@ module _ {R W N : Type 0} (r : Rules R) where
       let ps = b .places in
       let z : k < length ps = rw (g .long) (h .0) in
       let n = next l id w p in
-      let v = entry id w (p .client) nt dl (p ∷ []) in
+      let v = newEntry id w nt dl p in
       let f = h .2 .free in
       record {
         clocks = c .clocks;

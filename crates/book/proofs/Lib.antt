@@ -8,3 +8,4 @@ pub mod DeskLaws
 pub mod ChooseLaws
 pub mod TickLaws
 pub mod History
+pub mod TracedLaws

@@ -15,7 +15,7 @@ use Rattle.laws.specs.Circle.{turn, gap}
 use Rattle.laws.proofs.Choice.{lt-or}
 use Rattle.laws.proofs.CountLaws.{count-more, count-ext, count-none, count-mono, count-split, count-not, at-most-one}
 use Rattle.laws.proofs.CircleLaws.{turn-inj, turn-add, gap-low, gap-on, gap-here, gap-round, turn-gap, turn-low}
-use Rattle.book.specs.Book.{Rules, Party, Live, Book, Move, Good, Fits, book, entry, apply, tell, liveIn, hasId, added, struck, marked}
+use Rattle.book.specs.Book.{Rules, Party, Live, Book, Move, Good, Fits, book, newEntry, apply, tell, liveIn, hasId, added, struck, marked}
 use Rattle.book.specs.Book.Move.{rest, pass, join, issue, reply, expire, strike, wipe, mark, adopt}
 use Rattle.book.specs.Ledger.{Ledger, posts}
 use Rattle.book.proofs.PlaceLaws.{at-low, live-here, live-set, live-less, live-map, live-none, live-count}
@@ -47,7 +47,7 @@ module _ {R W N : Type 0} (r : Rules R) where
 
   module _ (b : Book R W N) (g : Good r b) (k id : ℕ) (w : W) (n : N) (d : ℕ) (p : Party) (h : Fits r b (issue k id w n d p)) where
     abbrev v : Live W N
-    v = entry id w (p .client) n d (p ∷ [])
+    v = newEntry id w n d p
 
     abbrev b′ : Book R W N
     b′ = apply r b (issue k id w n d p)

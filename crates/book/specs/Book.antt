@@ -105,6 +105,10 @@ module _ {W N : Type 0} where
   abbrev pub entry : ℕ → W → ℕ → N → ℕ → List Party → Live W N
   entry i w c n d ps = record { id = i; what = w; by = c; note = n; deadline = d; parties = ps }
 
+  -- what is issued: it is its first party's, which waits alone
+  abbrev pub newEntry : ℕ → W → N → ℕ → Party → Live W N
+  newEntry i w n d p = entry i w (p .client) n d (p ∷ [])
+
   -- the place is live under that id
   abbrev pub hasId : ℕ → Option (Live W N) → Bool
   hasId id none = false
@@ -144,7 +148,7 @@ module _ {R W N : Type 0} where
   apply r b (rest y) = b
   apply r b (pass t) = book (b .rule) (b .places) (b .cursor) (max (b .clock) t)
   apply r b (join k e w p) = book (b .rule) (set (b .places) k (some (added p e))) (b .cursor) (b .clock)
-  apply r b (issue k id w n d p) = book (b .rule) (set (b .places) k (some (entry id w (p .client) n d (p ∷ [])))) (turn (r .ids) (id + 1)) (b .clock)
+  apply r b (issue k id w n d p) = book (b .rule) (set (b .places) k (some (newEntry id w n d p))) (turn (r .ids) (id + 1)) (b .clock)
   apply r b (reply k e) = book (b .rule) (set (b .places) k none) (b .cursor) (b .clock)
   apply r b (expire k e) = book (b .rule) (set (b .places) k none) (b .cursor) (b .clock)
   apply r b (strike c) = book (b .rule) (map (Option·map (struck c)) (b .places)) (b .cursor) (b .clock)

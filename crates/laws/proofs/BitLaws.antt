@@ -54,7 +54,7 @@ has-suc a i = rw (pow-succ' 2 i, ← div-div-eq-div-mul a 2 (2 ^ i))
 pub has-zero : (a : ℕ) → has a 0 ≡ eqb (a % 2) 1
 has-zero a = rw (pow-zero 2, div-one a)
 
-has-none : (i : ℕ) → has 0 i ≡ false
+pub has-none : (i : ℕ) → has 0 i ≡ false
 has-none i = rw (zero-div (2 ^ i))
 
 pub has-pow : (c i : ℕ) → has (2 ^ c) i ≡ eqb i c
@@ -160,3 +160,18 @@ with-low k s c hs hc = rw (← or-with s c) (or-lt k s (2 ^ c) hs (pow-lt hc))
 pub without-low : (k s c : ℕ) → s < 2 ^ k → without s c < 2 ^ k
 unfolding without
 without-low k s c hs = ⊎-elim (λ t. rw t (omega arith)) (λ t. rw t hs) (true-or (has s c))
+
+-- who is in a set with c, and in a set without it
+pub in-with : (s c i : ℕ) → has (with s c) i ≡ (has s i || eqb i c)
+in-with s c i = rw (← or-with s c) (has-or s (2 ^ c) i ∙ ap (λ (t : Bool). has s i || t) (has-pow c i))
+
+below-pow : (k : ℕ) → k < 2 ^ k
+below-pow zero = lit< tt
+below-pow (suc k) = let i = below-pow k in let p = pow-succ' 2 k in omega arith
+
+pub in-without : (s c i : ℕ) → has (without s c) i ≡ (not (eqb i c) && has s i)
+in-without s c i =
+    let k = s + c + 1 in
+    let hs : s < 2 ^ k = lt-of-lt-of-le (below-pow s) (pow-mono (omega arith)) in
+    let hc : c < k = omega arith in
+    rw (← and-without k s c hs hc) (has-without k s c i hs hc)

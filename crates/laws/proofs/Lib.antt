@@ -2,6 +2,7 @@ pub mod Choice
 pub mod TestLaws
 pub mod ListLaws
 pub mod FilterLaws
+pub mod LastLaws
 pub mod SearchLaws
 pub mod CountLaws
 pub mod PigeonLaws

@@ -127,3 +127,11 @@ module _ {A : Type 0} where
   unfolding tab
   tab-repeat zero a = refl
   tab-repeat (suc n) a = rw (tab-repeat n a) (replicate-append-replicate n 1 a ∙ rw (add-one n))
+
+-- what holds of no elements, and with each element more, holds of every list
+pub grown : {A : Type 0} (P : List A → Type 0) → P [] → ((xs : List A) (x : A) → P xs → P (xs ++ (x ∷ []))) → (xs : List A) → P xs
+grown P start more xs = go [] xs start
+  where
+    go : (ys xs : List _) → P ys → P (ys ++ xs)
+    go ys [] h = rw (append-nil ys) h
+    go ys (x ∷ xs) h = rw (append-assoc ys (x ∷ []) xs) at (go (ys ++ (x ∷ [])) xs (more ys x h))

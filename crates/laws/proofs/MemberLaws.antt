@@ -2,8 +2,8 @@
 -- Assumes nothing.
 use Prim.Native.Nat.{ℕ, zero, suc, _+_, _≤_, _<_}
 use mathlib.Core.Path.{_≡_, refl}
-use mathlib.Core.Logic.{⊎-elim}
-use mathlib.Core.Bool.{Bool, true, false}
+use mathlib.Core.Logic.{⊎-elim, _⊎_, inl, inr}
+use mathlib.Core.Bool.{Bool, true, false, cond}
 use mathlib.Core.List.{List, [], _∷_, List·Memᴰ, List·Memᴰ·head, List·Memᴰ·tail, List·Memᴰ·not-nil, List·Memᴰ·cases-cons}
 use native.Mathlib.Omega.{arith}
 use lib.ListN.{length, getD}
@@ -26,6 +26,11 @@ module _ {A : Type 0} where
   place-mem [] k d h = absurd (omega arith)
   place-mem (y ∷ xs) zero d h = List·Memᴰ·head refl
   place-mem (y ∷ xs) (suc k) d h = List·Memᴰ·tail (place-mem xs k d (omega arith))
+
+  -- what one of two lists has, by a test
+  pub mem-cond : (x : A) (t : Bool) (xs ys : List A) → List·Memᴰ x (cond t xs ys) → ((t ≡ true) × List·Memᴰ x xs) ⊎ ((t ≡ false) × List·Memᴰ x ys)
+  mem-cond x true xs ys m = inl (refl, m)
+  mem-cond x false xs ys m = inr (refl, m)
 
   -- where two tests never both hold, those that pass either are no more than there are
   pub filter-two : (p q : A → Bool) (xs : List A) → ((x : A) → p x ≡ true → q x ≡ false) → length (filter p xs) + length (filter q xs) ≤ length xs

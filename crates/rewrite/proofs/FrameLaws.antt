@@ -1,21 +1,22 @@
--- A frame rewritten: its length and every byte outside the registers stay, an exception passes unchanged, and it goes over a buffer under an id.
+-- A frame rewritten: its length and every byte outside the registers stay, what it answers too, an exception passes unchanged, and it goes over a buffer under an id.
 -- Assumes nothing.
 use Prim.Native.Nat.{ℕ, _+_, _*_, _≤_, _<_}
 use mathlib.Core.Path.{_≡_, refl, ap, sym, _∙_}
-use mathlib.Core.Logic.{_⊎_, ⊎-elim}
+use mathlib.Core.Logic.{_⊎_, inl, ⊎-elim}
 use mathlib.Core.Bool.{true, false}
-use mathlib.Core.List.{List, _++_}
+use mathlib.Core.List.{List, [], _∷_, _++_}
 use native.Mathlib.Omega.{arith}
 use lib.ListN.{length, getD, take, drop, length-drop}
 use lib.Seq.{take-append-seam, drop-append-seam, drop-append-le}
 use Rattle.laws.specs.Bytes.{over}
 use Rattle.laws.proofs.Choice.{true-or}
-use Rattle.wire.specs.Frame.{laid}
+use Rattle.wire.specs.Frame.{misframed, laid}
 use Rattle.settings.specs.Grammar.{Tag}
-use Rattle.pdu.specs.Replies.{What, excepts}
+use Rattle.pdu.specs.Replies.{What, what, excepts, shaped, answering}
 use Rattle.pdu.specs.declared.Asked.{Asked}
 use Rattle.pdu.specs.declared.Asked.the-variants.{Read, SingleWrite, MultipleWrite, Other}
 use Rattle.rewrite.specs.declared.Way.{Way}
+use Rattle.rewrite.specs.declared.Way.the-variants.{ToBinary}
 use Rattle.rewrite.specs.Registers.{registersAt}
 use Rattle.rewrite.specs.Rewriting.{rewritten, Rewritten, outcome, rewriting}
 use Rattle.rewrite.specs.Frames.{forwarded, returnedBy, returned, under}
@@ -37,21 +38,6 @@ module _ (way : Way) (base start q : ℕ) (tags : List Tag) (d : List ℕ) where
       laid-other base (rewritten way start tags rs) d i (rw l h)
 
 module _ (tags : List Tag) (f : List ℕ) where
-  -- A request's frame keeps its length.
-  pub length-forwarded : (a : Asked) → length (forwarded tags a f .bytes) ≡ length f
-  unfolding forwarded
-  length-forwarded (Read s q) = refl
-  length-forwarded (SingleWrite a) = length-rewriting _ _ a 1 tags f
-  length-forwarded (MultipleWrite s q) = length-rewriting _ _ s q tags f
-  length-forwarded Other = refl
-
-  length-returned-by : (a : Asked) → length (returnedBy tags a f .bytes) ≡ length f
-  unfolding returnedBy
-  length-returned-by (Read s q) = length-rewriting _ _ s q tags f
-  length-returned-by (SingleWrite a) = length-rewriting _ _ a 1 tags f
-  length-returned-by (MultipleWrite s q) = refl
-  length-returned-by Other = refl
-
   -- A request to read and one of any other function pass unchanged, and no tag is counted.
   pub forwarded-read : (s q : ℕ) → forwarded tags (Read s q) f ≡ outcome 0 0 f
   unfolding forwarded
@@ -84,10 +70,80 @@ module _ (tags : List Tag) (f : List ℕ) where
     unfolding returnedBy
     returned-any e = unchanged (rw e)
 
+    -- A reply to a request 06 is rewritten to binary: the one register at byte 10, of the address asked.
+    pub returned-single : (a : ℕ) → w .asked ≡ SingleWrite a → excepts (w .function) f ≡ false → returned tags w f ≡ rewriting ToBinary 10 a 1 tags f
+    unfolding returnedBy
+    returned-single a e x = returned-other x ∙ rw e
+
+    returned-cases : (P : Rewritten → Type 0) → P (outcome 0 0 f) → P (returnedBy tags (w .asked) f) → P (returned tags w f)
+    unfolding returned
+    returned-cases P x y = ⊎-elim (λ e. rw e x) (λ e. rw e y) (true-or (excepts (w .function) f))
+
+  -- A request's frame keeps its length.
+  pub length-forwarded : (a : Asked) → length (forwarded tags a f .bytes) ≡ length f
+  unfolding forwarded
+  length-forwarded (Read s q) = refl
+  length-forwarded (SingleWrite a) = length-rewriting _ _ a 1 tags f
+  length-forwarded (MultipleWrite s q) = length-rewriting _ _ s q tags f
+  length-forwarded Other = refl
+
+  front-returned-by : (a : Asked) (i : ℕ) → i < 9 → getD (returnedBy tags a f .bytes) i 0 ≡ getD f i 0
+  unfolding returnedBy
+  front-returned-by (Read s q) i h = rewriting-other _ _ s q tags f i (inl h)
+  front-returned-by (SingleWrite a) i h = rewriting-other _ _ a 1 tags f i (inl (omega arith))
+  front-returned-by (MultipleWrite s q) i h = refl
+  front-returned-by Other i h = refl
+
+  length-returned-by : (a : Asked) → length (returnedBy tags a f .bytes) ≡ length f
+  unfolding returnedBy
+  length-returned-by (Read s q) = length-rewriting _ _ s q tags f
+  length-returned-by (SingleWrite a) = length-rewriting _ _ a 1 tags f
+  length-returned-by (MultipleWrite s q) = refl
+  length-returned-by Other = refl
+
+  -- what is held against the request stands before the registers
+  answers-returned-by : (u n : ℕ) (a : Asked) → answering (what u n a) (returnedBy tags a f .bytes) ≡ answering (what u n a) f
+  unfolding answering shaped returnedBy
+  answers-returned-by u n (Read s q) =
+      let stays = rewriting-other ToBinary 9 s q tags f in
+      rw (stays 6 (inl (omega arith)), stays 7 (inl (omega arith)), stays 8 (inl (omega arith)), length-rewriting ToBinary 9 s q tags f)
+  answers-returned-by u n (SingleWrite a) =
+      let stays = rewriting-other ToBinary 10 a 1 tags f in
+      rw (stays 6 (inl (omega arith)), stays 7 (inl (omega arith)), stays 8 (inl (omega arith)), stays 9 (inl (omega arith)), length-rewriting ToBinary 10 a 1 tags f)
+  answers-returned-by u n (MultipleWrite s q) = refl
+  answers-returned-by u n Other = refl
+
+  module _ (w : What) where
     -- A reply's frame keeps its length.
     pub length-returned : length (returned tags w f .bytes) ≡ length f
-    length-returned =
-        ⊎-elim (λ e. rw (returned-exception e) refl) (λ e. rw (returned-other e) (length-returned-by (w .asked))) (true-or (excepts (w .function) f))
+    length-returned = returned-cases w (λ r. length (r .bytes) ≡ length f) refl (length-returned-by (w .asked))
+
+    -- Its bytes 0 to 8 stay: the header, the function, and the byte count of 03 and 04.
+    pub front-returned : (i : ℕ) → i < 9 → getD (returned tags w f .bytes) i 0 ≡ getD f i 0
+    front-returned i h = returned-cases w (λ r. getD (r .bytes) i 0 ≡ getD f i 0) refl (front-returned-by (w .asked) i h)
+
+    -- It is refused as a frame where the reply that came is.
+    pub returned-framed : misframed (returned tags w f .bytes) ≡ misframed f
+    unfolding misframed
+    returned-framed =
+        rw (length-returned, front-returned 2 (omega arith), front-returned 3 (omega arith), front-returned 4 (omega arith), front-returned 5 (omega arith))
+
+    -- It answers what was asked where the reply that came does.
+    pub returned-answers : answering w (returned tags w f .bytes) ≡ answering w f
+    returned-answers = returned-cases w (λ r. answering w (r .bytes) ≡ answering w f) refl (answers-returned-by (w .unit) (w .function) (w .asked))
+
+-- An id laid over a frame changes nothing of what it answers.
+pub laid-answers : (id : ℕ) (w : What) (f : List ℕ) → 2 ≤ length f → answering w (laid id f) ≡ answering w f
+unfolding answering shaped
+laid-answers id w [] h = absurd (omega arith)
+laid-answers id w (a ∷ []) h = absurd (omega arith)
+laid-answers id w (a ∷ b ∷ f) h = by (w .asked)
+  where
+    by : (x : Asked) → answering (what (w .unit) (w .function) x) (laid id (a ∷ b ∷ f)) ≡ answering (what (w .unit) (w .function) x) (a ∷ b ∷ f)
+    by (Read s q) = refl
+    by (SingleWrite x) = refl
+    by (MultipleWrite s q) = refl
+    by Other = refl
 
 -- A FRAME AT THE START OF A BUFFER
 

@@ -6,4 +6,5 @@ pub mod TagLaws
 pub mod TableLaws
 pub mod ReadBack
 pub mod FrameLaws
+pub mod SingleLaws
 pub mod RoomLaws

@@ -93,6 +93,11 @@ module _ (way : Way) (base start q : ℕ) (d : List ℕ) where
         add-zero (values way start ts run),
       )
 
+  -- Nor does a tag in front that lies outside it.
+  pub idle-before : (u : Tag) (ts : List Tag) → verdict way start run u ≡ outside → rewriting way base start q (u ∷ ts) d ≡ rewriting way base start q ts d
+  unfolding rewriting partials values filter rewrittenFrom laidBy
+  idle-before u ts e = rw e
+
   module _ (bytes : (i : ℕ) → getD d i 0 < 256) where
     -- Without tags nothing changes.
     pub idle-none : rewriting way base start q [] d ≡ outcome 0 0 d

@@ -54,10 +54,10 @@ module _ (kind : Kind) (k : ℕ) (d : List ℕ) where
 
 module _ (way : Way) (base start q : ℕ) (t : Tag) (d : List ℕ) where
   -- what a verdict makes of the buffer, and what it adds to the counts
-  abbrev byVerdict : Verdict → Rewritten
+  abbrev pub byVerdict : Verdict → Rewritten
   byVerdict v = outcome (length (cond (isRawPartial v) (t ∷ []) [])) (length (cond (isRawValue v) (t ∷ []) [])) (laidAt base (laidBy v (t .address - start) (registersAt base q d)) d)
 
-  by-verdict : (v : Verdict) → verdict way start (registersAt base q d) t ≡ v → rewriting way base start q (t ∷ []) d ≡ byVerdict v
+  pub by-verdict : (v : Verdict) → verdict way start (registersAt base q d) t ≡ v → rewriting way base start q (t ∷ []) d ≡ byVerdict v
   unfolding rewriting partials values filter rewrittenFrom
   by-verdict v e = ap byVerdict e
 

@@ -1,6 +1,6 @@
 -- Frames that are not refused, an id laid over a frame, and exception frames.
 -- Assumes nothing.
-use Prim.Native.Nat.{ℕ, _+_, _≤_, _<_}
+use Prim.Native.Nat.{ℕ, _+_, _/_, _%_, _≤_, _<_}
 use mathlib.Core.Path.{_≡_, refl}
 use mathlib.Core.Bool.{false, not}
 use mathlib.Core.List.{List, [], _∷_}
@@ -39,6 +39,12 @@ unfolding misframed
 not-misframed f h =
     rw (le-ltb (length f) leastFrame (h .least), le-ltb mostFrame (length f) (h .most), eq-eqb (protocolOf f) 0 (h .protocol), eq-eqb (lengthOf f + uncounted) (length f) (h .counted))
 
+-- the bytes of an exception frame: the id, protocol 0, length 3, the unit, the function + 128 as a byte, and the code
+pub exception-bytes : (id unit function code : ℕ)
+    → exception id unit function code ≡ id / 256 ∷ id % 256 ∷ 0 ∷ 0 ∷ 0 ∷ 3 ∷ unit ∷ (function + 128) % 256 ∷ code ∷ []
+unfolding exception
+exception-bytes id unit function code = refl
+
 -- an exception frame has 9 bytes
 pub length-exception : (id unit function code : ℕ) → length (exception id unit function code) ≡ exceptionFrame
 unfolding exception
@@ -75,10 +81,6 @@ laid-framed id (a ∷ b ∷ f) h = refl
 -- a frame with an id laid over it carries that id
 pub laid-id : (id : ℕ) (f : List ℕ) → id < ids → idOf (laid id f) ≡ id
 laid-id id f h = omega arith
-
--- of two ids laid over a frame the last one stands
-pub laid-laid : (a b : ℕ) (f : List ℕ) → laid a (laid b f) ≡ laid a f
-laid-laid a b f = refl
 
 -- a number put at byte 0 is an id laid over
 pub put-laid : (id : ℕ) (f : List ℕ) → 2 ≤ length f → putAt f 0 id ≡ laid id f

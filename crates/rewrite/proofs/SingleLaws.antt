@@ -1,0 +1,125 @@
+-- What becomes of the one register of a reply 06, by the tag at its address, in plain words.
+-- Assumes nothing.
+use Prim.Native.Nat.{ℕ, _+_, _*_, _-_, _/_, _%_, _≤_, _<_}
+use mathlib.Core.Path.{_≡_, refl, ap, _∙_}
+use mathlib.Core.Logic.{⊎-elim}
+use mathlib.Core.Bool.{false}
+use mathlib.Core.List.{List, [], _∷_, List·Memᴰ, List·Memᴰ·not-nil, List·Memᴰ·cases-cons}
+use native.Mathlib.Omega.{arith}
+use lib.ListN.{length, getD, set}
+use borrow.Author.Tests.{lt-ltb}
+use Rattle.laws.specs.Bytes.{pairAt}
+use Rattle.laws.specs.Digits.{digits, value as valueOf, below}
+use Rattle.laws.proofs.Choice.{lt-or}
+use Rattle.laws.proofs.DigitLaws.{digits-value}
+use Rattle.bcd.specs.declared.Kind.the-variants.{Width16, Width32}
+use Rattle.bcd.specs.declared.Decoded.the-variants.{Binary}
+use Rattle.bcd.specs.Bcd.{unpacked, decimal, registers, decoded, nibble}
+use Rattle.bcd.specs.Words.{wordsOf, numberOf}
+use Rattle.bcd.proofs.OutcomeLaws.{decoded-decimal}
+use Rattle.settings.specs.Grammar.{Tag}
+use Rattle.settings.specs.TagWords.{kindOf, lastOf, Ascending}
+use Rattle.pdu.specs.Replies.{What, excepts}
+use Rattle.pdu.specs.declared.Asked.the-variants.{SingleWrite}
+use Rattle.rewrite.specs.declared.Way.{Way}
+use Rattle.rewrite.specs.declared.Way.the-variants.{ToBinary}
+use Rattle.rewrite.specs.Registers.{registersAt, laidAt}
+use Rattle.rewrite.specs.Rewriting.{turned, Verdict, ownIn, verdict, laidBy, outcome, rewriting}
+use Rattle.rewrite.specs.Rewriting.Verdict.{outside, partial, value, done}
+use Rattle.rewrite.specs.Frames.{returned}
+use Rattle.rewrite.specs.Plain.{Has, InRun, Whole}
+use Rattle.rewrite.proofs.RegisterLaws.{laid-registers}
+use Rattle.rewrite.proofs.OrderLaws.{ascending-in}
+use Rattle.rewrite.proofs.VerdictLaws.{outside-exactly, partial-exactly, value-exactly, done-exactly, turned-decoded, raw-decoded}
+use Rattle.rewrite.proofs.TagLaws.{byVerdict, by-verdict}
+use Rattle.rewrite.proofs.TableLaws.{idle-before, idle-behind, idle-none}
+use Rattle.rewrite.proofs.FrameLaws.{returned-single}
+
+-- four nibbles of at most 9 are the number with those digits
+four-digits : (p q r s : ℕ) → p ≤ 9 → q ≤ 9 → r ≤ 9 → s ≤ 9 → decoded Width16 (4096 * p + 256 * q + 16 * r + s) ≡ Binary (1000 * p + 100 * q + 10 * r + s)
+unfolding decoded decimal unpacked below valueOf
+four-digits p q r s hp hq hr hs =
+    let ds = s ∷ r ∷ q ∷ p ∷ [] in
+    let e : 4096 * p + 256 * q + 16 * r + s ≡ valueOf 16 ds = omega arith in
+    let d : digits 16 4 (4096 * p + 256 * q + 16 * r + s) ≡ ds = rw e (digits-value 16 ds (rw (lt-ltb s 16 (omega arith), lt-ltb r 16 (omega arith), lt-ltb q 16 (omega arith), lt-ltb p 16 (omega arith)) refl)) in
+    let n : valueOf 10 ds ≡ 1000 * p + 100 * q + 10 * r + s = omega arith in
+    decoded-decimal 4 _ (rw (d, lt-ltb s 10 (omega arith), lt-ltb r 10 (omega arith), lt-ltb q 10 (omega arith), lt-ltb p 10 (omega arith)) refl) ∙ ap Binary (rw d n)
+
+module _ (way : Way) (base a : ℕ) (f : List ℕ) where
+  -- a tag that does not have the address is outside a run of that one register
+  elsewhere : (u : Tag) → (Has u a → ⊥) → verdict way a (registersAt base 1 f) u ≡ outside
+  unfolding registersAt
+  elsewhere u n = outside-exactly way a (registersAt base 1 f) u (omega arith) .1 (λ x h r. n (omega (arith, h .0, r .1), omega (arith, h .1, r .0)))
+
+  -- of ascending tags only the one that has the address matters
+  alone : (from : ℕ) (tags : List Tag) (t : Tag) → Ascending from tags → List·Memᴰ t tags → Has t a → rewriting way base a 1 tags f ≡ rewriting way base a 1 (t ∷ []) f
+  unfolding Ascending
+  alone from [] t asc m h = absurd (List·Memᴰ·not-nil m)
+  alone from (y ∷ ts) t asc m h =
+      ⊎-elim
+      (λ (e : t ≡ y). rw e (idle-behind way base a 1 f (y ∷ []) ts (λ u n. elsewhere u (λ g. omega (arith, ascending-in (lastOf y + 1) ts u (asc .2) n .0, g .0, rw e at (h .1))))))
+      (λ (n : List·Memᴰ t ts).
+      idle-before way base a 1 f y ts (elsewhere y (λ g. omega (arith, ascending-in (lastOf y + 1) ts t (asc .2) n .0, g .1, h .0))) ∙ alone (lastOf y + 1) ts t (asc .2) n h)
+      (List·Memᴰ·cases-cons m)
+
+-- a reply f, of bytes, to a request 06 for the address a, that is no exception
+module _ (tags : List Tag) (asc : Ascending 0 tags) (f : List ℕ) (bytes : (k : ℕ) → getD f k 0 < 256) (w : What) (a : ℕ) (asks : w .asked ≡ SingleWrite a) (plain : excepts (w .function) f ≡ false) where
+  -- Where no tag has the address the reply passes unchanged, and none is counted.
+  pub single-untagged : ((t : Tag) → List·Memᴰ t tags → Has t a → ⊥) → returned tags w f ≡ outcome 0 0 f
+  single-untagged n =
+      returned-single tags f w a asks plain ∙ idle-behind ToBinary 10 a 1 f [] tags (λ u m. elsewhere ToBinary 10 a f u (n u m)) ∙ idle-none ToBinary 10 a 1 f bytes
+
+  module _ (t : Tag) (m : List·Memᴰ t tags) (h : Has t a) where
+    judged-by : (v : Verdict) → verdict ToBinary a (registersAt 10 1 f) t ≡ v → returned tags w f ≡ byVerdict ToBinary 10 a 1 t f v
+    judged-by v e = returned-single tags f w a asks plain ∙ alone ToBinary 10 a f 0 tags t asc m h ∙ by-verdict ToBinary 10 a 1 t f v e
+
+    -- Under a tag of width 32 it passes unchanged, and the tag is counted as raw for partial cover.
+    pub single-wide : t .width ≡ 32 → returned tags w f ≡ outcome 1 0 f
+    unfolding kindOf registers registersAt laidBy
+    single-wide e =
+        let k : kindOf t ≡ Width32 = rw e in
+        let n : lastOf t ≡ t .address + 1 = rw k (omega arith) in
+        let other : (x : ℕ) × Has t x × (InRun a 1 x → ⊥) =
+        ⊎-elim
+        (λ (z : t .address < a). (t .address, (omega arith, omega arith), λ i. omega (arith, i .0)))
+        (λ (z : a ≤ t .address). (lastOf t, (omega arith, omega arith), λ i. omega (arith, i .1)))
+        (lt-or (t .address) a) in
+        judged-by partial (partial-exactly ToBinary a (registersAt 10 1 f) t (omega arith) .1 ((a, h, (omega arith, omega arith)), other))
+        ∙ ap (outcome 1 0) (laid-registers 10 1 f bytes)
+
+    module _ (e : t .width ≡ 16) where
+      narrow : kindOf t ≡ Width16
+      unfolding kindOf
+      narrow = rw e
+
+      here : (t .address ≡ a) × Whole a (length (registersAt 10 1 f)) t
+      unfolding registers registersAt
+      here = let n : lastOf t ≡ t .address = rw narrow (omega arith) in (omega (arith, h .0, h .1), (omega (arith, h .1), omega (arith, h .0)))
+
+      -- the tag's number is the word
+      number : turned ToBinary (kindOf t) (numberOf (ownIn a (registersAt 10 1 f) t)) ≡ turned ToBinary Width16 (pairAt f 10)
+      unfolding registers registersAt numberOf valueOf
+      number =
+          let z : t .address - a ≡ 0 = omega (arith, here .0) in
+          let x : pairAt f 10 + 65536 * 0 ≡ pairAt f 10 = omega arith in
+          rw (narrow, z) (ap (turned ToBinary Width16) x)
+
+      -- Under one of width 16 a word with a nibble above 9 passes unchanged, and the tag is counted as raw for its value.
+      pub single-raw : (i : ℕ) → i < 4 → 9 < nibble i (pairAt f 10) → returned tags w f ≡ outcome 0 1 f
+      unfolding registers laidBy
+      single-raw i l n =
+          judged-by value (value-exactly ToBinary a (registersAt 10 1 f) t .1 (here .1, number ∙ raw-decoded Width16 (pairAt f 10) .1 (i, l, n)))
+          ∙ ap (outcome 0 1) (laid-registers 10 1 f bytes)
+
+      -- Under one of width 16 four digits of at most 9 become their number, the high byte first, and nothing is counted.
+      pub single-decoded : (p q r s : ℕ) → p ≤ 9 → q ≤ 9 → r ≤ 9 → s ≤ 9 → getD f 10 0 ≡ 16 * p + q → getD f 11 0 ≡ 16 * r + s
+          → returned tags w f ≡ outcome 0 0 (set (set f 10 ((1000 * p + 100 * q + 10 * r + s) / 256)) 11 ((1000 * p + 100 * q + 10 * r + s) % 256))
+      unfolding registers registersAt laidBy laidAt wordsOf digits
+      single-decoded p q r s hp hq hr hs high low =
+          let n = 1000 * p + 100 * q + 10 * r + s in
+          let d : pairAt f 10 ≡ 4096 * p + 256 * q + 16 * r + s = omega arith in
+          let v = turned-decoded Width16 (pairAt f 10) (Binary n) (rw d (four-digits p q r s hp hq hr hs)) in
+          let z : t .address - a ≡ 0 = omega (arith, here .0) in
+          let small : n % 65536 ≡ n = omega arith in
+          judged-by (done (wordsOf (kindOf t) n)) (done-exactly ToBinary a (registersAt 10 1 f) t (wordsOf (kindOf t) n) .1 (here .1, (n, number ∙ v, refl)))
+          ∙ rw (narrow, z, small)
