@@ -1,58 +1,67 @@
 -- What the tender asks of any history, in one place: every list of calls on a fresh machine, refused calls included, whatever the settings value.
 -- `afterCalls v xs` is the machine after the calls xs, `ledgerOf v xs` the ledger kept from the calls and what the host saw of them: the C answer's numbers, the bytes and the list.
+-- `toldBy v xs` is the lines of that ledger, `grantedCalls v xs` those of the calls that were not refused; what `lastOf` and `lastGiven` are is said in plain words in LastLaws of `laws`.
 -- Assumes nothing.
 use Prim.Native.Nat.{ℕ, suc, _+_, _-_, _≤_, _<_}
 use mathlib.Core.Path.{_≡_, refl, ap, sym, _∙_}
-use mathlib.Core.Logic.{_↔_}
+use mathlib.Core.Logic.{_⊎_, _↔_}
 use mathlib.Core.Bool.{true, false}
-use mathlib.Core.Option.{some}
-use mathlib.Core.List.{List, [], _∷_, _++_, append-assoc, List·Memᴰ}
+use mathlib.Core.Option.{some, Option·getD}
+use mathlib.Core.List.{List, [], _∷_, _++_, List·Memᴰ}
 use native.Mathlib.Omega.{arith}
 use lib.ListN.{length, getD}
 use borrow.Author.Tests.{eqb-true}
-use Rattle.laws.specs.Numbers.{places, ids}
-use Rattle.laws.specs.Lists.{filter}
+use Rattle.laws.specs.Numbers.{places, ids, latestTime}
+use Rattle.laws.specs.Lists.{filter, lastGiven, lastOf}
+use Rattle.laws.specs.Bits.{has}
+use Rattle.laws.proofs.BitLaws.{has-none}
 use Rattle.laws.proofs.FilterLaws.{filter-in}
 use Rattle.bcd.specs.Bcd.{inRange}
 use Rattle.bcd.specs.Words.{numberOf}
 use Rattle.settings.specs.Grammar.{Value, Tag, valid}
 use Rattle.settings.specs.TagWords.{kindOf}
 use Rattle.settings.proofs.TagLaws.{valid-ascends}
-use Rattle.wire.specs.Frame.{laid}
-use Rattle.wire.proofs.FrameLaws.{laid-laid}
-use Rattle.pdu.specs.Requests.{askedOf, legal}
+use Rattle.pdu.specs.Requests.{legal}
 use Rattle.pdu.specs.Replies.{What, excepts}
 use Rattle.pdu.specs.declared.ProxyId.{ProxyId}
 use Rattle.pdu.specs.declared.Asked.the-variants.{Read}
 use Rattle.rewrite.specs.Registers.{registersAt}
 use Rattle.rewrite.specs.Rewriting.{ownIn}
 use Rattle.rewrite.specs.Plain.{Whole}
-use Rattle.book.specs.Book.{Live, Good, NothingDue, at}
-use Rattle.book.specs.Book.Event.{left, lost}
+use Rattle.book.specs.Book.{Party, Live, Good, NothingDue, at}
+use Rattle.book.specs.Book.Event.{issued, left, lost}
 use Rattle.book.specs.Ledger.{Ticket, Anew, under, partiesOf}
-use Rattle.book.specs.Desk.{NoneOpen, AllLive}
-use Rattle.book.specs.Machine.{Accounted, after, history}
-use Rattle.book.proofs.History.{issues-differ, always-sound}
+use Rattle.book.specs.Traced.{issuedId, behind, Outstanding, Holds}
+use Rattle.book.specs.Desk.{AllLive}
+use Rattle.book.specs.Machine.{Accounted, history}
+use Rattle.book.proofs.History.{issues-differ, always-sound, after-on, after-one, history-on}
+use Rattle.book.proofs.TracedLaws.{traced}
 use Rattle.book.proofs.LedgerLaws.{successor, successor-of-lost}
 use Rattle.machine.specs.Machine.{Machine, Note, made, rules, settings, clocked}
-use Rattle.machine.specs.Calls.{Call, Outcome, done, outOf, listOf}
-use Rattle.machine.specs.Calls.Call.{detach, request, reply, tick, linkLost}
+use Rattle.machine.specs.Calls.{Call, Outcome, done, outOf, listOf, timeOf}
+use Rattle.machine.specs.Calls.Call.{attach, detach, request, reply, tick, linkLost}
 use Rattle.machine.specs.Refusals.{rows, lowest, refusal}
 use Rattle.machine.specs.Numbers.{numbers}
-use Rattle.machine.specs.Requests.{wanted, partyOf, joins}
+use Rattle.machine.specs.Requests.{wanted, partyOf}
 use Rattle.machine.specs.Outcomes.{granted, outcome}
+use Rattle.machine.specs.Granted.{grantedCalls, concerns}
+use Rattle.machine.specs.Spelled.{asker, asking}
 use Rattle.machine.specs.Histories.{seenOf, events, told}
 use Rattle.machine.specs.declared.Answer.{Answer}
 use Rattle.machine.specs.declared.Answer.the-variants as answer
 use Rattle.machine.proofs.RefusalLaws.{table, Applies, refused-exactly}
 use Rattle.machine.proofs.OutcomeLaws.{clocked-at, says-refusal, refused-is, granted-is}
 use Rattle.machine.proofs.NumberLaws.{Tells, numbers-tell}
-use Rattle.machine.proofs.RequestLaws.{codeOf, no-other-exception, exception-04 as said-exactly}
+use Rattle.machine.proofs.SpelledLaws.{AskedBy, kept-as-asked}
+use Rattle.machine.proofs.RequestLaws.{NoneToJoin, codeOf, no-other-exception, exception-04 as said-exactly}
+use Rattle.machine.proofs.AskLaws.{Carries, Issues, Joins, Excepts, request-comes-to, issue-is, join-is, exception-is}
 use Rattle.machine.proofs.PartyLaws.{Accepts, Stands, accepted-stands}
 use Rattle.machine.proofs.AnswerLaws.{Answers, Expires, reply-answers, tick-expires, idle-when}
-use Rattle.machine.proofs.ReadBack.{Carries, comes-back}
-use Rattle.machine.proofs.TickLaws.{tickedTimes, ticking-ends}
+use Rattle.machine.proofs.ReadBack.{comes-back}
+use Rattle.machine.proofs.TickLaws.{Lent, tickAt, ticksAt, ticking-ends}
+use Rattle.machine.proofs.FrameOfParty.{EachItsFrame, reply-frame, always-known, timeout-frame}
 use Rattle.machine.proofs.Histories.{product, afterCalls, toldBy, ledgerOf, accounted}
+use Rattle.machine.proofs.StateLaws.{Origin, attached-exactly, clock-exactly, issue-origin}
 
 -- Tender 3, the sum: accepted = answered by a reply + answered by timeout + dropped by a leaving + dropped by a lost link + held in the party places; each accepted
 -- request is in one group and there once; the held ones are, entry by entry and in order, the parties in the places; each answer's list is exactly those that it answers.
@@ -63,6 +72,16 @@ every-request-is-accounted-for v xs = accounted v xs
 -- a join's id, an exception's code, whom a reply or a timeout answers, that nothing is due.
 pub the-report-tells-the-answer : (a : Answer) → Tells (numbers a) a
 the-report-tells-the-answer = numbers-tell
+
+-- Tender 3, who asks what: the party and the request that are kept of client c's bytes f are that client, the id in bytes 0 and 1, the unit in byte 6, the function in byte 7,
+-- and behind it the numbers at bytes 8 and 10 as that function has them.
+pub who-asked-what : (c : ℕ) (f : List ℕ) → AskedBy c f (partyOf c f) (wanted f)
+who-asked-what = kept-as-asked
+
+-- Link lost is never refused.
+pub never-refused : (m : Machine) → refusal m linkLost ≡ 0
+unfolding rows lowest
+never-refused m = refl
 
 module _ (v : Value) (xs : List Call) where
   -- every book of a history is good
@@ -100,14 +119,33 @@ module _ (v : Value) (xs : List Call) where
 
   -- Tender 3: an accepted request stands in the party places afterwards, as the latest party of a live entry that asks what it asks.
   pub the-accepted-stand : (c t : ℕ) (f o : List ℕ) (id : ℕ)
-      → Accepts (outcome (afterCalls v xs) (request c t f o) .says) id → Stands (outcome (afterCalls v xs) (request c t f o) .after .book) id (wanted f) (partyOf c f)
+      → Accepts (outcome (afterCalls v xs) (request c t f o) .says) id → Stands (outcome (afterCalls v xs) (request c t f o) .after .book) id (asking f) (asker c f)
   the-accepted-stand c t f o id = accepted-stands (afterCalls v xs) c t f o good id
+
+  -- Tender 2 and 3, a request: one that is not refused is issued, joins, or gets an exception, and each of the three is told in plain numbers and bytes: what is said, every
+  -- byte of the buffer, and the whole machine afterwards.
+  pub a-request-comes-to-this : (c t : ℕ) (f o : List ℕ) → refusal (afterCalls v xs) (request c t f o) ≡ 0
+      → Issues (afterCalls v xs) c t f o (outcome (afterCalls v xs) (request c t f o))
+      ⊎ (Joins (afterCalls v xs) c t f o (outcome (afterCalls v xs) (request c t f o)) ⊎ Excepts (afterCalls v xs) t f o (outcome (afterCalls v xs) (request c t f o)))
+  a-request-comes-to-this c t f o = request-comes-to (afterCalls v xs) c t f o good
+
+  -- Which of the three it is, the answer says.
+  pub an-issue-is-this : (c t : ℕ) (f o : List ℕ) (i : ProxyId) (n p w : ℕ) → outcome (afterCalls v xs) (request c t f o) .says ≡ answer.Issued i n p w
+      → Issues (afterCalls v xs) c t f o (outcome (afterCalls v xs) (request c t f o))
+  an-issue-is-this c t f o = issue-is (afterCalls v xs) c t f o good
+
+  pub a-join-is-this : (c t : ℕ) (f o : List ℕ) (i : ProxyId) → outcome (afterCalls v xs) (request c t f o) .says ≡ answer.Joined i
+      → Joins (afterCalls v xs) c t f o (outcome (afterCalls v xs) (request c t f o))
+  a-join-is-this c t f o = join-is (afterCalls v xs) c t f o good
+
+  pub an-exception-is-this : (c t : ℕ) (f o : List ℕ) (n : ℕ) → outcome (afterCalls v xs) (request c t f o) .says ≡ answer.Excepted n
+      → Excepts (afterCalls v xs) t f o (outcome (afterCalls v xs) (request c t f o))
+  an-exception-is-this c t f o = exception-is (afterCalls v xs) c t f o good
 
   -- Tender 3: the proxy itself gives exception 04 exactly when a legal request can join nothing and 64 are live.
   pub exception-04-exactly : (c t : ℕ) (f o : List ℕ)
       → (outcome (afterCalls v xs) (request c t f o) .says ≡ answer.Excepted 4)
-      ↔ ((refusal (afterCalls v xs) (request c t f o) ≡ 0) × (legal (settings (afterCalls v xs)) f ≡ true)
-      × NoneOpen rules (clocked (afterCalls v xs) t .book) (joins (settings (afterCalls v xs)) (wanted f)) × AllLive rules (clocked (afterCalls v xs) t .book))
+      ↔ ((refusal (afterCalls v xs) (request c t f o) ≡ 0) × (legal (settings (afterCalls v xs)) f ≡ true) × NoneToJoin (afterCalls v xs) t f × AllLive rules (afterCalls v xs .book))
   exception-04-exactly c t f o = said-exactly (afterCalls v xs) c t f o good
 
   -- and no other call says an exception
@@ -142,19 +180,59 @@ module _ (v : Value) (xs : List Call) where
       let a = tick-expires (afterCalls v xs) t o l good h n in
       (a, accounted v xs .entries (a .place) (a .entry) (a .there), asked-alike (a .place) (a .entry) (a .there))
 
-  -- Document 01: laying a party's id over bytes 0 and 1 gives its frame.
-  pub a-partys-frame : (id : ℕ) (f : List ℕ) → laid id (laid 0 f) ≡ laid id f
-  a-partys-frame id f = laid-laid id 0 f
+  -- Document 01: laying a party's id over bytes 0 and 1 gives its frame. Whoever waits under the id that a reply's report names gets, of as many bytes as the report says, a frame
+  -- that is not refused, carries its own id, comes from the unit and is of the function that it asked, or that + 128, and answers what it asked.
+  pub a-partys-frame : (t : ℕ) (f o l : List ℕ) → refusal (afterCalls v xs) (reply t f o l) ≡ 0 → EachItsFrame (ledgerOf v xs) (seenOf (outcome (afterCalls v xs) (reply t f o l)))
+  a-partys-frame t f o l h k m =
+      let g = a-reply-goes-to-its-own t f o l h in
+      let w = reply-frame (afterCalls v xs) t f o l h (g .0) in
+      rw (g .2 k (rw (w .0) at m)) (w .1 (k .party))
 
-  -- Tender 3: ticking at one time ends. After as many ticks as there are places the next one says that nothing is due.
-  pub ticking-comes-to-an-end : (t : ℕ) (o l : List ℕ) (n : ℕ) → refusal (afterCalls v xs) (tick t o l) ≡ 0 → places ≤ n → outcome (tickedTimes t o l n (afterCalls v xs)) (tick t o l) .says ≡ answer.NothingDue
-  ticking-comes-to-an-end t o l n h p = ticking-ends t o l n (afterCalls v xs) good h p
+  -- And of a timeout the same.
+  pub a-partys-timeout : (t : ℕ) (o l : List ℕ) → refusal (afterCalls v xs) (tick t o l) ≡ 0 → (outcome (afterCalls v xs) (tick t o l) .says ≡ answer.NothingDue → ⊥)
+      → EachItsFrame (ledgerOf v xs) (seenOf (outcome (afterCalls v xs) (tick t o l)))
+  a-partys-timeout t o l h n k m =
+      let g = a-timeout-goes-to-its-own t o l h n in
+      let w = timeout-frame (afterCalls v xs) t o l (always-known v xs) (g .0) in
+      rw (g .2 k (rw (w .0) at m)) (w .1 (k .party))
 
--- the machine after one call more
-after-one : (v : Value) (m : Machine) (xs : List Call) (x : Call) → after (product v) m (xs ++ (x ∷ [])) ≡ outcome (after (product v) m xs) x .after
-unfolding after
-after-one v m [] x = refl
-after-one v m (y ∷ ys) x = after-one v (outcome m y .after) ys x
+  -- Document 01, the state by the history, 1: a client is attached exactly if the last of its attach, its detach and link lost that was not refused is its attach.
+  pub who-is-attached : (c : ℕ) → (has (afterCalls v xs .attached) c ≡ true) ↔ (lastOf (concerns c) (grantedCalls v xs) ≡ some (attach c))
+  who-is-attached = attached-exactly v xs
+
+  -- 2: the clock is the time of the last request, reply or tick that was not refused, and 0 where there was none.
+  pub what-the-clock-shows : afterCalls v xs .book .clock ≡ Option·getD (lastGiven timeOf (grantedCalls v xs)) 0
+  what-the-clock-shows = clock-exactly v xs
+
+  -- 3: the cursor is the last issued id + 1, 0 after 65,535, and 0 where none was issued.
+  pub where-the-cursor-stands : afterCalls v xs .book .cursor ≡ behind ids (lastGiven issuedId (toldBy v xs))
+  where-the-cursor-stands = traced (product v) xs .cursor
+
+  -- 4: an id is live exactly if it was issued and since its last issue neither answered nor timed out nor lost with the link; it holds what that issue asked, for the client
+  -- that asked it, and is due when that issue said. A leaving ends nothing: an entry with no party stays live. Its parties are `entries` of `Accounted`.
+  pub which-ids-are-live : (id : ℕ) (w : What) (c d : ℕ) → Holds (afterCalls v xs .book) id w c d ↔ Outstanding (toldBy v xs) id w c d
+  which-ids-are-live = traced (product v) xs .lives
+
+  -- and each issue is a request among the calls, answered Issued under that id: it asked what the frame asks, and is due at the request's time plus the timeout.
+  pub what-an-issue-is : (id : ℕ) (w : What) (d : ℕ) (p : Party) → List·Memᴰ (issued id w d p) (toldBy v xs) → Origin v xs id w d p
+  what-an-issue-is = issue-origin v xs
+
+  -- Document 01: link lost returns the former set, client by client those that were attached, and nobody is attached after it.
+  pub link-lost-says-who-was-attached : (s : ℕ) × (outcome (afterCalls v xs) linkLost .says ≡ answer.Lost s)
+      × ((c : ℕ) → (has s c ≡ true) ↔ (lastOf (concerns c) (grantedCalls v xs) ≡ some (attach c))) × ((c : ℕ) → has (outcome (afterCalls v xs) linkLost .after .attached) c ≡ false)
+  unfolding granted
+  link-lost-says-who-was-attached =
+      let e = granted-is (afterCalls v xs) linkLost (never-refused (afterCalls v xs)) in
+      (afterCalls v xs .attached, ap (λ (d : Outcome). d .says) e, who-is-attached, λ c. ap (λ (d : Outcome). has (d .after .attached) c) e ∙ has-none c)
+
+  -- Attach and detach say done.
+  pub attach-says-done : (c : ℕ) → refusal (afterCalls v xs) (attach c) ≡ 0 → outcome (afterCalls v xs) (attach c) .says ≡ answer.Done
+  unfolding granted
+  attach-says-done c h = ap (λ (d : Outcome). d .says) (granted-is (afterCalls v xs) (attach c) h)
+
+  pub detach-says-done : (c : ℕ) → refusal (afterCalls v xs) (detach c) ≡ 0 → outcome (afterCalls v xs) (detach c) .says ≡ answer.Done
+  unfolding granted
+  detach-says-done c h = ap (λ (d : Outcome). d .says) (granted-is (afterCalls v xs) (detach c) h)
 
 -- Tender 3: once the host has ticked until nothing is due, at the time t, nothing accepted a full timeout ago waits.
 pub nothing-waits-forever : (v : Value) (xs : List Call) (t : ℕ) (o l : List ℕ) → outcome (afterCalls v xs) (tick t o l) .says ≡ answer.NothingDue
@@ -162,10 +240,20 @@ pub nothing-waits-forever : (v : Value) (xs : List Call) (t : ℕ) (o l : List �
 nothing-waits-forever v xs t o l s k m =
     let w = idle-when (afterCalls v xs) t o l (good v xs) s in
     let ys = xs ++ (tick t o l ∷ []) in
-    let e : afterCalls v ys ≡ clocked (afterCalls v xs) t = after-one v (made v) xs (tick t o l) ∙ w .2 in
+    let e : afterCalls v ys ≡ clocked (afterCalls v xs) t = after-one (product v) (made v) xs (tick t o l) ∙ w .2 in
     let d = accounted v ys .drained (rw (ap (λ (n : Machine). n .book) e) (w .1)) k m in
     let c : afterCalls v ys .book .clock ≡ t = ap (λ (n : Machine). n .book .clock) e ∙ clocked-at (afterCalls v xs) (tick t o l) t (w .0) refl in
     rw (c, same-settings v ys) at d
+
+-- Tender 3: ticking at one time ends. After any calls, and then as many ticks at one time as there are places, or more, each with whatever buffers, the next tick at that time says
+-- that nothing is due, and nothing accepted a full timeout before that time waits.
+pub ticking-comes-to-an-end : (v : Value) (xs : List Call) (t : ℕ) → t ≤ latestTime → afterCalls v xs .book .clock ≤ t → (bs : List Lent) → places ≤ length bs → (b : Lent)
+    → (outcome (afterCalls v (xs ++ ticksAt t bs)) (tickAt t b) .says ≡ answer.NothingDue)
+    × ((k : Ticket What) → List·Memᴰ k (ledgerOf v ((xs ++ ticksAt t bs) ++ (tickAt t b ∷ [])) .waiting) → t < k .time + v .timeout)
+ticking-comes-to-an-end v xs t late c bs p b =
+    let s : outcome (afterCalls v (xs ++ ticksAt t bs)) (tickAt t b) .says ≡ answer.NothingDue =
+    rw (after-on (product v) (made v) xs (ticksAt t bs)) (ticking-ends v t late bs b (afterCalls v xs) (good v xs) c p) in
+    (s, nothing-waits-forever v (xs ++ ticksAt t bs) t (b .out) (b .list) s)
 
 -- Tender 2: a value in a tag's range, written over the whole tag in one request, stored as sent and read back whole in one, comes back equal. Whatever calls came before the
 -- write and whatever calls came before the reply: the registers of the tag in the frame that was issued, carried by a reply to a read that covers the tag, reach the reader
@@ -173,33 +261,21 @@ nothing-waits-forever v xs t o l s k m =
 pub a-value-comes-back : (v : Value) → valid v ≡ true → (tag : Tag) → List·Memᴰ tag (v .tags)
     → (xs : List Call) (c t : ℕ) (f o : List ℕ) → ((k : ℕ) → getD f k 0 < 256)
     → (i : ProxyId) (n p w : ℕ) → outcome (afterCalls v xs) (request c t f o) .says ≡ answer.Issued i n p w
-    → (base s q : ℕ) → Carries (askedOf f) base s q → Whole s q tag → inRange (kindOf tag) (numberOf (ownIn s (registersAt base q f) tag)) ≡ true
+    → (base s q : ℕ) → Carries (asking f .asked) base s q → Whole s q tag → inRange (kindOf tag) (numberOf (ownIn s (registersAt base q f) tag)) ≡ true
     → (ys : List Call) (t′ : ℕ) (g o′ l : List ℕ) → ((k : ℕ) → getD g k 0 < 256)
     → (a : Answers (afterCalls v ys) g o′ l (outcome (afterCalls v ys) (reply t′ g o′ l))) → excepts (a .entry .what .function) g ≡ false
     → (s′ q′ : ℕ) → a .entry .what .asked ≡ Read s′ q′ → Whole s′ q′ tag
     → ownIn s′ (registersAt 9 q′ g) tag ≡ ownIn s (registersAt base q (outcome (afterCalls v xs) (request c t f o) .written)) tag
     → ownIn s′ (registersAt 9 q′ (outcome (afterCalls v ys) (reply t′ g o′ l) .written)) tag ≡ ownIn s (registersAt base q f) tag
 a-value-comes-back v right tag m xs c t f o bytes i n p w e base s q carries whole range ys =
-    comes-back (v .tags) (valid-ascends v right) tag m (afterCalls v xs) (ap (λ (x : Value). x .tags) (same-settings v xs)) c t f o bytes i n p w e base s q carries whole range
-    (afterCalls v ys)
-    (ap (λ (x : Value). x .tags) (same-settings v ys))
-
--- what calls tell that come after others
-told-on : (v : Value) (m : Machine) (xs ys : List Call) → history (product v) m (xs ++ ys) ≡ history (product v) m xs ++ history (product v) (after (product v) m xs) ys
-unfolding after history
-told-on v m [] ys = refl
-told-on v m (x ∷ xs) ys = ap (λ vs. events v x (seenOf (outcome m x)) ++ vs) (told-on v (outcome m x .after) xs ys) ∙ sym (append-assoc (events v x (seenOf (outcome m x))) _ _)
+    comes-back (v .tags) (valid-ascends v right) tag m (afterCalls v xs) (ap (λ (x : Value). x .tags) (same-settings v xs)) c t f o bytes (an-issue-is-this v xs c t f o i n p w e) base s q
+    carries whole range (afterCalls v ys) (ap (λ (x : Value). x .tags) (same-settings v ys))
 
 -- a leaving and a lost link tell just that
 leaving-told : (v : Value) (m : Machine) (c : ℕ) (ys : List Call) → refusal m (detach c) ≡ 0
     → history (product v) m (detach c ∷ ys) ≡ left c ∷ history (product v) (outcome m (detach c) .after) ys
 unfolding history events told granted numbers
 leaving-told v m c ys h = ap (λ (d : Outcome). events v (detach c) (seenOf d) ++ history (product v) (outcome m (detach c) .after) ys) (granted-is m (detach c) h)
-
--- Link lost is never refused.
-pub never-refused : (m : Machine) → refusal m linkLost ≡ 0
-unfolding rows lowest
-never-refused m = refl
 
 loss-told : (v : Value) (m : Machine) (ys : List Call) → history (product v) m (linkLost ∷ ys) ≡ lost ∷ history (product v) (outcome m linkLost .after) ys
 unfolding history events told granted numbers
@@ -213,8 +289,8 @@ unfolding history
 a-successor-gets-nothing-old v xs c ys h =
     let m = afterCalls v xs in
     rw (
-      told-on v (made v) xs (detach c ∷ []) ∙ ap (λ vs. toldBy v xs ++ vs) (leaving-told v m c [] h),
-      told-on v (made v) xs (detach c ∷ ys) ∙ ap (λ vs. toldBy v xs ++ vs) (leaving-told v m c ys h),
+      history-on (product v) (made v) xs (detach c ∷ []) ∙ ap (λ vs. toldBy v xs ++ vs) (leaving-told v m c [] h),
+      history-on (product v) (made v) xs (detach c ∷ ys) ∙ ap (λ vs. toldBy v xs ++ vs) (leaving-told v m c ys h),
     ) (successor (toldBy v xs) c _)
 
 -- And the same after a lost link, of any client number.
@@ -223,6 +299,6 @@ unfolding history
 nor-after-a-lost-link v xs c ys =
     let m = afterCalls v xs in
     rw (
-      told-on v (made v) xs (linkLost ∷ []) ∙ ap (λ vs. toldBy v xs ++ vs) (loss-told v m []),
-      told-on v (made v) xs (linkLost ∷ ys) ∙ ap (λ vs. toldBy v xs ++ vs) (loss-told v m ys),
+      history-on (product v) (made v) xs (linkLost ∷ []) ∙ ap (λ vs. toldBy v xs ++ vs) (loss-told v m []),
+      history-on (product v) (made v) xs (linkLost ∷ ys) ∙ ap (λ vs. toldBy v xs ++ vs) (loss-told v m ys),
     ) (successor-of-lost (toldBy v xs) c _)

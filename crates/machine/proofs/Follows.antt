@@ -39,6 +39,7 @@ use Rattle.machine.specs.declared.Answer.{Answer}
 use Rattle.machine.specs.declared.Answer.the-variants as answer
 use Rattle.machine.proofs.OutcomeLaws.{granted-is, reply-finds, isRefusal, granted-no-refusal, clocked-at, served-cases}
 use Rattle.machine.proofs.RefusalLaws.{refusal-changes-nothing}
+use Rattle.machine.proofs.SpelledLaws.{party-spelled, wanted-spelled}
 use Rattle.machine.proofs.JoinLaws.{joins-exact}
 
 abbrev pub Moves : Type 0
@@ -196,7 +197,8 @@ served-honest : (v : Value) (m : Machine) (c t : ℕ) (f o : List ℕ) → Good 
     → told v (request c t f o) (seenOf (served m c f o)) ≡ passed t ∷ tells (serving m c f)
 unfolding told served serving tells numbers excepted issuedTo joinedTo joining exhausted
 served-honest v m c t f o g s k =
-    ⊎-elim
+    rw (← wanted-spelled f, ← party-spelled c f)
+    (⊎-elim
     (λ (z : canJoin m f ≡ true).
     let w = join-found rules (m .book) g (joins (settings m) (wanted f)) (ltb-true (joiningPlace m f) places z) in
     rw z (rw (w .1) refl))
@@ -205,7 +207,7 @@ served-honest v m c t f o g s k =
     (λ (u : ltb (freePlace rules (m .book)) places ≡ true). rw u (rw (s, k) refl))
     (λ (u : ltb (freePlace rules (m .book)) places ≡ false). rw u refl)
     (true-or (ltb (freePlace rules (m .book)) places))))
-    (true-or (canJoin m f))
+    (true-or (canJoin m f)))
 
 replied-honest : (v : Value) (m n : Machine) (k t : ℕ) (f o l : List ℕ) (e : Live What Note)
     → told v (reply t f o l) (seenOf (answeredTo n k f o l (some e))) ≡ passed t ∷ tells (ending (replies k) (some e))

@@ -1,17 +1,26 @@
--- What a request joins: nothing but what it asks itself, and only a read with joining on.
+-- What a request joins: nothing but what it asks itself, and only a read with joining on; and what that is in plain numbers and bytes.
 -- Assumes nothing.
-use Prim.Native.Nat.{ℕ}
+use Prim.Native.Nat.{ℕ, _<_}
 use mathlib.Core.Path.{_≡_, refl, ap, sym, _∙_}
-use mathlib.Core.Logic.{⊎-elim}
-use mathlib.Core.Bool.{true, false, _&&_, false≢true, true≢false, and-true, and-false}
+use mathlib.Core.Logic.{⊎-elim, _⊎_, _↔_}
+use mathlib.Core.Bool.{Bool, true, false, cond, _&&_, _||_, false≢true, true≢false, and-true, and-false}
+use mathlib.Core.List.{List}
+use lib.ListN.{length, getD}
 use lib.Dec.{eqb}
 use borrow.Author.Tests.{eq-eqb, eqb-true}
-use Rattle.laws.proofs.Choice.{true-or, and-left, and-right}
+use Rattle.laws.specs.Numbers.{room}
+use Rattle.laws.proofs.Choice.{true-or, and-left, and-right, never}
+use Rattle.laws.proofs.TestLaws.{holds-eq, holds-or}
 use Rattle.settings.specs.Grammar.{Value}
 use Rattle.pdu.specs.Replies.{What, what}
 use Rattle.pdu.specs.declared.Asked.{Asked}
 use Rattle.pdu.specs.declared.Asked.the-variants.{Read, SingleWrite, MultipleWrite, Other}
-use Rattle.machine.specs.Requests.{sameRead, joins}
+use Rattle.book.specs.Book.{Live}
+use Rattle.book.specs.Desk.{Open}
+use Rattle.machine.specs.Machine.{Machine, Note, rules, settings, clocked}
+use Rattle.machine.specs.Requests.{wanted, sameRead, joins}
+use Rattle.machine.specs.Spelled.{spelled, asking}
+use Rattle.machine.proofs.SpelledLaws.{asked-spelled, wanted-spelled, kept-as-asked}
 
 whats : {i j f g : ℕ} {a b : Asked} → i ≡ j → f ≡ g → a ≡ b → what i f a ≡ what j g b
 whats p q r = rw (p, q, r)
@@ -61,3 +70,50 @@ reads-other Other b other = refl
 pub joins-other : (v : Value) (w u : What) → ((s q : ℕ) → w .asked ≡ Read s q → ⊥) → joins v w u ≡ false
 unfolding joins
 joins-other v w u other = simp (reads-other (w .asked) (u .asked) other, and-false)
+
+-- the entry may be joined by the request f at the time t: joining is on, f is a read, the entry asks what f asks, has room for one more party, and is due later
+pub record MayJoin (m : Machine) (t : ℕ) (f : List ℕ) (e : Live What Note) : Type 0 where
+  pub on : settings m .join ≡ 1
+  pub reads : (getD f 7 0 ≡ 3) ⊎ (getD f 7 0 ≡ 4)
+  pub same : e .what ≡ asking f
+  pub fewer : length (e .parties) < room
+  pub later : t < e .deadline
+
+joins-on : (v : Value) (w u : What) → joins v w u ≡ true → v .join ≡ 1
+unfolding joins
+joins-on v w u t = eqb-true (v .join) 1 (and-left (eqb (v .join) 1) _ t)
+
+no-read : (f : List ℕ) → (eqb (getD f 7 0) 3 || eqb (getD f 7 0) 4) ≡ false → (s q : ℕ) → asking f .asked ≡ Read s q → ⊥
+unfolding asking spelled
+no-read f z s q = rw z (by (eqb (getD f 7 0) 6) (eqb (getD f 7 0) 16) _ _)
+  where
+    by : (single multiple : Bool) (a b : ℕ) → cond single (SingleWrite a) (cond multiple (MultipleWrite a b) Other) ≡ Read s q → ⊥
+    by true multiple a b e = never (cc)
+    by false true a b e = never (cc)
+    by false false a b e = never (cc)
+
+joins-reads : (v : Value) (f : List ℕ) (u : What) → joins v (wanted f) u ≡ true → (getD f 7 0 ≡ 3) ⊎ (getD f 7 0 ≡ 4)
+joins-reads v f u t =
+    let n = getD f 7 0 in
+    ⊎-elim
+    (holds-or (eqb n 3) (eqb n 4) (holds-eq n 3) (holds-eq n 4) .0)
+    (λ (z : (eqb n 3 || eqb n 4) ≡ false). absurd (true≢false (sym t ∙ joins-other v (wanted f) u (λ s q e. no-read f z s q (sym (asked-spelled f) ∙ e)))))
+    (true-or (eqb n 3 || eqb n 4))
+
+-- What may be joined is what the test of the definition lets through.
+pub may-join : (m : Machine) (t : ℕ) (f : List ℕ) (e : Live What Note) → clocked m t .book .clock ≡ t → Open rules (clocked m t .book) (joins (settings m) (wanted f)) e ↔ MayJoin m t f e
+may-join m t f e k = (
+  λ o.
+      record {
+        on = joins-on (settings m) (wanted f) (e .what) (o .0);
+        reads = joins-reads (settings m) f (e .what) (o .0);
+        same = sym (joins-exact (settings m) (wanted f) (e .what) (o .0)) ∙ wanted-spelled f;
+        fewer = o .1;
+        later = rw k at (o .2);
+      },
+  λ j. (
+    rw (j .same ∙ sym (wanted-spelled f)) (joins-read (settings m) (wanted f) _ _ (kept-as-asked 0 f .reads (j .reads)) ∙ eq-eqb (settings m .join) 1 (j .on)),
+    j .fewer,
+    rw k (j .later),
+  ),
+)

@@ -17,7 +17,7 @@ use Rattle.pdu.specs.Replies.{What}
 use Rattle.book.specs.Book.{Live, Good, at}
 use Rattle.book.specs.Desk.{duePlace}
 use Rattle.machine.specs.Machine.{Machine, Note, rules, clocked}
-use Rattle.machine.specs.Calls.{Call, Outcome, done, outOf, listOf}
+use Rattle.machine.specs.Calls.{Call, Outcome, done, outOf, listOf, timeOf}
 use Rattle.machine.specs.Calls.Call.{attach, detach, request, reply, tick, linkLost}
 use Rattle.machine.specs.Refusals.{rows, refusal, entryFor, isUntimely, isDead}
 use Rattle.machine.specs.Requests.{excepted, joinedTo, issuedTo, served, admitted, canJoin, exhausted, joiningPlace}
@@ -43,7 +43,7 @@ served-cases P m c f o x j i =
     into (some e) = j (joiningPlace m f) e
 
 -- and those of a tick, as one of two
-expired-cases : (P : Outcome → Type 0) (m : Machine) (o l : List ℕ) → ((k : ℕ) → P (expiredTo m k o l none)) → ((k : ℕ) (e : Live What Note) → P (expiredTo m k o l (some e)))
+pub expired-cases : (P : Outcome → Type 0) (m : Machine) (o l : List ℕ) → ((k : ℕ) → P (expiredTo m k o l none)) → ((k : ℕ) (e : Live What Note) → P (expiredTo m k o l (some e)))
     → (k : ℕ) (q : Option (Live What Note)) → P (expiredTo m k o l q)
 expired-cases P m o l x y k none = x k
 expired-cases P m o l x y k (some e) = y k e
@@ -93,6 +93,14 @@ pub granted-is : (m : Machine) (x : Call) → refusal m x ≡ 0 → outcome m x 
 unfolding outcome
 granted-is m x z = rw (eq-eqb (refusal m x) 0 z)
 
+-- what says no refusal was not refused
+pub not-refused : (m : Machine) (x : Call) (a : Answer) → isRefusal a ≡ false → outcome m x .says ≡ a → refusal m x ≡ 0
+not-refused m x a n e =
+    ⊎-elim
+    (λ z. z)
+    (λ (z : refusal m x ≡ 0 → ⊥). absurd (false≢true (sym n ∙ ap isRefusal (sym e ∙ ap (λ (d : Outcome). d .says) (refusal-changes-nothing m x z)))))
+    (eq-or (refusal m x) 0)
+
 -- a call that is refused with n comes to just that
 pub refused-is : (m : Machine) (x : Call) (n : ℕ) → refusal m x ≡ n → (n ≡ 0 → ⊥) → done (answer.Refused n) m (outOf x) (listOf x) ≡ outcome m x
 refused-is m x n e h = rw (← e) (sym (refusal-changes-nothing m x (λ z. h (sym e ∙ z))))
@@ -110,15 +118,6 @@ says-refusal m g x n h = (
   where
     same-number : {i j : ℕ} → answer.Refused i ≡ answer.Refused j → i ≡ j
     same-number e = cc
-
--- the time that a call carries
-abbrev pub timeOf : Call → Option ℕ
-timeOf (attach c) = none
-timeOf (detach c) = none
-timeOf (request c t f o) = some t
-timeOf (reply t f o l) = some t
-timeOf (tick t o l) = some t
-timeOf linkLost = none
 
 timely : (m : Machine) (t : ℕ) → isUntimely m t ≡ false → max (m .book .clock) t ≡ t
 timely m t e = max-eq-right (ltb-false t (m .book .clock) (or-right (ltb latestTime t) (ltb t (m .book .clock)) e))

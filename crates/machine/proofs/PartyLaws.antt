@@ -1,32 +1,29 @@
 -- Where requests stand: an accepted one stands in the party places afterwards, a mismatched reply leaves its entry, a tick ends at most one, a client that left is nowhere.
 -- Assumes nothing.
-use Prim.Native.Nat.{ℕ, _+_, _≤_, _<_}
+use Prim.Native.Nat.{ℕ, _≤_}
 use mathlib.Core.Path.{_≡_, refl, ap, sym, _∙_}
 use mathlib.Core.Logic.{⊎-elim, _⊎_, inl, inr}
-use mathlib.Core.Bool.{true, false, not, true≢false}
+use mathlib.Core.Bool.{not, true≢false}
 use mathlib.Core.Option.{Option, some, none}
 use mathlib.Core.List.{List, [], _∷_, _++_, List·Memᴰ}
 use native.Mathlib.Omega.{arith}
 use lib.ListN.{getD}
 use lib.Seq.{getD-set-same, getD-set-other}
-use lib.Dec.{eqb, ltb}
-use borrow.Author.Tests.{ltb-true, not-true, eq-eqb}
-use Rattle.laws.specs.Numbers.{places, deviceFailure}
-use Rattle.laws.proofs.Choice.{true-or, eq-or}
+use borrow.Author.Tests.{not-true, eq-eqb}
+use Rattle.laws.proofs.Choice.{eq-or}
 use Rattle.laws.proofs.FilterLaws.{filter-in}
-use Rattle.pdu.specs.Requests.{faultOf}
 use Rattle.pdu.specs.Replies.{What}
-use Rattle.book.specs.Book.{Party, Live, Good, at, added, struck, isOf, without, apply}
+use Rattle.book.specs.Book.{Party, Live, Good, at, struck, isOf, without, apply}
 use Rattle.book.specs.Book.Move.{pass, strike}
-use Rattle.book.specs.Desk.{freePlace, freeId, duePlace}
+use Rattle.book.specs.Desk.{duePlace}
 use Rattle.book.proofs.GoodLaws.{good-move}
 use Rattle.book.proofs.PlaceLaws.{at-low, map-cases}
-use Rattle.book.proofs.DeskLaws.{join-found, due-found}
-use Rattle.machine.specs.Machine.{Machine, Note, Live-book, rules, settings, clocked}
-use Rattle.machine.specs.Calls.{Call, Outcome, done, outOf, listOf}
+use Rattle.book.proofs.DeskLaws.{due-found}
+use Rattle.machine.specs.Machine.{Machine, Note, Live-book, rules, clocked}
+use Rattle.machine.specs.Calls.{Outcome, done, outOf, listOf}
 use Rattle.machine.specs.Calls.Call.{detach, request, reply, tick}
 use Rattle.machine.specs.Refusals.{refusal}
-use Rattle.machine.specs.Requests.{wanted, partyOf, joins, joiningPlace, canJoin, exhausted, excepted, joinedTo, issuedTo, served, admitted}
+use Rattle.machine.specs.Spelled.{asker, asking}
 use Rattle.machine.specs.Replies.{expiredTo, ticked}
 use Rattle.machine.specs.Outcomes.{granted, outcome}
 use Rattle.machine.specs.declared.Answer.{Answer}
@@ -34,7 +31,7 @@ use Rattle.machine.specs.declared.Answer.the-variants as answer
 use Rattle.machine.proofs.RefusalLaws.{refusal-changes-nothing}
 use Rattle.machine.proofs.OutcomeLaws.{granted-is, clocked-at}
 use Rattle.machine.proofs.Follows.{same-entry}
-use Rattle.machine.proofs.JoinLaws.{joins-exact}
+use Rattle.machine.proofs.AskLaws.{Issues, Joins, Excepts, request-comes-to}
 
 -- a live entry under that id asks w and has the party as its latest
 pub record Stands (b : Live-book) (id : ℕ) (w : What) (p : Party) : Type 0 where
@@ -58,74 +55,21 @@ Accepts (answer.TimedOut i k) id = ⊥
 Accepts answer.NothingDue id = ⊥
 Accepts (answer.Lost s) id = ⊥
 
-joined-stands : (m : Machine) (k c : ℕ) (f o : List ℕ) (e : Live What Note) → at (m .book) k ≡ some e → wanted f ≡ e .what → (id : ℕ)
-    → Accepts (joinedTo m k c f o (some e) .says) id → Stands (joinedTo m k c f o (some e) .after .book) id (wanted f) (partyOf c f)
-unfolding joinedTo Accepts
-joined-stands m k c f o e h w id a =
-    record {
-      place = k;
-      entry = added (partyOf c f) e;
-      before = e .parties;
-      there = getD-set-same (m .book .places) k (some (added (partyOf c f) e)) none (at-low (m .book .places) k e h);
-      same = a;
-      asks = sym w;
-      latest = refl;
-    }
-
-issued-stands : (m : Machine) (c : ℕ) (f o : List ℕ) → Good rules (m .book) → freePlace rules (m .book) < places → (id : ℕ)
-    → Accepts (issuedTo m c f o .says) id → Stands (issuedTo m c f o .after .book) id (wanted f) (partyOf c f)
-unfolding issuedTo Accepts
-issued-stands m c f o g l id a =
-    record {
-      place = freePlace rules (m .book);
-      entry = record { id = freeId rules (m .book); what = wanted f; by = c; note = tt; deadline = m .book .clock + settings m .timeout; parties = partyOf c f ∷ [] };
-      before = [];
-      there = getD-set-same (m .book .places) (freePlace rules (m .book)) _ none (rw (g .long) l);
-      same = a;
-      asks = refl;
-      latest = refl;
-    }
-
-excepted-no : (m : Machine) (n : ℕ) (f o : List ℕ) (id : ℕ) → Accepts (excepted m n f o .says) id → ⊥
-unfolding excepted Accepts
-excepted-no m n f o id a = a
-
-refused-no : (m : Machine) (x : Call) (id : ℕ) → Accepts (done (answer.Refused (refusal m x)) m (outOf x) (listOf x) .says) id → ⊥
-unfolding Accepts
-refused-no m x id a = a
-
-served-stands : (m : Machine) (c : ℕ) (f o : List ℕ) → Good rules (m .book) → (id : ℕ) → Accepts (served m c f o .says) id → Stands (served m c f o .after .book) id (wanted f) (partyOf c f)
-unfolding served exhausted
-served-stands m c f o g id =
-    ⊎-elim
-    (λ (t : canJoin m f ≡ true).
-    let w = join-found rules (m .book) g (joins (settings m) (wanted f)) (ltb-true (joiningPlace m f) places t) in
-    rw t (rw (w .1) (joined-stands m (joiningPlace m f) c f o (w .0) (w .1) (joins-exact (settings m) (wanted f) (w .0 .what) (w .2 .0)) id)))
-    (λ (t : canJoin m f ≡ false). rw t
-    (⊎-elim
-    (λ (u : ltb (freePlace rules (m .book)) places ≡ true). rw u (issued-stands m c f o g (ltb-true (freePlace rules (m .book)) places u) id))
-    (λ (u : ltb (freePlace rules (m .book)) places ≡ false). rw u (λ a. absurd (excepted-no m deviceFailure f o id a)))
-    (true-or (ltb (freePlace rules (m .book)) places))))
-    (true-or (canJoin m f))
-
 -- A request that is joined or issued stands in the party places afterwards, as the latest party of a live entry that asks what it asks.
 pub accepted-stands : (m : Machine) (c t : ℕ) (f o : List ℕ) → Good rules (m .book) → (id : ℕ)
-    → Accepts (outcome m (request c t f o) .says) id → Stands (outcome m (request c t f o) .after .book) id (wanted f) (partyOf c f)
-unfolding granted admitted
+    → Accepts (outcome m (request c t f o) .says) id → Stands (outcome m (request c t f o) .after .book) id (asking f) (asker c f)
+unfolding Accepts
 accepted-stands m c t f o g id a =
     ⊎-elim
-    (λ (h : refusal m (request c t f o) ≡ 0).
-    let e = granted-is m (request c t f o) h in
-    ⊎-elim
-    (λ (z : eqb (faultOf f) 0 ≡ true).
-    let q : outcome m (request c t f o) ≡ served (clocked m t) c f o = e ∙ rw z refl in
-    rw q (served-stands (clocked m t) c f o (good-move rules (m .book) (pass t) g tt) id (rw q at a)))
-    (λ (z : eqb (faultOf f) 0 ≡ false).
-    let q : outcome m (request c t f o) ≡ excepted (clocked m t) (faultOf f) f o = e ∙ rw z refl in
-    absurd (excepted-no (clocked m t) (faultOf f) f o id (rw q at a)))
-    (true-or (eqb (faultOf f) 0)))
-    (λ (h : refusal m (request c t f o) ≡ 0 → ⊥).
-    absurd (refused-no m (request c t f o) id (rw (refusal-changes-nothing m (request c t f o) h) at a)))
+    (λ (h : refusal m (request c t f o) ≡ 0). ⊎-elim
+    (λ (x : Issues m c t f o (outcome m (request c t f o))).
+    record { place = x .place; entry = _; before = []; there = x .entered; same = rw (x .says) at a; asks = refl; latest = refl })
+    (⊎-elim
+    (λ (x : Joins m c t f o (outcome m (request c t f o))).
+    record { place = x .place; entry = _; before = x .entry .parties; there = x .added; same = rw (x .says) at a; asks = x .may .same; latest = refl })
+    (λ (x : Excepts m t f o (outcome m (request c t f o))). absurd (rw (x .says) at a)))
+    (request-comes-to m c t f o g h))
+    (λ (h : refusal m (request c t f o) ≡ 0 → ⊥). absurd (rw (ap (λ (d : Outcome). d .says) (refusal-changes-nothing m (request c t f o) h)) at a))
     (eq-or (refusal m (request c t f o)) 0)
 
 -- A reply that does not answer its entry's request leaves the machine as it was, with that entry live.

@@ -1,95 +1,109 @@
--- Ticking again and again at one time comes to an end.
+-- Ticking again and again at one time comes to an end, whatever buffers each tick is lent: what they hold has no part in the state.
 -- Assumes nothing.
-use Prim.Native.Nat.{ℕ, zero, suc, _≤_, max}
+use Prim.Native.Nat.{ℕ, _≤_}
 use mathlib.Core.Path.{_≡_, refl, ap, sym, subst, _∙_}
 use mathlib.Core.Logic.{⊎-elim}
-use mathlib.Core.Bool.{_||_}
 use mathlib.Core.Option.{Option, some, none}
-use mathlib.Core.List.{List, []}
+use mathlib.Core.List.{List, [], _∷_, map}
 use native.Mathlib.Omega.{arith}
 use native.Mathlib.Nat.{max-eq-right}
-use lib.Dec.{ltb}
+use lib.ListN.{length}
 use borrow.Author.Tests.{le-ltb}
-use Rattle.laws.specs.Numbers.{places, latestTime}
-use Rattle.laws.proofs.Choice.{or-left}
+use Rattle.laws.specs.Numbers.{places, latestTime, frameBuffer, listBuffer}
+use Rattle.settings.specs.Grammar.{Value}
 use Rattle.pdu.specs.Replies.{What}
 use Rattle.book.specs.Book.{Live, Good, NothingDue, at, apply}
 use Rattle.book.specs.Book.Move.{pass}
 use Rattle.book.specs.Desk.{duePlace, expireAt, choose, ticks}
 use Rattle.book.specs.Desk.Op.{tick as ticking}
+use Rattle.book.specs.Machine.{after}
 use Rattle.book.proofs.GoodLaws.{good-move}
 use Rattle.book.proofs.DeskLaws.{due-found}
 use Rattle.book.proofs.PlaceLaws.{at-low}
 use Rattle.book.proofs.TickLaws.{ticks-good, drains}
-use Rattle.machine.specs.Machine.{Machine, Note, Live-book, rules, clocked}
-use Rattle.machine.specs.Calls.{Outcome}
+use Rattle.machine.specs.Machine.{Machine, Note, Live-book, machine, rules, clocked}
+use Rattle.machine.specs.Calls.{Call, Outcome}
 use Rattle.machine.specs.Calls.Call.{tick}
-use Rattle.machine.specs.Refusals.{rows, refusal, shortFrame, shortList, isUntimely}
+use Rattle.machine.specs.Refusals.{rows, refusal}
 use Rattle.machine.specs.Replies.{expiredTo}
 use Rattle.machine.specs.Outcomes.{outcome}
 use Rattle.machine.specs.declared.Answer.the-variants as answer
 use Rattle.machine.proofs.OutcomeLaws.{clock-set}
-use Rattle.machine.proofs.LowestLaws.{none-applies, passes, none-left}
+use Rattle.machine.proofs.LowestLaws.{passes, none-left}
 use Rattle.machine.proofs.AnswerLaws.{ticked-is, idle-says, spot}
+use Rattle.machine.proofs.Histories.{product}
 
-expired-book : (m : Machine) (k : ℕ) (o l : List ℕ) (q : Option (Live What Note)) → expiredTo m k o l q .after .book ≡ apply rules (m .book) (expireAt k q)
+-- the buffers that a host lends a tick: whatever they hold, they are as long as document 01 asks
+pub record Lent : Type 0 where
+  pub out : List ℕ
+  pub list : List ℕ
+  pub long : frameBuffer ≤ length out
+  pub longList : listBuffer ≤ length list
+
+-- a tick, and ticks one after another at one time, each with buffers of its own
+abbrev pub tickAt : ℕ → Lent → Call
+tickAt t b = tick t (b .out) (b .list)
+
+abbrev pub ticksAt : ℕ → List Lent → List Call
+ticksAt t bs = map (tickAt t) bs
+
+expired-after : (m : Machine) (k : ℕ) (o l : List ℕ) (q : Option (Live What Note)) → expiredTo m k o l q .after ≡ machine (apply rules (m .book) (expireAt k q)) (m .attached)
 unfolding expiredTo
-expired-book m k o l none = refl
-expired-book m k o l (some e) = refl
+expired-after m k o l none = refl
+expired-after m k o l (some e) = refl
 
-module _ (t : ℕ) (o l : List ℕ) where
-  step : Machine → Machine
-  step m = outcome m (tick t o l) .after
+-- the state after a tick is what the book's own tick makes of it once the clock is set
+tick-leaves : (m : Machine) (t : ℕ) (o l : List ℕ) → refusal m (tick t o l) ≡ 0
+    → outcome m (tick t o l) .after ≡ machine (apply rules (clocked m t .book) (choose rules (clocked m t .book) ticking)) (m .attached)
+tick-leaves m t o l h = let b = clocked m t .book in ap (λ (d : Outcome). d .after) (ticked-is m t o l h) ∙ expired-after (clocked m t) (duePlace rules b) o l (at b (duePlace rules b))
 
-  -- n ticks
-  unfoldable pub tickedTimes : ℕ → Machine → Machine
-  tickedTimes zero m = m
-  tickedTimes (suc n) m = tickedTimes n (outcome m (tick t o l) .after)
+-- What the buffers hold has no part in the state after a tick.
+pub tick-same-state : (m : Machine) (t : ℕ) (o l o′ l′ : List ℕ) → refusal m (tick t o l) ≡ 0 → refusal m (tick t o′ l′) ≡ 0 → outcome m (tick t o l) .after ≡ outcome m (tick t o′ l′) .after
+tick-same-state m t o l o′ l′ h h′ = tick-leaves m t o l h ∙ sym (tick-leaves m t o′ l′ h′)
 
-  -- a tick that is not refused is not refused again at the same time
-  still : (m : Machine) → refusal m (tick t o l) ≡ 0 → refusal (step m) (tick t o l) ≡ 0
-  unfolding step rows
-  still m h =
-      let a = none-applies (shortFrame o || shortList l) 1 _ (λ z. omega arith) h in
-      let b = none-applies (isUntimely m t) 3 _ (λ z. omega arith) (a .1) in
-      sym (passes 1 _ (a .0) (passes 3 [] (rw (
-        or-left (ltb latestTime t) (ltb t (m .book .clock)) (b .0),
-        le-ltb t (step m .book .clock) (let e = clock-set m (tick t o l) t h refl in omega arith),
-      ) refl) none-left))
+nothing-found : (b : Live-book) → Good rules b → NothingDue b → at b (duePlace rules b) ≡ none
+nothing-found b g n =
+    ⊎-elim
+    (λ (e : (e : Live What Note) × (at b (duePlace rules b) ≡ some e)).
+    let w = due-found rules b g (rw (g .long) at (at-low (b .places) (duePlace rules b) (e .0) (e .1))) in
+    absurd (let y = n (duePlace rules b) (w .0) (w .1) in let z = w .2 in omega arith))
+    (λ e. e)
+    (spot b (duePlace rules b))
 
-  -- its book is what the book's own tick makes of it
-  ticks-book : (m : Machine) → refusal m (tick t o l) ≡ 0 → clocked (step m) t .book ≡ apply rules (clocked m t .book) (choose rules (clocked m t .book) ticking)
-  unfolding step
-  ticks-book m h =
-      let b = clocked m t .book in
-      let c : step m .book .clock ≡ t = clock-set m (tick t o l) t h refl in
-      let s : step m .book ≡ apply rules b (expireAt (duePlace rules b) (at b (duePlace rules b))) =
-      ap (λ (d : Outcome). d .after .book) (ticked-is m t o l h) ∙ expired-book (clocked m t) (duePlace rules b) o l (at b (duePlace rules b)) in
-      again (step m .book) (max-eq-right (let e = c in omega arith) ∙ sym c) ∙ s
-    where
-      again : (b : Live-book) → max (b .clock) t ≡ b .clock → apply rules b (pass t) ≡ b
-      again b e = ap (λ (n : ℕ). record { rule = b .rule; places = b .places; cursor = b .cursor; clock = n }) e
+module _ (v : Value) (t : ℕ) (late : t ≤ latestTime) where
+  -- a tick at a time that is not below the clock is not refused
+  timely : (m : Machine) (b : Lent) → m .book .clock ≤ t → refusal m (tickAt t b) ≡ 0
+  unfolding rows
+  timely m b c =
+      sym (passes 1 _ (rw (le-ltb (length (b .out)) frameBuffer (b .long), le-ltb (length (b .list)) listBuffer (b .longList)) refl)
+      (passes 3 [] (rw (le-ltb latestTime t late, le-ltb t (m .book .clock) c) refl) none-left))
 
-  many-ticks : (n : ℕ) (m : Machine) → refusal m (tick t o l) ≡ 0 → (refusal (tickedTimes n m) (tick t o l) ≡ 0) × (clocked (tickedTimes n m) t .book ≡ ticks rules n (clocked m t .book))
-  unfolding tickedTimes ticks step
-  many-ticks zero m h = (h, refl)
-  many-ticks (suc n) m h = let i = many-ticks n (step m) (still m h) in (i .0, i .1 ∙ ap (ticks rules n) (ticks-book m h))
+  -- the clock set to where it stands
+  again : (b : Live-book) → b .clock ≡ t → apply rules b (pass t) ≡ b
+  again b e = ap (λ (n : ℕ). record { rule = b .rule; places = b .places; cursor = b .cursor; clock = n }) (rw e (max-eq-right (omega arith)))
 
-  nothing-found : (b : Live-book) → Good rules b → NothingDue b → at b (duePlace rules b) ≡ none
-  nothing-found b g n =
-      ⊎-elim
-      (λ (e : (e : Live What Note) × (at b (duePlace rules b) ≡ some e)).
-      let w = due-found rules b g (rw (g .long) at (at-low (b .places) (duePlace rules b) (e .0) (e .1))) in
-      absurd (let y = n (duePlace rules b) (w .0) (w .1) in let z = w .2 in omega arith))
-      (λ e. e)
-      (spot b (duePlace rules b))
+  -- ticks leave the clock at their time, and the book as the book's own ticks do
+  many-ticks : (bs : List Lent) (m : Machine) → m .book .clock ≤ t
+      → (after (product v) m (ticksAt t bs) .book .clock ≤ t) × (clocked (after (product v) m (ticksAt t bs)) t .book ≡ ticks rules (length bs) (clocked m t .book))
+  unfolding after ticks
+  many-ticks [] m c = (c, refl)
+  many-ticks (b ∷ bs) m c =
+      let h = timely m b c in
+      let n = outcome m (tickAt t b) .after in
+      let s : n .book .clock ≡ t = clock-set m (tickAt t b) t h refl in
+      let i = many-ticks bs n (omega arith) in
+      (i .0, i .1 ∙ ap (ticks rules (length bs)) (again (n .book) s ∙ ap (λ (x : Machine). x .book) (tick-leaves m t (b .out) (b .list) h)))
 
   -- After as many ticks at one time as there are places, or more, the next tick at that time says that nothing is due.
-  pub ticking-ends : (n : ℕ) (m : Machine) → Good rules (m .book) → refusal m (tick t o l) ≡ 0 → places ≤ n → outcome (tickedTimes n m) (tick t o l) .says ≡ answer.NothingDue
-  ticking-ends n m g h p =
-      let w = many-ticks n m h in
+  pub ticking-ends : (bs : List Lent) (b : Lent) (m : Machine) → Good rules (m .book) → m .book .clock ≤ t → places ≤ length bs
+      → outcome (after (product v) m (ticksAt t bs)) (tickAt t b) .says ≡ answer.NothingDue
+  ticking-ends bs b m g c p =
+      let n = after (product v) m (ticksAt t bs) in
+      let w = many-ticks bs m c in
       let gm = good-move rules (m .book) (pass t) g tt in
-      let b = clocked (tickedTimes n m) t .book in
-      let d : NothingDue b = subst (λ (x : Live-book). NothingDue x) (sym (w .1)) (drains rules (clocked m t .book) gm n p) in
-      let gb : Good rules b = subst (λ (x : Live-book). Good rules x) (sym (w .1)) (ticks-good rules n (clocked m t .book) gm) in
-      ap (λ (x : Outcome). x .says) (ticked-is (tickedTimes n m) t o l (w .0) ∙ ap (expiredTo (clocked (tickedTimes n m) t) (duePlace rules b) o l) (nothing-found b gb d) ∙ idle-says (clocked (tickedTimes n m) t) (duePlace rules b) o l)
+      let k = clocked n t .book in
+      let d : NothingDue k = subst (λ (x : Live-book). NothingDue x) (sym (w .1)) (drains rules (clocked m t .book) gm (length bs) p) in
+      let gk : Good rules k = subst (λ (x : Live-book). Good rules x) (sym (w .1)) (ticks-good rules (length bs) (clocked m t .book) gm) in
+      ap (λ (x : Outcome). x .says)
+      (ticked-is n t (b .out) (b .list) (timely n b (w .0)) ∙ ap (expiredTo (clocked n t) (duePlace rules k) (b .out) (b .list)) (nothing-found k gk d)
+      ∙ idle-says (clocked n t) (duePlace rules k) (b .out) (b .list))

@@ -1,6 +1,7 @@
 -- The calls with all that a host gives: any client number, any time, any bytes, buffers of any length; and the whole outcome of a call.
 -- Assumes nothing.
 use Prim.Native.Nat.{ℕ}
+use mathlib.Core.Option.{Option, some, none}
 use mathlib.Core.List.{List, []}
 use Rattle.machine.specs.Machine.{Machine}
 use Rattle.machine.specs.declared.Answer.{Answer}
@@ -12,6 +13,15 @@ pub data Call : Type 0 where
   reply : (time : ℕ) (frame out list : List ℕ) → Call
   tick : (time : ℕ) (out list : List ℕ) → Call
   linkLost : Call
+
+-- the time that a call carries
+abbrev pub timeOf : Call → Option ℕ
+timeOf (attach c) = none
+timeOf (detach c) = none
+timeOf (request c t f o) = some t
+timeOf (reply t f o l) = some t
+timeOf (tick t o l) = some t
+timeOf linkLost = none
 
 -- the lent frame buffer and the lent list, as they came
 unfoldable pub outOf : Call → List ℕ

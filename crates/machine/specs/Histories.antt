@@ -11,8 +11,8 @@ use Rattle.book.specs.Book.{Party, Event}
 use Rattle.book.specs.Book.Event.{passed, joined, issued, replied, expired, left, lost}
 use Rattle.machine.specs.Calls.{Call, Outcome}
 use Rattle.machine.specs.Calls.Call.{attach, detach, request, reply, tick, linkLost}
-use Rattle.machine.specs.Requests.{wanted, partyOf}
 use Rattle.machine.specs.Numbers.{numbers, isIssued, isJoined, isTimedOut}
+use Rattle.machine.specs.Spelled.{asker, asking}
 use Rattle.machine.specs.declared.Report.{Report}
 
 -- what the host sees of an outcome
@@ -39,8 +39,8 @@ told v (attach c) s = []
 told v (detach c) s = left c ∷ []
 told v (request c t f o) s =
     passed t
-    ∷ cond (eqb (s .report .outcome) isJoined) (joined (s .report .id) (wanted f) (partyOf c f) ∷ [])
-    (cond (eqb (s .report .outcome) isIssued) (issued (s .report .id) (wanted f) (t + v .timeout) (partyOf c f) ∷ [])
+    ∷ cond (eqb (s .report .outcome) isJoined) (joined (s .report .id) (asking f) (asker c f) ∷ [])
+    (cond (eqb (s .report .outcome) isIssued) (issued (s .report .id) (asking f) (t + v .timeout) (asker c f) ∷ [])
     [])
 told v (reply t f o l) s = passed t ∷ replied (s .report .id) (listedIn s) ∷ []
 told v (tick t o l) s = passed t ∷ cond (eqb (s .report .outcome) isTimedOut) (expired (s .report .id) (listedIn s) ∷ []) []

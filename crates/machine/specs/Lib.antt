@@ -4,5 +4,7 @@ pub mod Refusals
 pub mod Requests
 pub mod Replies
 pub mod Outcomes
+pub mod Granted
 pub mod Numbers
+pub mod Spelled
 pub mod Histories

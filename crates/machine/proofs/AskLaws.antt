@@ -1,0 +1,295 @@
+-- What a request that is not refused comes to, in plain numbers and bytes: it is issued, it joins, or it gets an exception.
+-- Assumes nothing.
+use Prim.Native.Nat.{ℕ, zero, suc, _+_, _*_, _-_, _/_, _%_, _≤_, _<_}
+use mathlib.Core.Path.{_≡_, refl, ap, sym, _∙_}
+use mathlib.Core.Logic.{⊎-elim, _⊎_, inl, inr}
+use mathlib.Core.Bool.{true}
+use mathlib.Core.Option.{some, none}
+use mathlib.Core.List.{List, [], _∷_, _++_}
+use native.Mathlib.Omega.{arith}
+use lib.ListN.{length, getD, drop, length-append, length-drop, List·getD-append}
+use lib.Seq.{getD-append-add, getD-drop, getD-set-same, getD-set-other}
+use borrow.Author.Tests.{ltb-false}
+use Rattle.laws.specs.Numbers.{ids, places, frameBuffer, deviceFailure}
+use Rattle.laws.specs.Circle.{turn}
+use Rattle.laws.specs.Bytes.{over}
+use Rattle.laws.proofs.Choice.{eq-or, never}
+use Rattle.wire.specs.Frame.{laid, exception}
+use Rattle.wire.proofs.FrameLaws.{framed, length-laid}
+use Rattle.settings.specs.Grammar.{Tag}
+use Rattle.pdu.specs.Requests.{askedOf, faultOf, checkedOf, legal}
+use Rattle.pdu.specs.Replies.{What}
+use Rattle.pdu.specs.declared.Asked.{Asked}
+use Rattle.pdu.specs.declared.Asked.the-variants.{Read, SingleWrite, MultipleWrite, Other}
+use Rattle.pdu.specs.declared.Checked.the-variants as check
+use Rattle.pdu.specs.declared.ProxyId.{ProxyId}
+use Rattle.pdu.proofs.RequestLaws.{RequestRoom, legal-room, legal-checked, excepted-codes, known}
+use Rattle.rewrite.specs.declared.Way.the-variants.{ToBcd}
+use Rattle.rewrite.specs.Registers.{registersAt}
+use Rattle.rewrite.specs.Rewriting.{partials, values, rewriting}
+use Rattle.rewrite.specs.Frames.{forwarded}
+use Rattle.rewrite.proofs.FrameLaws.{length-forwarded, rewriting-other}
+use Rattle.book.specs.Book.{Live, Next, Good, at}
+use Rattle.book.specs.Desk.{freePlace, freeId}
+use Rattle.book.proofs.PlaceLaws.{at-low}
+use Rattle.book.proofs.DeskLaws.{free-found, next-free}
+use Rattle.machine.specs.Machine.{Machine, Note, rules, settings, clocked}
+use Rattle.machine.specs.Calls.{Outcome}
+use Rattle.machine.specs.Calls.Call.{request}
+use Rattle.machine.specs.Refusals.{refusal}
+use Rattle.machine.specs.Requests.{excepted, joinedTo, issuedTo}
+use Rattle.machine.specs.Outcomes.{outcome}
+use Rattle.machine.specs.Spelled.{asker, asking}
+use Rattle.machine.specs.declared.Answer.the-variants as answer
+use Rattle.machine.proofs.SpelledLaws.{party-spelled, asked-spelled, wanted-spelled}
+use Rattle.machine.proofs.JoinLaws.{MayJoin}
+use Rattle.machine.proofs.OutcomeLaws.{clocked-at, not-refused}
+use Rattle.machine.proofs.RequestLaws.Comes.{faulty, joining, full, issuing}
+use Rattle.machine.proofs.RequestLaws.{NoneToJoin, Comes, comes, request-passes, fault-checked}
+
+-- which registers a write carries: from which byte on, of which addresses
+pub data Carries : Asked → (base start quantity : ℕ) → Type 0 where
+  single : {a : ℕ} → Carries (SingleWrite a) 10 a 1
+  multiple : {s q : ℕ} → Carries (MultipleWrite s q) 13 s q
+
+-- the registers from byte base on, of the addresses from start on, stand in w as the definition rewrites them, every other byte behind the id as in f; and what is counted
+pub record Rewrites (tags : List Tag) (f w : List ℕ) (partial value base start quantity : ℕ) : Type 0 where
+  pub inside : base + 2 * quantity ≤ length f
+  pub registers : (k : ℕ) → base ≤ k → k < base + 2 * quantity → getD w k 0 ≡ getD (rewriting ToBcd base start quantity tags f .bytes) k 0
+  pub others : (k : ℕ) → 2 ≤ k → k < length f → (k < base) ⊎ (base + 2 * quantity ≤ k) → getD w k 0 ≡ getD f k 0
+  pub raw-for-cover : partial ≡ partials ToBcd start tags (registersAt base quantity f)
+  pub raw-for-value : value ≡ values ToBcd start tags (registersAt base quantity f)
+
+-- A request that goes out. It is legal, and nothing is there that it may join.
+pub record Issues (m : Machine) (c t : ℕ) (f o : List ℕ) (d : Outcome) : Type 0 where
+  pub is-legal : legal (settings m) f ≡ true
+  pub alone : NoneToJoin m t f
+  -- the answer: the first id from the cursor on that is not live, the frame's length, and how many tags stay raw for partial cover and for value
+  pub id : ℕ
+  pub partial : ℕ
+  pub value : ℕ
+  pub next : Next rules (m .book) id
+  pub says : d .says ≡ answer.Issued (record { 0 = id }) (length f) partial value
+  -- the buffer: the id, the frame with its registers rewritten, and behind it what was there
+  pub high : getD (d .written) 0 0 ≡ id / 256
+  pub low : getD (d .written) 1 0 ≡ id % 256
+  pub rewritten : (base start quantity : ℕ) → Carries (asking f .asked) base start quantity → Rewrites (settings m .tags) f (d .written) partial value base start quantity
+  pub unchanged : ((base start quantity : ℕ) → Carries (asking f .asked) base start quantity → ⊥)
+      → ((k : ℕ) → 2 ≤ k → k < length f → getD (d .written) k 0 ≡ getD f k 0) × (partial ≡ 0) × (value ≡ 0)
+  pub behind : (k : ℕ) → length f ≤ k → getD (d .written) k 0 ≡ getD o k 0
+  pub size : length (d .written) ≡ length o
+  pub listed : d .listed ≡ []
+  -- the machine: a place that was free holds the request, and the cursor stands behind the id
+  pub place : ℕ
+  pub free : at (m .book) place ≡ none
+  pub entered : at (d .after .book) place ≡ some (record { id = id; what = asking f; by = c; note = tt; deadline = t + settings m .timeout; parties = asker c f ∷ [] })
+  pub others : (k : ℕ) → (k ≡ place → ⊥) → at (d .after .book) k ≡ at (m .book) k
+  pub cursor : d .after .book .cursor ≡ turn ids (id + 1)
+  pub clock : d .after .book .clock ≡ t
+  pub attached : d .after .attached ≡ m .attached
+  pub rule : settings (d .after) ≡ settings m
+
+-- A request that joins. It is legal, and the entry has the smallest id of those that it may join.
+pub record Joins (m : Machine) (c t : ℕ) (f o : List ℕ) (d : Outcome) : Type 0 where
+  pub is-legal : legal (settings m) f ≡ true
+  pub place : ℕ
+  pub entry : Live What Note
+  pub there : at (m .book) place ≡ some entry
+  pub may : MayJoin m t f entry
+  pub smallest : (k : ℕ) (e : Live What Note) → at (m .book) k ≡ some e → MayJoin m t f e → entry .id ≤ e .id
+  -- the answer is that id, and the buffer is as it came
+  pub says : d .says ≡ answer.Joined (record { 0 = entry .id })
+  pub written : d .written ≡ o
+  pub listed : d .listed ≡ []
+  -- the machine: the entry has one party more, the last
+  pub added : at (d .after .book) place
+      ≡ some (record { id = entry .id; what = entry .what; by = entry .by; note = entry .note; deadline = entry .deadline; parties = entry .parties ++ (asker c f ∷ []) })
+  pub others : (k : ℕ) → (k ≡ place → ⊥) → at (d .after .book) k ≡ at (m .book) k
+  pub cursor : d .after .book .cursor ≡ m .book .cursor
+  pub clock : d .after .book .clock ≡ t
+  pub attached : d .after .attached ≡ m .attached
+  pub rule : settings (d .after) ≡ settings m
+
+-- A request that gets an exception: 02 or 03, which the check of its bytes gives, or 04.
+pub record Excepts (m : Machine) (t : ℕ) (f o : List ℕ) (d : Outcome) : Type 0 where
+  pub code : ℕ
+  pub codes : (code ≡ 2) ⊎ ((code ≡ 3) ⊎ (code ≡ 4))
+  pub checked : (code ≡ 4 → ⊥) → checkedOf f ≡ check.Excepted code
+  pub says : d .says ≡ answer.Excepted code
+  -- the buffer: nine bytes for the caller, under its own id, and behind them what was there
+  pub frame : ((k : ℕ) → getD f k 0 < 256) → d .written ≡ (getD f 0 0 ∷ getD f 1 0 ∷ 0 ∷ 0 ∷ 0 ∷ 3 ∷ getD f 6 0 ∷ (getD f 7 0 + 128) ∷ code ∷ drop 9 o)
+  pub size : length (d .written) ≡ length o
+  pub listed : d .listed ≡ []
+  -- the machine: only the clock is set
+  pub places : d .after .book .places ≡ m .book .places
+  pub cursor : d .after .book .cursor ≡ m .book .cursor
+  pub clock : d .after .book .clock ≡ t
+  pub attached : d .after .attached ≡ m .attached
+  pub rule : settings (d .after) ≡ settings m
+
+-- BYTES
+
+over-size : (w b : List ℕ) → length w ≤ length b → length (over w b) ≡ length b
+over-size w b h = simp (length-append, length-drop) (omega arith)
+
+over-behind : (w b : List ℕ) (k : ℕ) → length w ≤ k → getD (over w b) k 0 ≡ getD b k 0
+over-behind w b k h =
+    let e : k ≡ length w + (k - length w) = omega arith in
+    ap (λ (n : ℕ). getD (over w b) n 0) e ∙ getD-append-add w (drop (length w) b) (k - length w) 0 ∙ getD-drop (length w) b (k - length w) 0 ∙ ap (λ (n : ℕ). getD b n 0) (sym e)
+
+behind-id : (id : ℕ) (b : List ℕ) (k : ℕ) → getD (laid id b) (suc (suc k)) 0 ≡ getD b (suc (suc k)) 0
+behind-id id b k = getD-drop 2 b k 0 ∙ ap (λ (n : ℕ). getD b n 0) (omega arith)
+
+-- a frame under an id, in a buffer, stands there behind the id
+pub stands-under : (id : ℕ) (b o : List ℕ) (k : ℕ) → 2 ≤ k → k < length b → getD (over (laid id b) o) k 0 ≡ getD b k 0
+stands-under id b o zero h l = absurd (omega arith)
+stands-under id b o (suc zero) h l = absurd (omega arith)
+stands-under id b o (suc (suc k)) h l =
+    List·getD-append (laid id b) (drop (length (laid id b)) o) 0 (suc (suc k)) (rw (length-laid id b (omega arith)) l) ∙ behind-id id b k
+
+-- what is behind the id of a frame that is rewritten, and of one that passes
+run-rewritten : (base start quantity : ℕ) (tags : List Tag) (f w : List ℕ) → 2 ≤ base → base + 2 * quantity ≤ length f
+    → ((k : ℕ) → 2 ≤ k → k < length f → getD w k 0 ≡ getD (rewriting ToBcd base start quantity tags f .bytes) k 0)
+    → Rewrites tags f w (rewriting ToBcd base start quantity tags f .partial) (rewriting ToBcd base start quantity tags f .value) base start quantity
+unfolding rewriting
+run-rewritten base start quantity tags f w b r h =
+    record {
+      inside = r;
+      registers = λ k l u. h k (omega arith) (omega arith);
+      others = λ k l u z. h k l u ∙ rewriting-other ToBcd base start quantity tags f k z;
+      raw-for-cover = refl;
+      raw-for-value = refl;
+    }
+
+carried : {a : Asked} {base start quantity : ℕ} → Carries a base start quantity → (tags : List Tag) (f w : List ℕ) → RequestRoom a f
+    → ((k : ℕ) → 2 ≤ k → k < length f → getD w k 0 ≡ getD (forwarded tags a f .bytes) k 0)
+    → Rewrites tags f w (forwarded tags a f .partial) (forwarded tags a f .value) base start quantity
+unfolding forwarded
+carried single tags f w r h = run-rewritten _ _ _ tags f w (omega arith) (omega (arith, r)) h
+carried multiple tags f w r h = run-rewritten _ _ _ tags f w (omega arith) (omega (arith, r)) h
+
+passed-on : (a : Asked) → ((base start quantity : ℕ) → Carries a base start quantity → ⊥) → (tags : List Tag) (f : List ℕ)
+    → (forwarded tags a f .bytes ≡ f) × (forwarded tags a f .partial ≡ 0) × (forwarded tags a f .value ≡ 0)
+unfolding forwarded
+passed-on (Read s q) n tags f = (refl, refl, refl)
+passed-on (SingleWrite a) n tags f = absurd (n _ _ _ single)
+passed-on (MultipleWrite s q) n tags f = absurd (n _ _ _ multiple)
+passed-on Other n tags f = (refl, refl, refl)
+
+-- f's own bytes 0, 1 and 7 in an exception frame
+own-bytes : (a b n : ℕ) → b < 256 → n < 128 → ((a * 256 + b) / 256 ≡ a) × ((a * 256 + b) % 256 ≡ b) × ((n + 128) % 256 ≡ n + 128)
+own-bytes a b n h l = (omega arith, omega arith, omega arith)
+
+-- THE THREE OUTCOMES
+
+module _ (m : Machine) (c t : ℕ) (f o : List ℕ) (g : Good rules (m .book)) (h : refusal m (request c t f o) ≡ 0) where
+  set-clock : clocked m t .book .clock ≡ t
+  set-clock = clocked-at m (request c t f o) t h refl
+
+  fits-in : (8 ≤ length f) × (length f ≤ length o) × (260 ≤ length o)
+  fits-in =
+      let p = request-passes m c t f o h in
+      let r = framed f (p .1) in
+      let b = ltb-false (length o) frameBuffer (p .0) in
+      omega arith
+
+  issued-is : legal (settings m) f ≡ true → NoneToJoin m t f → freePlace rules (m .book) < places → Issues m c t f o (issuedTo (clocked m t) c f o)
+  unfolding issuedTo
+  issued-is is-legal alone l =
+      let id = freeId rules (m .book) in
+      let place = freePlace rules (m .book) in
+      let sent = forwarded (settings m .tags) (askedOf f) f in
+      let long : length (sent .bytes) ≡ length f = length-forwarded (settings m .tags) f (askedOf f) in
+      let room = fits-in in
+      let size : length (laid id (sent .bytes)) ≡ length f = length-laid id (sent .bytes) (omega arith) ∙ long in
+      let stands : (k : ℕ) → 2 ≤ k → k < length f → getD (over (laid id (sent .bytes)) o) k 0 ≡ getD (sent .bytes) k 0 = λ k a b. stands-under id (sent .bytes) o k a (rw long b) in
+      record {
+        is-legal = is-legal;
+        alone = alone;
+        id = id;
+        partial = sent .partial;
+        value = sent .value;
+        next = next-free rules (m .book) g;
+        says = refl;
+        high = refl;
+        low = refl;
+        rewritten = λ base start quantity x.
+            carried (rw (← asked-spelled f) at x) (settings m .tags) f _ (legal-room f (askedOf f) (legal-checked (settings m) f .0 is-legal .1)) stands;
+        unchanged = λ n.
+            let p = passed-on (askedOf f) (λ base start quantity x. n base start quantity (rw (asked-spelled f) at x)) (settings m .tags) f in
+            (λ k a b. stands k a b ∙ ap (λ (x : List ℕ). getD x k 0) (p .0), p .1, p .2);
+        behind = λ k b. over-behind (laid id (sent .bytes)) o k (omega arith);
+        size = over-size (laid id (sent .bytes)) o (omega arith);
+        listed = refl;
+        place = place;
+        free = free-found rules (m .book) l .0;
+        entered = getD-set-same (m .book .places) place _ none (rw (g .long) l) ∙ rw (← wanted-spelled f, ← party-spelled c f, set-clock) refl;
+        others = λ k n. getD-set-other (m .book .places) place k _ none n;
+        cursor = refl;
+        clock = set-clock;
+        attached = refl;
+        rule = refl;
+      }
+
+  joined-is : legal (settings m) f ≡ true → (k : ℕ) (e : Live What Note) → at (m .book) k ≡ some e → MayJoin m t f e → ((j : ℕ) (d : Live What Note) → at (m .book) j ≡ some d → MayJoin m t f d → e .id ≤ d .id)
+      → Joins m c t f o (joinedTo (clocked m t) k c f o (some e))
+  unfolding joinedTo
+  joined-is is-legal k e there may smallest =
+      record {
+        is-legal = is-legal;
+        place = k;
+        entry = e;
+        there = there;
+        may = may;
+        smallest = smallest;
+        says = refl;
+        written = refl;
+        listed = refl;
+        added = getD-set-same (m .book .places) k _ none (at-low (m .book .places) k e there) ∙ rw (← party-spelled c f) refl;
+        others = λ j n. getD-set-other (m .book .places) k j _ none n;
+        cursor = refl;
+        clock = set-clock;
+        attached = refl;
+        rule = refl;
+      }
+
+  excepted-is : (n : ℕ) → ((n ≡ 4 → ⊥) → checkedOf f ≡ check.Excepted n) → Excepts m t f o (excepted (clocked m t) n f o)
+  unfolding excepted exception
+  excepted-is n checked =
+      let room = fits-in in
+      let low = known (getD f 7 0) .0 (request-passes m c t f o h .2) in
+      record {
+        code = n;
+        codes = ⊎-elim (λ e. inr (inr e)) (λ z. ⊎-elim (λ e. inr (inl e)) inl (excepted-codes f n (checked z))) (eq-or n 4);
+        checked = checked;
+        says = refl;
+        frame = λ bytes. let b = own-bytes (getD f 0 0) (getD f 1 0) (getD f 7 0) (bytes 1) (omega arith) in cc (b .0, b .1, b .2);
+        size = omega (arith, length-drop 9 o);
+        listed = refl;
+        places = refl;
+        cursor = refl;
+        clock = set-clock;
+        attached = refl;
+        rule = refl;
+      }
+
+  one-of-three : {d : Outcome} → Comes m c t f o d → Issues m c t f o d ⊎ (Joins m c t f o d ⊎ Excepts m t f o d)
+  one-of-three (faulty z) = inr (inr (excepted-is (faultOf f) (λ n. fault-checked m c t f o h z)))
+  one-of-three (joining z k e there may smallest) = inr (inl (joined-is z k e there may smallest))
+  one-of-three (full z alone all) = inr (inr (excepted-is deviceFailure (λ n. absurd (n refl))))
+  one-of-three (issuing z alone l) = inl (issued-is z alone l)
+
+  -- A request that is not refused is issued, joins, or gets an exception.
+  pub request-comes-to : Issues m c t f o (outcome m (request c t f o)) ⊎ (Joins m c t f o (outcome m (request c t f o)) ⊎ Excepts m t f o (outcome m (request c t f o)))
+  request-comes-to = one-of-three (comes m c t f o g h)
+
+module _ (m : Machine) (c t : ℕ) (f o : List ℕ) (g : Good rules (m .book)) where
+  -- Which of the three it is, is what is said.
+  pub issue-is : (i : ProxyId) (n p w : ℕ) → outcome m (request c t f o) .says ≡ answer.Issued i n p w → Issues m c t f o (outcome m (request c t f o))
+  issue-is i n p w e = ⊎-elim (λ x. x) (⊎-elim (λ x. never (cc)) (λ x. never (cc))) (request-comes-to m c t f o g (not-refused m (request c t f o) _ refl e))
+
+  pub join-is : (i : ProxyId) → outcome m (request c t f o) .says ≡ answer.Joined i → Joins m c t f o (outcome m (request c t f o))
+  join-is i e = ⊎-elim (λ x. never (cc)) (⊎-elim (λ x. x) (λ x. never (cc))) (request-comes-to m c t f o g (not-refused m (request c t f o) _ refl e))
+
+  pub exception-is : (n : ℕ) → outcome m (request c t f o) .says ≡ answer.Excepted n → Excepts m t f o (outcome m (request c t f o))
+  exception-is n e = ⊎-elim (λ x. never (cc)) (⊎-elim (λ x. never (cc)) (λ x. x)) (request-comes-to m c t f o g (not-refused m (request c t f o) _ refl e))

@@ -1,0 +1,27 @@
+-- Who asks what, spelled from the bytes of a request: nothing of the machine's own reading of a frame is used here, so that the ledger's lines say what a client sent.
+-- Assumes nothing.
+use Prim.Native.Nat.{ℕ, _+_, _*_}
+use mathlib.Core.Bool.{cond, _||_}
+use mathlib.Core.List.{List}
+use lib.ListN.{getD}
+use lib.Dec.{eqb}
+use Rattle.pdu.specs.Replies.{What, what}
+use Rattle.pdu.specs.declared.Asked.{Asked}
+use Rattle.pdu.specs.declared.Asked.the-variants.{Read, SingleWrite, MultipleWrite, Other}
+use Rattle.book.specs.Book.{Party}
+
+-- client c asks, under the id that bytes 0 and 1 are
+unfoldable pub asker : ℕ → List ℕ → Party
+asker c f = record { client = c; original = 256 * getD f 0 0 + getD f 1 0 }
+
+-- 03, 04 and 16 have a start and a quantity, 06 an address, every other function nothing more
+unfoldable pub spelled : (function first second : ℕ) → Asked
+spelled n a b =
+    cond (eqb n 3 || eqb n 4) (Read a b)
+    (cond (eqb n 6) (SingleWrite a)
+    (cond (eqb n 16) (MultipleWrite a b)
+    Other))
+
+-- byte 6 is the unit, byte 7 the function; the numbers at bytes 8 and 10 are what is behind it
+unfoldable pub asking : List ℕ → What
+asking f = what (getD f 6 0) (getD f 7 0) (spelled (getD f 7 0) (256 * getD f 8 0 + getD f 9 0) (256 * getD f 10 0 + getD f 11 0))
