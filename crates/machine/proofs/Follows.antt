@@ -3,7 +3,7 @@
 use Prim.Native.Nat.{ℕ, _+_, _*_}
 use mathlib.Core.Path.{_≡_, refl, ap, sym, _∙_}
 use mathlib.Core.Logic.{⊎-elim, _⊎_}
-use mathlib.Core.Bool.{true, false, cond, true≢false}
+use mathlib.Core.Bool.{true, false, cond}
 use mathlib.Core.Option.{Option, some, none}
 use mathlib.Core.List.{List, [], _∷_, flatMap}
 use native.Mathlib.Omega.{arith}
@@ -35,10 +35,10 @@ use Rattle.machine.specs.Replies.{pairs, answeredTo, answered, expiredTo
 use Rattle.machine.specs.Outcomes.{granted, outcome}
 use Rattle.machine.specs.Numbers.{numbers}
 use Rattle.machine.specs.Histories.{seenOf, partiesIn, told, events}
-use Rattle.machine.specs.declared.Answer.{Answer}
 use Rattle.machine.specs.declared.Answer.the-variants as answer
 use Rattle.machine.proofs.OutcomeLaws.{granted-is, reply-finds, isRefusal, granted-no-refusal, clocked-at, served-cases}
 use Rattle.machine.proofs.RefusalLaws.{refusal-changes-nothing}
+use Rattle.machine.proofs.NumberLaws.{no-refusal}
 use Rattle.machine.proofs.SpelledLaws.{party-spelled, wanted-spelled}
 use Rattle.machine.proofs.JoinLaws.{joins-exact}
 
@@ -248,18 +248,6 @@ granted-honest v m (request c t f o) g s h =
 granted-honest v m (reply t f o l) g s h = let e = reply-finds m t f o l h in rw (e .1) (replied-honest v m (clocked m t) (idPlace rules (m .book) (idOf f)) t f o l (e .0))
 granted-honest v m (tick t o l) g s h = ticked-honest v (clocked m t) (duePlace rules (clocked m t .book)) t o l (at (clocked m t .book) (duePlace rules (clocked m t .book)))
 granted-honest v m linkLost g s h = lost-tells v m
-
-no-refusal : (a : Answer) → isRefusal a ≡ false → numbers a .refusal ≡ 0
-unfolding numbers
-no-refusal (answer.Refused n) e = absurd (true≢false e)
-no-refusal answer.Done e = refl
-no-refusal (answer.Issued i n p v) e = refl
-no-refusal (answer.Joined i) e = refl
-no-refusal (answer.Excepted c) e = refl
-no-refusal (answer.Answered i n k p v) e = refl
-no-refusal (answer.TimedOut i k) e = refl
-no-refusal answer.NothingDue e = refl
-no-refusal (answer.Lost n) e = refl
 
 refused-tells : (v : Value) (m : Machine) (x : Call) (n : ℕ) (w l : List ℕ) → (n ≡ 0 → ⊥) → events v x (seenOf (done (answer.Refused n) m w l)) ≡ []
 unfolding events numbers

@@ -1,12 +1,21 @@
--- The numbers that a C host is told say which answer it was, but that done and a lost link with nobody attached are one.
+-- The numbers that a C host is told say which answer it was, but that done and a lost link with nobody attached are one; and the refusal among them is the call's.
 -- Assumes nothing.
-use mathlib.Core.Path.{_≡_, refl}
-use mathlib.Core.Logic.{_⊎_, inl, inr}
+use Prim.Native.Nat.{ℕ}
+use mathlib.Core.Path.{_≡_, refl, ap, sym, _∙_}
+use mathlib.Core.Logic.{⊎-elim, _⊎_, inl, inr, _↔_}
+use mathlib.Core.Bool.{false, true≢false}
 use native.Mathlib.Omega.{arith}
+use Rattle.laws.proofs.Choice.{eq-or}
+use Rattle.machine.specs.Machine.{Machine}
+use Rattle.machine.specs.Calls.{Call, Outcome}
+use Rattle.machine.specs.Refusals.{refusal}
+use Rattle.machine.specs.Outcomes.{outcome}
 use Rattle.machine.specs.Numbers.{numbers, isDone, isIssued, isJoined, isException, isAnswered, isTimedOut, isNothingDue}
 use Rattle.machine.specs.declared.Answer.{Answer}
 use Rattle.machine.specs.declared.Answer.the-variants.{Refused, Done, Issued, Joined, Excepted, Answered, TimedOut, NothingDue, Lost}
 use Rattle.machine.specs.declared.Report.{Report}
+use Rattle.machine.proofs.RefusalLaws.{refusal-changes-nothing}
+use Rattle.machine.proofs.OutcomeLaws.{isRefusal, granted-no-refusal, granted-is}
 
 -- what a report says of the answer
 pub record Tells (r : Report) (a : Answer) : Type 0 where
@@ -43,3 +52,34 @@ numbers-tell (Answered i n k p v) = record { refused = tells-refused (Answered i
 numbers-tell (TimedOut i k) = record { refused = tells-refused (TimedOut i k); done = λ e. absurd (omega (arith, e)); issued = λ e. absurd (omega (arith, e)); joined = λ e. absurd (omega (arith, e)); excepted = λ e. absurd (omega (arith, e)); answered = λ e. absurd (omega (arith, e)); timed-out = λ e. refl; nothing-due = λ e. absurd (omega (arith, e)) }
 numbers-tell NothingDue = record { refused = tells-refused NothingDue; done = λ e. absurd (omega (arith, e)); issued = λ e. absurd (omega (arith, e)); joined = λ e. absurd (omega (arith, e)); excepted = λ e. absurd (omega (arith, e)); answered = λ e. absurd (omega (arith, e)); timed-out = λ e. absurd (omega (arith, e)); nothing-due = λ e. refl }
 numbers-tell (Lost s) = record { refused = tells-refused (Lost s); done = λ e. inl refl; issued = λ e. absurd (omega (arith, e)); joined = λ e. absurd (omega (arith, e)); excepted = λ e. absurd (omega (arith, e)); answered = λ e. absurd (omega (arith, e)); timed-out = λ e. absurd (omega (arith, e)); nothing-due = λ e. absurd (omega (arith, e)) }
+
+-- A report says a refusal n, and an exception with the code n, exactly if the answer does.
+pub refusal-exactly : (a : Answer) (n : ℕ) → (n ≡ 0 → ⊥) → (numbers a .refusal ≡ n) ↔ (a ≡ Refused n)
+unfolding numbers
+refusal-exactly a n h = (λ e. numbers-tell a .refused (λ z. h (sym e ∙ z)) ∙ ap Refused e, λ e. ap (λ (b : Answer). numbers b .refusal) e)
+
+pub exception-exactly : (a : Answer) (n : ℕ) → ((numbers a .outcome ≡ isException) × (numbers a .code ≡ n)) ↔ (a ≡ Excepted n)
+unfolding numbers
+exception-exactly a n = (λ e. numbers-tell a .excepted (e .0) ∙ ap Excepted (e .1), λ e. (ap (λ (b : Answer). numbers b .outcome) e, ap (λ (b : Answer). numbers b .code) e))
+
+-- what is no refusal reports none
+pub no-refusal : (a : Answer) → isRefusal a ≡ false → numbers a .refusal ≡ 0
+unfolding numbers
+no-refusal (Refused n) e = absurd (true≢false e)
+no-refusal Done e = refl
+no-refusal (Issued i n p v) e = refl
+no-refusal (Joined i) e = refl
+no-refusal (Excepted c) e = refl
+no-refusal (Answered i n k p v) e = refl
+no-refusal (TimedOut i k) e = refl
+no-refusal NothingDue e = refl
+no-refusal (Lost n) e = refl
+
+-- The report's refusal is the call's.
+pub refusal-told : (m : Machine) (x : Call) → numbers (outcome m x .says) .refusal ≡ refusal m x
+unfolding numbers
+refusal-told m x =
+    ⊎-elim
+    (λ (z : refusal m x ≡ 0). no-refusal (outcome m x .says) (ap (λ (d : Outcome). isRefusal (d .says)) (granted-is m x z) ∙ granted-no-refusal m x z) ∙ sym z)
+    (λ (z : refusal m x ≡ 0 → ⊥). ap (λ (d : Outcome). numbers (d .says) .refusal) (refusal-changes-nothing m x z))
+    (eq-or (refusal m x) 0)

@@ -138,13 +138,13 @@ pub record Origin (v : Value) (xs : List Call) (id : ℕ) (w : What) (d : ℕ) (
 
 module _ (v : Value) (s : Seen) (id : ℕ) (w : What) (d : ℕ) (p : Party) where
   -- the call tells the issue: it is a request that was answered so
-  abbrev Tells : Call → Type 0
-  Tells x = (c : ℕ) × (t : ℕ) × (f : List ℕ) × (o : List ℕ) × (x ≡ request c t f o) × (s .report .outcome ≡ isIssued) × (s .report .id ≡ id) × Spells v c t f w d p
+  abbrev pub IssuedBy : Call → Type 0
+  IssuedBy x = (c : ℕ) × (t : ℕ) × (f : List ℕ) × (o : List ℕ) × (x ≡ request c t f o) × (s .report .outcome ≡ isIssued) × (s .report .id ≡ id) × Spells v c t f w d p
 
   behind-time : (t : ℕ) (vs : List (Event What)) → List·Memᴰ (issued id w d p) (passed t ∷ vs) → List·Memᴰ (issued id w d p) vs
   behind-time t vs m = ⊎-elim (λ (e : issued id w d p ≡ passed t). never (cc)) (λ n. n) (List·Memᴰ·cases-cons m)
 
-  told-issue : (x : Call) → List·Memᴰ (issued id w d p) (told v x s) → Tells x
+  told-issue : (x : Call) → List·Memᴰ (issued id w d p) (told v x s) → IssuedBy x
   unfolding told
   told-issue (attach c) m = absurd (List·Memᴰ·not-nil m)
   told-issue (detach c) m = let e = List·Memᴰ·eq-of-singleton m in never (cc)
@@ -164,7 +164,7 @@ module _ (v : Value) (s : Seen) (id : ℕ) (w : What) (d : ℕ) (p : Party) wher
       (mem-cond (issued id w d p) (eqb (s .report .outcome) isTimedOut) _ [] (behind-time t _ m))
   told-issue linkLost m = let e = List·Memᴰ·eq-of-singleton m in never (cc)
 
-  seen-issue : (x : Call) → List·Memᴰ (issued id w d p) (events v x s) → Tells x
+  pub seen-issue : (x : Call) → List·Memᴰ (issued id w d p) (events v x s) → IssuedBy x
   unfolding events
   seen-issue x m = ⊎-elim (λ j. told-issue x (j .1)) (λ j. absurd (List·Memᴰ·not-nil (j .1))) (mem-cond (issued id w d p) (eqb (s .report .refusal) 0) (told v x s) [] m)
 

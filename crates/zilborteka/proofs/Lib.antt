@@ -1,2 +1,5 @@
 pub mod OnlyOne
 pub mod Lived
+pub mod Handed
+pub mod Places
+pub mod DeviceClaims

@@ -1,0 +1,348 @@
+-- The tender's claims on the device that a host lends, in the C host's numbers: from a device made fresh, whatever calls but fresh follow, refused ones included.
+-- Assumes nothing.
+use Prim.Native.Nat.{ℕ, _+_, _-_, _≤_, _<_}
+use mathlib.Core.Path.{_≡_, refl, ap, sym, subst, _∙_}
+use mathlib.Core.Logic.{⊎-elim, _⊎_, inl, inr, _↔_, Iff·trans}
+use mathlib.Core.Bool.{true, false}
+use mathlib.Core.Option.{some, Option·getD}
+use mathlib.Core.List.{List, [], _∷_, _++_, map-append, append-assoc, List·Memᴰ}
+use native.Mathlib.Omega.{arith}
+use lib.ListN.{length, getD}
+use Rattle.laws.specs.Numbers.{ids, places, latestTime, exceptionFrame}
+use Rattle.laws.specs.Lists.{lastGiven, lastOf}
+use Rattle.laws.specs.Bits.{has}
+use Rattle.bcd.specs.Bcd.{inRange}
+use Rattle.bcd.specs.Words.{numberOf}
+use Rattle.settings.specs.declared.Settings.{Settings}
+use Rattle.settings.specs.Grammar.{Value, Tag}
+use Rattle.settings.specs.Values.{valueOf}
+use Rattle.settings.specs.TagWords.{kindOf}
+use Rattle.pdu.specs.Requests.{legal}
+use Rattle.pdu.specs.Replies.{What, excepts}
+use Rattle.pdu.specs.declared.Asked.the-variants.{Read}
+use Rattle.rewrite.specs.Registers.{registersAt}
+use Rattle.rewrite.specs.Rewriting.{ownIn}
+use Rattle.rewrite.specs.Plain.{Whole}
+use Rattle.book.specs.Book.{Party}
+use Rattle.book.specs.Book.Event.{issued}
+use Rattle.book.specs.Ledger.{Ticket, Anew, partiesOf}
+use Rattle.book.specs.Traced.{issuedId, behind, Outstanding}
+use Rattle.book.specs.Desk.{AllLive}
+use Rattle.book.proofs.History.{always-sound}
+use Rattle.machine.specs.Machine.{Machine, rules, settings}
+use Rattle.machine.specs.Calls.{Call, Outcome, done, outOf, listOf, timeOf}
+use Rattle.machine.specs.Calls.Call.{attach, detach, request, reply, tick, linkLost}
+use Rattle.machine.specs.Refusals.{refusal}
+use Rattle.machine.specs.Outcomes.{outcome}
+use Rattle.machine.specs.Granted.{concerns}
+use Rattle.machine.specs.Numbers.{numbers, report, isDone, isIssued, isJoined, isException, isNothingDue}
+use Rattle.machine.specs.Spelled.{asker, asking}
+use Rattle.machine.specs.Histories.{Seen, seenOf}
+use Rattle.machine.specs.declared.Answer.{Answer}
+use Rattle.machine.specs.declared.Answer.the-variants as answer
+use Rattle.machine.specs.declared.Report.{Report}
+use Rattle.machine.proofs.RefusalLaws.{table, Applies}
+use Rattle.machine.proofs.NumberLaws.{refusal-told, refusal-exactly, exception-exactly}
+use Rattle.machine.proofs.RequestLaws.{NoneToJoin}
+use Rattle.machine.proofs.AskLaws.{Carries, Issues, Joins, Excepts}
+use Rattle.machine.proofs.PartyLaws.{Accepts, Stands}
+use Rattle.machine.proofs.TickLaws.{Lent, tickAt, ticksAt}
+use Rattle.machine.proofs.Histories.{product, afterCalls, toldBy}
+use Rattle.machine.proofs.StateLaws.{IssuedBy, seen-issue}
+use Rattle.machine.proofs.Claims as claim
+use Rattle.table.specs.Columns.{partiesAt}
+use Rattle.proxy.proofs.MakingLaws.{adopted-valid}
+use Rattle.device.specs.declared.Device.{Device}
+use Rattle.device.specs.Device.{Freshly}
+use Rattle.device.proofs.DeviceLaws.{same-device}
+use Rattle.zilborteka.specs.Lives.{inForce, machineIn, Called, Line, callsOf, Lived, grantedIn, toldIn, ledgerIn}
+use Rattle.zilborteka.specs.Lives.Lived.{none, then}
+use Rattle.zilborteka.proofs.Lived.{left, seen, came, report-tells, lived-on, each-line, line-told, AsTheMachine, a-device-lives-as-the-machine, a-device-accounts-for-every-request}
+use Rattle.zilborteka.proofs.Handed.{waitingUnder, Replied, TimesOut, replied, timed-out, answers-what}
+use Rattle.zilborteka.proofs.Places.{LiveIn, place-live, live-in}
+
+-- what a host saw, as an outcome of the machine: the answer that the report tells, the machine that the device is afterwards, and both lent buffers
+abbrev pub outcomeIn : Answer → Seen → Device → Outcome
+outcomeIn a saw e = done a (machineIn e) (saw .frame) (saw .list)
+
+-- the answers that the report of an issue, a join and an exception tells
+abbrev pub issueIn : Report → Answer
+issueIn r = answer.Issued (record { 0 = r .id }) (r .length) (r .partial) (r .value)
+
+abbrev pub joinIn : Report → Answer
+joinIn r = answer.Joined (record { 0 = r .id })
+
+abbrev pub exceptionIn : Report → Answer
+exceptionIn r = answer.Excepted (r .code)
+
+-- the whole report of an issue, a join and an exception, and which of the three it is
+module _ {m : Machine} {c t : ℕ} {f o : List ℕ} {y : Outcome} {r : Report} where
+  issue-reported : Issues m c t f o y × (r ≡ numbers (y .says)) → (i : Issues m c t f o y) × (r ≡ report 0 isIssued (length f) 0 (i .partial) (i .value) 0 (i .id) 0)
+  unfolding numbers
+  issue-reported w = (w .0, w .1 ∙ ap numbers (w .0 .says))
+
+  join-reported : Joins m c t f o y × (r ≡ numbers (y .says)) → (j : Joins m c t f o y) × (r ≡ report 0 isJoined 0 0 0 0 0 (j .entry .id) 0)
+  unfolding numbers
+  join-reported w = (w .0, w .1 ∙ ap numbers (w .0 .says))
+
+exception-reported : {m : Machine} {t : ℕ} {f o : List ℕ} {y : Outcome} {r : Report} → Excepts m t f o y × (r ≡ numbers (y .says))
+    → (e : Excepts m t f o y) × (r ≡ report 0 isException exceptionFrame 0 0 0 0 0 (e .code))
+unfolding numbers
+exception-reported w = (w .0, w .1 ∙ ap numbers (w .0 .says))
+
+one-of-three : {m : Machine} {c t : ℕ} {f o : List ℕ} {y : Outcome} → Issues m c t f o y ⊎ (Joins m c t f o y ⊎ Excepts m t f o y)
+    → (numbers (y .says) .outcome ≡ isIssued) ⊎ ((numbers (y .says) .outcome ≡ isJoined) ⊎ (numbers (y .says) .outcome ≡ isException))
+unfolding numbers
+one-of-three (inl i) = inl (ap (λ (a : Answer). numbers a .outcome) (i .says))
+one-of-three (inr (inl j)) = inr (inl (ap (λ (a : Answer). numbers a .outcome) (j .says)))
+one-of-three (inr (inr e)) = inr (inr (ap (λ (a : Answer). numbers a .outcome) (e .says)))
+
+-- A device d was made fresh from a settings value, and these lines followed and left d′. What is claimed of the next call is claimed of each line of a life: `each-line` of Lived.antt.
+-- `machineIn d′` is the machine that the device is: its set, cursor and clock are the device's, and its live entries stand in the device's places (`own-fields`, `live-in` of Places.antt).
+module _ (from : Settings) {r : Report} {d d′ : Device} (ls : List Line) (fresh : Freshly from r d) (life : Lived d ls d′) where
+  -- the settings in force, the calls so far, and that the device is the machine after them
+  abbrev v : Value
+  v = inForce from
+
+  abbrev xs : List Call
+  xs = callsOf ls
+
+  lived : AsTheMachine v ls d′
+  lived = a-device-lives-as-the-machine from ls fresh life
+
+  clock-is : d′ .clock ≡ afterCalls v xs .book .clock
+  unfolding machineIn
+  clock-is = ap (λ (m : Machine). m .book .clock) (lived .after)
+
+  -- what the host saw of the next call is what the machine shows: a claim about that is one about what the host saw
+  sees : (x : Call) {saw : Seen} {e : Device} → Called d′ x saw e → saw ≡ seenOf (outcome (afterCalls v xs) x)
+  sees x s = rw (lived .after) at (seen x s)
+
+  passes : (x : Call) {saw : Seen} {e : Device} → Called d′ x saw e → saw .report .refusal ≡ 0 → refusal (afterCalls v xs) x ≡ 0
+  passes x s z = sym (refusal-told (afterCalls v xs) x) ∙ ap (λ (y : Seen). y .report .refusal) (sym (sees x s)) ∙ z
+
+  -- and where the report tells an answer, a claim about the machine's outcome with that answer is one about the device and what the host saw
+  carried : (P : Machine → Outcome → Type 0) (x : Call) {saw : Seen} {e : Device} (s : Called d′ x saw e) (a : Answer) → outcome (machineIn d′) x .says ≡ a
+      → (outcome (afterCalls v xs) x .says ≡ a → P (afterCalls v xs) (outcome (afterCalls v xs) x)) → P (machineIn d′) (outcomeIn a saw e) × (saw .report ≡ numbers a)
+  carried P x {saw} {e} s a h f = (
+    subst (P (machineIn d′)) (came x s ∙ ap (λ (b : Answer). outcomeIn b saw e) h) (subst (λ (m : Machine). P m (outcome m x)) (sym (lived .after)) (f (rw (lived .after) at h))),
+    ap (λ (y : Seen). y .report) (seen x s) ∙ ap numbers h,
+  )
+
+  -- Tender 1: a call refuses by the numbers in document 01. The report says the refusal n exactly if row n of the document's table applies to the call on that device and no
+  -- lower row does.
+  pub refuses-by-the-table : (x : Call) {saw : Seen} {d″ : Device} → Called d′ x saw d″ → (n : ℕ) → (n ≡ 0 → ⊥)
+      → (saw .report .refusal ≡ n) ↔ (Applies (table (machineIn d′) x) n × ((k : ℕ) → k < n → Applies (table (machineIn d′) x) k → ⊥))
+  refuses-by-the-table x s n h = rw (sees x s, lived .after) (Iff·trans (refusal-exactly _ n h) (claim.refuses-by-the-table v xs x n h))
+
+  -- Tender 1: a refusal changes no state and no lent byte. Every field of the device, both buffers and every other number of the report are as if nothing had been called.
+  pub a-refusal-changes-nothing : (x : Call) {saw : Seen} {d″ : Device} → Called d′ x saw d″ → (saw .report .refusal ≡ 0 → ⊥)
+      → (d″ ≡ d′) × (saw ≡ record { report = report (saw .report .refusal) 0 0 0 0 0 0 0 0; frame = outOf x; list = listOf x })
+  unfolding numbers
+  a-refusal-changes-nothing x {saw} {d″} s h = (
+    same-device d″ d′ (s .2 h),
+    sees x s ∙ ap seenOf (claim.a-refusal-changes-nothing v xs x (saw .report .refusal) h (rw (lived .after) at (report-tells x s .refused h))),
+  )
+
+  -- Tender 2 and 3, a request: one that is not refused is issued, joins, or gets an exception,
+  pub a-request-comes-to-this : (c t : ℕ) (f o : List ℕ) {saw : Seen} {d″ : Device} → Called d′ (request c t f o) saw d″ → saw .report .refusal ≡ 0
+      → (saw .report .outcome ≡ isIssued) ⊎ ((saw .report .outcome ≡ isJoined) ⊎ (saw .report .outcome ≡ isException))
+  a-request-comes-to-this c t f o s z = let x = request c t f o in let h = passes x s z in rw (sees x s) (one-of-three (claim.a-request-comes-to-this v xs c t f o h))
+
+  -- and each of the three is told in plain numbers and bytes: the whole report, every byte of the buffer, and the whole machine that the device is afterwards.
+  pub an-issue-is-this : (c t : ℕ) (f o : List ℕ) {saw : Seen} {d″ : Device} → Called d′ (request c t f o) saw d″ → saw .report .outcome ≡ isIssued
+      → (i : Issues (machineIn d′) c t f o (outcomeIn (issueIn (saw .report)) saw d″)) × (saw .report ≡ report 0 isIssued (length f) 0 (i .partial) (i .value) 0 (i .id) 0)
+  an-issue-is-this c t f o s e =
+      let x = request c t f o in
+      issue-reported (carried (λ m. Issues m c t f o) x s _ (report-tells x s .issued e) (claim.an-issue-is-this v xs c t f o _ _ _ _))
+
+  pub a-join-is-this : (c t : ℕ) (f o : List ℕ) {saw : Seen} {d″ : Device} → Called d′ (request c t f o) saw d″ → saw .report .outcome ≡ isJoined
+      → (j : Joins (machineIn d′) c t f o (outcomeIn (joinIn (saw .report)) saw d″)) × (saw .report ≡ report 0 isJoined 0 0 0 0 0 (j .entry .id) 0)
+  a-join-is-this c t f o s e =
+      let x = request c t f o in
+      join-reported (carried (λ m. Joins m c t f o) x s _ (report-tells x s .joined e) (claim.a-join-is-this v xs c t f o _))
+
+  pub an-exception-is-this : (c t : ℕ) (f o : List ℕ) {saw : Seen} {d″ : Device} → Called d′ (request c t f o) saw d″ → saw .report .outcome ≡ isException
+      → (e : Excepts (machineIn d′) t f o (outcomeIn (exceptionIn (saw .report)) saw d″)) × (saw .report ≡ report 0 isException exceptionFrame 0 0 0 0 0 (e .code))
+  an-exception-is-this c t f o s e =
+      let x = request c t f o in
+      exception-reported (carried (λ m. Excepts m t f o) x s _ (report-tells x s .excepted e) (claim.an-exception-is-this v xs c t f o _))
+
+  -- Tender 3: an accepted request stands in the party places afterwards, as the latest party of a live entry that asks what it asks.
+  pub the-accepted-stand : (c t : ℕ) (f o : List ℕ) {saw : Seen} {d″ : Device} → Called d′ (request c t f o) saw d″ → (saw .report .outcome ≡ isIssued) ⊎ (saw .report .outcome ≡ isJoined)
+      → Stands (machineIn d″ .book) (saw .report .id) (asking f) (asker c f)
+  unfolding Accepts
+  the-accepted-stand c t f o {saw} s w =
+      let x = request c t f o in
+      let tells = rw (lived .after) at (report-tells x s) in
+      rw (left x s, lived .after)
+      (claim.the-accepted-stand v xs c t f o (saw .report .id) (⊎-elim (λ e. rw (tells .issued e) refl) (λ e. rw (tells .joined e) refl) w))
+
+  -- Tender 3: the proxy itself gives exception 04 exactly when a legal request can join nothing and 64 are live.
+  pub exception-04-exactly : (c t : ℕ) (f o : List ℕ) {saw : Seen} {d″ : Device} → Called d′ (request c t f o) saw d″
+      → ((saw .report .outcome ≡ isException) × (saw .report .code ≡ 4))
+      ↔ ((saw .report .refusal ≡ 0) × (legal (inForce from) f ≡ true) × NoneToJoin (machineIn d′) t f × AllLive rules (machineIn d′ .book))
+  exception-04-exactly c t f o s =
+      let x = request c t f o in
+      let same : legal (settings (afterCalls v xs)) f ≡ legal v f = ap (λ (y : Value). legal y f) (always-sound (product v) xs) in
+      rw (sees x s, lived .after, refusal-told (afterCalls v xs) x) (Iff·trans (exception-exactly _ 4) (rw same at (claim.exception-04-exactly v xs c t f o)))
+
+  -- and no other call reports an exception
+  pub no-other-call-says-one : (x : Call) {saw : Seen} {d″ : Device} → Called d′ x saw d″ → ((c t : ℕ) (f o : List ℕ) → x ≡ request c t f o → ⊥) → saw .report .outcome ≡ isException → ⊥
+  no-other-call-says-one x s h e = claim.no-other-call-says-one v xs x h _ (rw (lived .after) at (report-tells x s .excepted e))
+
+  -- Tender 2 and 3, a reply: one that is not refused is handed to those that wait under its id in the host's own ledger, each of whom asked what it answers.
+  pub a-reply-goes-to-its-own : (t : ℕ) (f o l : List ℕ) {saw : Seen} {d″ : Device} → Called d′ (reply t f o l) saw d″ → saw .report .refusal ≡ 0
+      → Replied (inForce from) (toldIn (inForce from) ls) f o l saw
+  a-reply-goes-to-its-own t f o l s z = let x = reply t f o l in let h = passes x s z in rw (lived .told, sees x s) (replied v xs t f o l h)
+
+  -- Tender 2 and 3, a timeout: a tick that is not refused and does not report that nothing is due hands exception 0B to those that wait under the id that was due first.
+  pub a-timeout-goes-to-its-own : (t : ℕ) (o l : List ℕ) {saw : Seen} {d″ : Device} → Called d′ (tick t o l) saw d″ → saw .report .refusal ≡ 0 → (saw .report .outcome ≡ isNothingDue → ⊥)
+      → TimesOut (toldIn (inForce from) ls) t o l saw
+  unfolding numbers
+  a-timeout-goes-to-its-own t o l s z n =
+      let x = tick t o l in
+      let h = passes x s z in
+      let due : outcome (afterCalls v xs) x .says ≡ answer.NothingDue → ⊥ = λ e. n (ap (λ (y : Seen). y .report .outcome) (sees x s) ∙ ap (λ (a : Answer). numbers a .outcome) e) in
+      rw (lived .told, sees x s) (timed-out v xs t o l h due)
+
+  -- what the lines up to one of them and all lines tell, and what the host saw at that one, are the machine's
+  parted : (ks : List Line) (x : Line) (ys : List Line) → ls ≡ ks ++ x ∷ ys
+      → (toldIn v (ks ++ x ∷ []) ≡ toldBy v (callsOf ks ++ x .call ∷ [])) × (toldIn v ls ≡ toldBy v (callsOf ks ++ x .call ∷ callsOf ys))
+      × (x .saw ≡ seenOf (outcome (afterCalls v (callsOf ks)) (x .call)))
+  parted ks x ys e =
+      let i = each-line ks x ys (subst (λ (l : List Line). Lived d l d′) e life) in
+      let first = a-device-lives-as-the-machine from (ks ++ x ∷ []) fresh (lived-on (i .2) (then (i .3) none)) in (
+        first .told ∙ ap (toldBy v) (map-append (λ (y : Line). y .call) ks (x ∷ [])),
+        lived .told ∙ ap (toldBy v) (ap callsOf e ∙ map-append (λ (y : Line). y .call) ks (x ∷ ys)),
+        lived .saw ks x ys e,
+      )
+
+  -- Tender 3: a client number that is attached again gets nothing that its predecessor asked. Whatever lines come after a client's leaving, what is answered to its number in the
+  -- host's ledger is what was answered before it left, or was accepted since.
+  pub a-successor-gets-nothing-old : (ks : List Line) (x : Line) (ys : List Line) → ls ≡ ks ++ x ∷ ys → (c : ℕ) → x .call ≡ detach c → x .saw .report .refusal ≡ 0
+      → Anew c (ledgerIn (inForce from) (ks ++ x ∷ [])) (ledgerIn (inForce from) ls)
+  a-successor-gets-nothing-old ks x ys e c h z =
+      let i = parted ks x ys e in
+      let m = afterCalls v (callsOf ks) in
+      let n : refusal m (detach c) ≡ 0 = rw (← h) (sym (refusal-told m (x .call)) ∙ ap (λ (y : Seen). y .report .refusal) (sym (i .2)) ∙ z) in
+      rw (i .0, i .1, h) (claim.a-successor-gets-nothing-old v (callsOf ks) c (callsOf ys) n)
+
+  -- And the same after a lost link, of any client number.
+  pub nor-after-a-lost-link : (ks : List Line) (x : Line) (ys : List Line) → ls ≡ ks ++ x ∷ ys → (c : ℕ) → x .call ≡ linkLost
+      → Anew c (ledgerIn (inForce from) (ks ++ x ∷ [])) (ledgerIn (inForce from) ls)
+  nor-after-a-lost-link ks x ys e c h = let i = parted ks x ys e in rw (i .0, i .1, h) (claim.nor-after-a-lost-link v (callsOf ks) c (callsOf ys))
+
+  -- Tender 3: once a tick reports that nothing is due, nothing accepted a full timeout before its time waits in the host's ledger.
+  pub nothing-waits-forever : (t : ℕ) (o l : List ℕ) {saw : Seen} {d″ : Device} → Called d′ (tick t o l) saw d″ → saw .report .outcome ≡ isNothingDue
+      → (k : Ticket What) → List·Memᴰ k (ledgerIn (inForce from) (ls ++ record { call = tick t o l; saw = saw } ∷ []) .waiting) → t < k .time + inForce from .timeout
+  nothing-waits-forever t o l {saw} s n k m =
+      let x : Line = record { call = tick t o l; saw = saw } in
+      let w = a-device-lives-as-the-machine from (ls ++ x ∷ []) fresh (lived-on life (then s none)) in
+      claim.nothing-waits-forever v xs t o l (rw (lived .after) at (report-tells (tick t o l) s .nothing-due n)) k
+      (rw (w .told, map-append (λ (y : Line). y .call) ls (x ∷ [])) at m)
+
+  -- Tender 3: ticking at one time ends. After this life, as many ticks at one time as there are places, or more, each with whatever buffers of the asked lengths, the next tick at that
+  -- time reports that nothing is due, and in the host's ledger nothing accepted a full timeout before that time waits.
+  pub ticking-comes-to-an-end : (t : ℕ) → t ≤ latestTime → d′ .clock ≤ t → (bs : List Lent) → places ≤ length bs → (b : Lent)
+      → (ts : List Line) (x : Line) {e : Device} → Lived d′ (ts ++ x ∷ []) e → callsOf ts ≡ ticksAt t bs → x .call ≡ tickAt t b
+      → (x .saw .report .outcome ≡ isNothingDue)
+      × ((k : Ticket What) → List·Memᴰ k (ledgerIn (inForce from) (ls ++ (ts ++ x ∷ [])) .waiting) → t < k .time + inForce from .timeout)
+  unfolding numbers
+  ticking-comes-to-an-end t late c bs p b ts x more q y =
+      let w = a-device-lives-as-the-machine from (ls ++ (ts ++ x ∷ [])) fresh (lived-on life more) in
+      let before : callsOf (ls ++ ts) ≡ xs ++ ticksAt t bs = map-append (λ (z : Line). z .call) ls ts ∙ ap (λ (l : List Call). xs ++ l) q in
+      let all : callsOf (ls ++ (ts ++ x ∷ [])) ≡ (xs ++ ticksAt t bs) ++ (tickAt t b ∷ []) =
+      ap callsOf (sym (append-assoc ls ts (x ∷ []))) ∙ map-append (λ (z : Line). z .call) (ls ++ ts) (x ∷ []) ∙ rw (before, y) in
+      let h = claim.ticking-comes-to-an-end v xs t late (rw clock-is at c) bs p b in (
+        ap (λ (z : Seen). z .report .outcome) (w .saw (ls ++ ts) x [] (sym (append-assoc ls ts (x ∷ [])))) ∙ rw (before, y) (ap (λ (a : Answer). numbers a .outcome) (h .0)),
+        λ k m. h .1 k (rw (w .told, all) at m),
+      )
+
+  -- Document 01, the state by the history, 1: a client is attached exactly if the last of its attach, its detach and link lost that was not refused is its attach.
+  pub who-is-attached : (c : ℕ) → (has (d′ .attached) c ≡ true) ↔ (lastOf (concerns c) (grantedIn ls) ≡ some (attach c))
+  unfolding machineIn
+  who-is-attached c = rw (ap (λ (m : Machine). m .attached) (lived .after), lived .granted) (claim.who-is-attached v xs c)
+
+  -- 2: the clock is the time of the last request, reply or tick that was not refused, and 0 where there was none.
+  pub what-the-clock-shows : d′ .clock ≡ Option·getD (lastGiven timeOf (grantedIn ls)) 0
+  what-the-clock-shows = rw (clock-is, lived .granted) (claim.what-the-clock-shows v xs)
+
+  -- 3: the cursor is the last issued id + 1, 0 after 65,535, and 0 where none was issued.
+  pub where-the-cursor-stands : d′ .cursor ≡ behind ids (lastGiven issuedId (toldIn (inForce from) ls))
+  unfolding machineIn
+  where-the-cursor-stands = ap (λ (m : Machine). m .book .cursor) (lived .after) ∙ rw (lived .told) (claim.where-the-cursor-stands v xs)
+
+  -- 4: an id is live, in a place of the device, exactly if it was issued and since its last issue neither answered nor timed out nor lost with the link; the place holds what that
+  -- issue asked, for the client that asked it, and is due when that issue said;
+  pub which-ids-are-live : (id : ℕ) (w : What) (c u : ℕ) → LiveIn d′ id w c u ↔ Outstanding (toldIn (inForce from) ls) id w c u
+  which-ids-are-live id w c u = Iff·trans (live-in d′ (lived .next) id w c u) (rw (lived .after, lived .told) (claim.which-ids-are-live v xs id w c u))
+
+  -- its parties are those that wait under the id in the host's ledger, in the order in which they were accepted;
+  pub who-stands-where : (k id : ℕ) → getD (d′ .ids) k 0 ≡ id + 1 → partiesAt (d′ .counts) (d′ .clients) (d′ .originals) k ≡ partiesOf (waitingUnder (toldIn (inForce from) ls) id)
+  who-stands-where k id e =
+      let i : getD (d′ .ids) k 0 - 1 ≡ id = omega arith in
+      rw i at (a-device-accounts-for-every-request from ls fresh life .entries k _ (place-live d′ (lived .next) k (λ z. omega arith)))
+
+  -- and each issue is a line of this life: a request that was reported issued under that id; it asked what the frame asks, and is due at the request's time plus the timeout.
+  pub what-an-issue-is : (id : ℕ) (w : What) (u : ℕ) (p : Party) → List·Memᴰ (issued id w u p) (toldIn (inForce from) ls)
+      → (ks : List Line) × (x : Line) × (ys : List Line) × (ls ≡ ks ++ x ∷ ys) × IssuedBy (inForce from) (x .saw) id w u p (x .call)
+  what-an-issue-is id w u p m = let i = line-told v ls (issued id w u p) m in (i .0, i .1, i .2, i .3, seen-issue v (i .1 .saw) id w u p (i .1 .call) (i .4))
+
+  -- Tender 3: live proxy ids differ, place by place of the device.
+  pub live-ids-differ : (i j : ℕ) → (getD (d′ .ids) i 0 ≡ 0 → ⊥) → getD (d′ .ids) i 0 ≡ getD (d′ .ids) j 0 → i ≡ j
+  live-ids-differ i j n e =
+      let live = place-live d′ (lived .next) in
+      claim.live-ids-differ v xs i j _ _ (rw (lived .after) at (live i n)) (rw (lived .after) at (live j (rw e at n))) (ap (λ (k : ℕ). k - 1) e)
+
+  -- Tender 3: an id is not issued again until at least 65,472 others were,
+  pub an-id-comes-round-late : let l = ledgerIn (inForce from) ls in (a c : ℕ) → a < c → c < length (l .issues) → getD (l .issues) a 0 ≡ getD (l .issues) c 0 → a + (ids - places) < c
+  an-id-comes-round-late = rw (lived .told) (claim.an-id-comes-round-late v xs)
+
+  -- and those others are of different ids
+  pub the-others-differ : let l = ledgerIn (inForce from) ls in (i j : ℕ) → i < j → j ≤ i + (ids - places) → j < length (l .issues) → getD (l .issues) i 0 ≡ getD (l .issues) j 0 → ⊥
+  the-others-differ = rw (lived .told) (claim.the-others-differ v xs)
+
+  -- Document 01: link lost returns the former set, client by client those that were attached, and nobody is attached after it.
+  pub link-lost-says-who-was-attached : {saw : Seen} {d″ : Device} → Called d′ linkLost saw d″ → (saw .report ≡ report 0 isDone 0 0 0 0 (saw .report .set) 0 0)
+      × ((c : ℕ) → (has (saw .report .set) c ≡ true) ↔ (lastOf (concerns c) (grantedIn ls) ≡ some (attach c))) × ((c : ℕ) → has (d″ .attached) c ≡ false)
+  unfolding numbers machineIn
+  link-lost-says-who-was-attached {saw} s =
+      let w = claim.link-lost-says-who-was-attached v xs in
+      let told : saw .report ≡ report 0 isDone 0 0 0 0 (w .0) 0 0 = ap (λ (y : Seen). y .report) (sees linkLost s) ∙ ap numbers (w .1) in
+      let set = ap (λ (y : Report). y .set) told in (
+        told ∙ ap (λ (n : ℕ). report 0 isDone 0 0 0 0 n 0 0) (sym set),
+        λ c. rw (set, lived .granted) (w .2 c),
+        λ c. ap (λ (m : Machine). has (m .attached) c) (rw (lived .after) at (left linkLost s)) ∙ w .3 c,
+      )
+
+  -- Attach and detach that are not refused report done and nothing else.
+  pub attach-says-done : (c : ℕ) {saw : Seen} {d″ : Device} → Called d′ (attach c) saw d″ → saw .report .refusal ≡ 0 → saw .report ≡ report 0 isDone 0 0 0 0 0 0 0
+  unfolding numbers
+  attach-says-done c s z = let x = attach c in let h = passes x s z in rw (sees x s, claim.attach-says-done v xs c h)
+
+  pub detach-says-done : (c : ℕ) {saw : Seen} {d″ : Device} → Called d′ (detach c) saw d″ → saw .report .refusal ≡ 0 → saw .report ≡ report 0 isDone 0 0 0 0 0 0 0
+  unfolding numbers
+  detach-says-done c s z = let x = detach c in let h = passes x s z in rw (sees x s, claim.detach-says-done v xs c h)
+
+module _ (from : Settings) {r r′ : Report} {d d′ e e′ : Device} (ls ks : List Line) (fresh : Freshly from r d) (life : Lived d ls d′) (fresh′ : Freshly from r′ e) (life′ : Lived e ks e′) where
+  -- Tender 2: a value in a tag's range, written over the whole tag in one request, stored as sent and read back whole in one, comes back equal. Over two lives of devices that were
+  -- made from one settings value, or two places of one life: the registers of the tag in the frame that was issued, carried by the reply to a read that covers the tag and is
+  -- outstanding under the reply's id, reach the reader as the registers that the writer sent. 06 and 16; one tag among any others. What is lent is bytes, which a line does not say.
+  pub a-value-comes-back : (tag : Tag) → List·Memᴰ tag (inForce from .tags)
+      → (c t : ℕ) (f o : List ℕ) → ((k : ℕ) → getD f k 0 < 256) → {saw : Seen} {d″ : Device} → Called d′ (request c t f o) saw d″ → saw .report .outcome ≡ isIssued
+      → (base s q : ℕ) → Carries (asking f .asked) base s q → Whole s q tag → inRange (kindOf tag) (numberOf (ownIn s (registersAt base q f) tag)) ≡ true
+      → (t′ : ℕ) (g o′ l : List ℕ) → ((k : ℕ) → getD g k 0 < 256) → {saw′ : Seen} {e″ : Device} → Called e′ (reply t′ g o′ l) saw′ e″ → saw′ .report .refusal ≡ 0
+      → (w : What) (client due : ℕ) → Outstanding (toldIn (inForce from) ks) (saw′ .report .id) w client due → excepts (w .function) g ≡ false
+      → (s′ q′ : ℕ) → w .asked ≡ Read s′ q′ → Whole s′ q′ tag
+      → ownIn s′ (registersAt 9 q′ g) tag ≡ ownIn s (registersAt base q (saw .frame)) tag
+      → ownIn s′ (registersAt 9 q′ (saw′ .frame)) tag ≡ ownIn s (registersAt base q f) tag
+  a-value-comes-back tag mem c t f o bytes called issue base s q carries whole range t′ g o′ l bytes′ called′ z w client due out plain s′ q′ reads whole′ stored =
+      let ys = callsOf ks in
+      let h = passes from ks fresh′ life′ (reply t′ g o′ l) called′ z in
+      let shown = sees from ks fresh′ life′ (reply t′ g o′ l) called′ in
+      let same = answers-what (inForce from) ys t′ g o′ l h w client due (rw (lived from ks fresh′ life′ .told, shown) at out) in
+      rw shown
+      (claim.a-value-comes-back (inForce from) (adopted-valid (valueOf from)) tag mem (callsOf ls) c t f o bytes _ _ _ _ (rw (lived from ls fresh life .after) at (report-tells (request c t f o) called .issued issue))
+      base s q carries whole range ys t′ g o′ l bytes′ (claim.a-reply-goes-to-its-own (inForce from) ys t′ g o′ l h .0) (rw same plain) s′ q′ (ap (λ (y : What). y .asked) same ∙ reads) whole′
+      (rw (sees from ls fresh life (request c t f o) called) at stored))

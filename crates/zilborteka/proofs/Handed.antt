@@ -1,0 +1,141 @@
+-- What a reply and a timeout hand to whom, as a host sees it: over the ledger and the history that are kept from the calls and what was seen of them.
+-- Assumes nothing.
+use Prim.Native.Nat.{ℕ, _+_, _*_, _%_, _≤_, _<_}
+use mathlib.Core.Path.{_≡_, refl, ap, _∙_}
+use mathlib.Core.Logic.{_⊎_}
+use mathlib.Core.Bool.{true}
+use mathlib.Core.Option.{some}
+use mathlib.Core.List.{List, _∷_, List·Memᴰ}
+use native.Mathlib.Omega.{arith}
+use native.Mathlib.Nat.{mod-eq-of-lt}
+use lib.ListN.{length, getD, drop, length-map}
+use Rattle.laws.specs.Lists.{filter}
+use Rattle.laws.specs.Bytes.{over}
+use Rattle.wire.specs.Frame.{laid, exception}
+use Rattle.settings.specs.Grammar.{Value}
+use Rattle.pdu.specs.Replies.{What, answering}
+use Rattle.rewrite.specs.Frames.{returned}
+use Rattle.book.specs.Book.{Event, Live, at}
+use Rattle.book.specs.Ledger.{Ticket, empty, posts, under, partiesOf}
+use Rattle.book.specs.Traced.{Outstanding}
+use Rattle.book.proofs.History.{always-sound}
+use Rattle.machine.specs.Machine.{Note, settings}
+use Rattle.machine.specs.Calls.{Call}
+use Rattle.machine.specs.Calls.Call.{reply, tick}
+use Rattle.machine.specs.Refusals.{refusal}
+use Rattle.machine.specs.Replies.{pairs}
+use Rattle.machine.specs.Outcomes.{outcome}
+use Rattle.machine.specs.Numbers.{numbers, isAnswered, isTimedOut}
+use Rattle.machine.specs.Histories.{Seen, seenOf}
+use Rattle.machine.specs.declared.Answer.{Answer}
+use Rattle.machine.specs.declared.Answer.the-variants as answer
+use Rattle.machine.proofs.FrameOfParty.{EachItsFrame, reply-frame, always-known}
+use Rattle.machine.proofs.Histories.{product, afterCalls, toldBy, ledgerOf}
+use Rattle.machine.proofs.Claims as claim
+
+-- those that wait under an id in the ledger of a history, in the order in which they were accepted
+abbrev pub waitingUnder : List (Event What) → ℕ → List (Ticket What)
+waitingUnder vs id = filter (under id) (posts empty vs .waiting)
+
+-- what is handed to those that wait under the id which the report names, each of whom asked w: the report says how many they are, the list holds pair by pair their clients and
+-- original ids and behind them what was there (l), and each gets its frame
+pub record HandsOut (vs : List (Event What)) (w : What) (l : List ℕ) (saw : Seen) : Type 0 where
+  pub parties : saw .report .parties ≡ length (waitingUnder vs (saw .report .id))
+  pub list : saw .list ≡ over (pairs (partiesOf (waitingUnder vs (saw .report .id)))) l
+  pub alike : (k : Ticket What) → List·Memᴰ k (waitingUnder vs (saw .report .id)) → k .what ≡ w
+  pub frames : EachItsFrame (posts empty vs) saw
+
+-- what a reply f comes to after a history: its id, under which w is outstanding, which it answers; the definition's rewriting of it, under id 0; and whom it is handed to
+pub record Replied (v : Value) (vs : List (Event What)) (f o l : List ℕ) (saw : Seen) : Type 0 where
+  pub outcome : saw .report .outcome ≡ isAnswered
+  pub id : saw .report .id ≡ getD f 0 0 * 256 + getD f 1 0
+  pub size : saw .report .length ≡ length f
+  pub asked : What
+  pub client : ℕ
+  pub deadline : ℕ
+  pub outstanding : Outstanding vs (saw .report .id) asked client deadline
+  pub matches : answering asked f ≡ true
+  pub frame : saw .frame ≡ over (laid 0 (returned (v .tags) asked f .bytes)) o
+  pub partial : saw .report .partial ≡ returned (v .tags) asked f .partial
+  pub value : saw .report .value ≡ returned (v .tags) asked f .value
+  pub handed : HandsOut vs asked l saw
+
+-- what a timeout at t comes to: of the outstanding ids whose deadline has come the one that was due first, the smaller id of two; exception 0B; and whom it is handed to
+pub record TimesOut (vs : List (Event What)) (t : ℕ) (o l : List ℕ) (saw : Seen) : Type 0 where
+  pub outcome : saw .report .outcome ≡ isTimedOut
+  pub size : saw .report .length ≡ 9
+  pub asked : What
+  pub client : ℕ
+  pub deadline : ℕ
+  pub outstanding : Outstanding vs (saw .report .id) asked client deadline
+  pub due : deadline ≤ t
+  pub earliest : (i : ℕ) (w : What) (c u : ℕ) → Outstanding vs i w c u → u ≤ t → (deadline < u) ⊎ ((deadline ≡ u) × (saw .report .id ≤ i))
+  pub frame : saw .frame ≡ (0 ∷ 0 ∷ 0 ∷ 0 ∷ 0 ∷ 3 ∷ asked .unit ∷ (asked .function + 128) ∷ 11 ∷ drop 9 o)
+  pub handed : HandsOut vs asked l saw
+
+module _ (v : Value) (xs : List Call) where
+  -- what is live is outstanding
+  lives-as : (k : ℕ) (e : Live What Note) → at (afterCalls v xs .book) k ≡ some e → Outstanding (toldBy v xs) (e .id) (e .what) (e .by) (e .deadline)
+  lives-as k e h = claim.which-ids-are-live v xs (e .id) (e .what) (e .by) (e .deadline) .0 (k, e, h, refl, refl, refl, refl)
+
+  hands-out : (saw : Seen) (l : List ℕ) (e : Live What Note) → saw .report .id ≡ e .id → saw .report .parties ≡ length (e .parties) → saw .list ≡ over (pairs (e .parties)) l
+      → e .parties ≡ partiesOf (waitingUnder (toldBy v xs) (e .id)) → ((k : Ticket What) → List·Memᴰ k (waitingUnder (toldBy v xs) (e .id)) → k .what ≡ e .what)
+      → EachItsFrame (ledgerOf v xs) saw → HandsOut (toldBy v xs) (e .what) l saw
+  hands-out saw l e i n p q w z =
+      record { parties = rw i (n ∙ ap length q ∙ length-map (waitingUnder (toldBy v xs) (e .id)) _); list = rw (i, ← q) p; alike = rw i w; frames = z }
+
+  -- A reply that is not refused, and a tick that is not refused and does not say that nothing is due, come to that.
+  pub replied : (t : ℕ) (f o l : List ℕ) → refusal (afterCalls v xs) (reply t f o l) ≡ 0 → Replied v (toldBy v xs) f o l (seenOf (outcome (afterCalls v xs) (reply t f o l)))
+  unfolding numbers
+  replied t f o l h =
+      let g = claim.a-reply-goes-to-its-own v xs t f o l h in
+      let a = g .0 in
+      let same : settings (afterCalls v xs) ≡ v = always-sound (product v) xs in
+      let id = ap (λ (y : Answer). numbers y .id) (a .says) in
+      record {
+        outcome = ap (λ (y : Answer). numbers y .outcome) (a .says);
+        id = id ∙ a .same;
+        size = ap (λ (y : Answer). numbers y .length) (a .says);
+        asked = a .entry .what;
+        client = a .entry .by;
+        deadline = a .entry .deadline;
+        outstanding = rw id (lives-as (a .place) (a .entry) (a .there));
+        matches = a .matches;
+        frame = a .frame ∙ ap (λ (y : Value). over (laid 0 (returned (y .tags) (a .entry .what) f .bytes)) o) same;
+        partial = ap (λ (y : Answer). numbers y .partial) (a .says) ∙ ap (λ (y : Value). returned (y .tags) (a .entry .what) f .partial) same;
+        value = ap (λ (y : Answer). numbers y .value) (a .says) ∙ ap (λ (y : Value). returned (y .tags) (a .entry .what) f .value) same;
+        handed = hands-out _ l (a .entry) id (ap (λ (y : Answer). numbers y .parties) (a .says)) (a .list) (g .1) (g .2) (claim.a-partys-frame v xs t f o l h);
+      }
+
+  pub timed-out : (t : ℕ) (o l : List ℕ) → refusal (afterCalls v xs) (tick t o l) ≡ 0 → (outcome (afterCalls v xs) (tick t o l) .says ≡ answer.NothingDue → ⊥)
+      → TimesOut (toldBy v xs) t o l (seenOf (outcome (afterCalls v xs) (tick t o l)))
+  unfolding numbers exception
+  timed-out t o l h n =
+      let g = claim.a-timeout-goes-to-its-own v xs t o l h n in
+      let a = g .0 in
+      let known = always-known v xs (a .place) (a .entry) (a .there) .1 in
+      let byte : (a .entry .what .function + 128) % 256 ≡ a .entry .what .function + 128 = mod-eq-of-lt (omega arith) in
+      let id = ap (λ (y : Answer). numbers y .id) (a .says) in
+      record {
+        outcome = ap (λ (y : Answer). numbers y .outcome) (a .says);
+        size = ap (λ (y : Answer). numbers y .length) (a .says);
+        asked = a .entry .what;
+        client = a .entry .by;
+        deadline = a .entry .deadline;
+        outstanding = rw id (lives-as (a .place) (a .entry) (a .there));
+        due = a .due;
+        earliest = λ i w c u z q.
+            let y = claim.which-ids-are-live v xs i w c u .1 z in
+            rw id (rw (y .3, y .6) at (a .earliest (y .0) (y .1) (y .2) (rw (y .6) q)));
+        frame = rw byte at (a .frame);
+        handed = hands-out _ l (a .entry) id (ap (λ (y : Answer). numbers y .parties) (a .says)) (a .list) (g .1) (g .2) (claim.a-partys-timeout v xs t o l h n);
+      }
+
+  -- and what is outstanding under its id is what the entry that it answers holds
+  pub answers-what : (t : ℕ) (f o l : List ℕ) (h : refusal (afterCalls v xs) (reply t f o l) ≡ 0) (w : What) (c u : ℕ)
+      → Outstanding (toldBy v xs) (numbers (outcome (afterCalls v xs) (reply t f o l) .says) .id) w c u → claim.a-reply-goes-to-its-own v xs t f o l h .0 .entry .what ≡ w
+  answers-what t f o l h w c u out =
+      let a = claim.a-reply-goes-to-its-own v xs t f o l h .0 in
+      let e = lives-as (a .place) (a .entry) (a .there) .2 in
+      let g = rw (reply-frame (afterCalls v xs) t f o l h a .0) at (out .2) in
+      cc
