@@ -5,7 +5,9 @@
 # it stands.
 # install puts header, both archives and a pkg-config file under DESTDIR and PREFIX; dist packs these and HOST.md into
 # target/dist/zilborteka-VERSION.tar.gz; install-test tries both in temporary directories.
-.PHONY: demo test archive kernel-archive host host-test install dist install-test
+# bench times the archive on this machine's own processor (BEFORE=an older archive: beside it, in one run; BEFORE_INCLUDE=the folder
+# of its header).
+.PHONY: demo test archive kernel-archive host host-test install dist install-test bench
 
 SEED ?= 1
 ARCHIVE ?=
@@ -53,3 +55,12 @@ dist: kernel-archive
 
 install-test: dist
 	tests/host/installed target/dist/$(DIST).tar.gz
+
+ifeq ($(shell uname -m),x86_64)
+bench: archive
+	bench/run target/staticlib/libzilborteka.a $(BEFORE) $(BEFORE_INCLUDE)
+else
+bench:
+	tools/native
+	bench/run target/native/libzilborteka.a $(BEFORE) $(BEFORE_INCLUDE)
+endif

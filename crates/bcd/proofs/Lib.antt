@@ -1,4 +1,5 @@
 pub mod PackedLaws
+pub mod CarryLaws
 pub mod OutcomeLaws
 pub mod RegisterLaws
 pub mod RoundTrip

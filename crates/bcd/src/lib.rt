@@ -39,35 +39,35 @@ pub fn registers_of(kind: Kind) -> usize
     }
 }
 
-// Four decimal digits as nibbles.
+// Four decimal digits as nibbles: a digit carries at 10 and a nibble at 16, so each carry weighs 6 more.
+// Below 10000 a product and a shift divide by 10, 100 and 1000.
 fn pack(n: u16) -> u16
     requires { ⌜ n < 10000 ⌝ }
     ensures { λ r. ⌜ r ≡ packed 4 n ⌝ }
 {
-    let a = n / 10;
-    let b = a / 10;
-    let c = b / 10;
-    n % 10 + 16 * (a % 10 + 16 * (b % 10 + 16 * (c % 10)))
+    let v = n as u32;
+    let tens = v * 6554 >> 16;
+    let hundreds = v * 5243 >> 19;
+    let thousands = v * 8389 >> 23;
+    (v + 6 * (tens + 16 * (hundreds + 16 * thousands))) as u16
 }
 
-// Four nibbles as decimal digits.
+// Four nibbles as decimal digits: the upper nibble of each byte weighs 10 in place of 16, then the upper byte 100 in place of 256.
 fn unpack(w: u16) -> u16
     ensures { λ r. ⌜ r ≡ unpacked 4 w ⌝ }
 {
-    let a = w / 16;
-    let b = a / 16;
-    let c = b / 16;
-    w % 16 + 10 * (a % 16 + 10 * (b % 16 + 10 * (c % 16)))
+    let tens = w / 16 % 16;
+    let thousands = w / 16 / 16 / 16;
+    let bytes = w - 6 * (tens + 256 * thousands);
+    bytes - 156 * (bytes / 256)
 }
 
-// No nibble of the word is above 9.
+// No nibble of the word is above 9: with 6 added to each, none carries.
 fn is_decimal(w: u16) -> bool
     ensures { λ r. ⌜ r ≡ decimal 4 w ⌝ }
 {
-    let a = w / 16;
-    let b = a / 16;
-    let c = b / 16;
-    (w % 16 < 10) & ((a % 16 < 10) & ((b % 16 < 10) & (c % 16 < 10)))
+    let n = w as u32;
+    ((n + 0x6666) ^ n) & 0x11110 == 0
 }
 
 // The digits of one register.

@@ -1,14 +1,13 @@
--- `bcd::is_decimal` meets its contract: the definition written out for four nibbles.
+-- `bcd::is_decimal` meets its contract: none of four nibbles carries.
 -- Assumes nothing.
-use mathlib.Core.Bool.{and-true}
-use Rattle.laws.specs.Digits.{digits, below}
-use Rattle.bcd.specs.Bcd.{decimal}
+use Rattle.bcd.proofs.CarryLaws.{ones, no-carry}
+use borrow.Author.Needs.{needs}
 use Rattle.bcd.proofs.is_decimal.Statement.{statement}
 use Rattle.bcd.proofs.is_decimal.Tie as tie
 
 returns : tie.Need-returns
-unfolding decimal digits below
-returns c = simp and-true
+unfolding ones
+returns c = no-carry 4 (c .args .w)
 
 pub is-decimal-spec : {M : Type 1} → statement M
-is-decimal-spec = tie.close (tie.spec returns)
+is-decimal-spec = tie.close (tie.spec (λ c. search needs) returns)

@@ -1,5 +1,7 @@
--- `bcd::pack` meets its contract: the definition written out for four digits.
+-- `bcd::pack` meets its contract: each product and shift is a division, and with these it is the definition written out for four digits.
 -- Assumes nothing.
+use Prim.Native.Nat.{ℕ, _+_, _*_, _/_, _<_}
+use mathlib.Core.Path.{_≡_}
 use native.Mathlib.Omega.{arith}
 use Rattle.laws.specs.Digits.{digits, value}
 use Rattle.bcd.specs.Bcd.{packed}
@@ -7,11 +9,17 @@ use borrow.Author.Needs.{needs}
 use Rattle.bcd.proofs.pack.Statement.{statement}
 use Rattle.bcd.proofs.pack.Tie as tie
 
-returns : tie.Need-returns
+-- a digit carries at 10 and a nibble at 16
+heavier : (n tens hundreds thousands : ℕ) → n < 10000 → tens ≡ n / 10 → hundreds ≡ n / 10 / 10 → thousands ≡ n / 10 / 10 / 10
+    → n + 6 * (tens + 16 * (hundreds + 16 * thousands)) ≡ packed 4 n
 unfolding packed digits value
-returns c = omega arith
+heavier n tens hundreds thousands l e f g = rw (e, f, g) (omega arith)
+
+returns : tie.Need-returns
+returns c = heavier (c .args .n) _ _ _ (c .pre) (omega arith) (omega arith) (omega arith)
 
 pub pack-spec : {M : Type 1} → statement M
 pack-spec =
     tie.close
-    (tie.spec (λ c. search needs) (λ c. search needs) (λ c. search needs) (λ c. search needs) (λ c. search needs) (λ c. search needs) returns)
+    (tie.spec (λ c. search needs) (λ c. search needs) (λ c. search needs) (λ c. search needs) (λ c. search needs)
+    (λ c. search needs) (λ c. search needs) (λ c. search needs) (λ c. search needs) (λ c. search needs) returns)

@@ -1,0 +1,233 @@
+/* Times one round of each workload over the archive and prints a line for each: the word that the program was given,
+   the workload's name, the calls, and their nanoseconds of processor time. bench/run repeats rounds and takes medians.
+   Frames and values are made before the clock starts: while it runs a reply gets the id that was issued, two bytes,
+   and nothing else is made. A call that does not end as its workload says ends the program. */
+#define _POSIX_C_SOURCE 199309L
+#include "zilborteka.h"
+#include <stdio.h>
+#include <stdlib.h>
+#include <time.h>
+
+enum {
+    CALLS = 200000, /* at least so many are timed */
+    CLIENTS = 32,
+    PARTIES = ZB_PARTY_PLACES / ZB_PLACES,
+    MOST_FRAME = 260,
+    TAGS = 60, /* from FIRST on, of width 16 and 32 by turns */
+    FIRST = 1000,
+    TAGGED = TAGS / 2 * 3,
+    PLAIN = 10, /* the registers of a plain read, below the tags */
+    FRAMES = 64 /* as many frames with other values take turns */
+};
+
+typedef struct {
+    uint8_t bytes[MOST_FRAME];
+    size_t size;
+} frame;
+
+static zb_state device;
+static uint8_t out[MOST_FRAME];
+static uint16_t list[2 * PARTIES];
+static frame asking[FRAMES], answering[FRAMES];
+static const uint64_t now = 1;
+
+/* FRAMES, FILLING THE TABLE: BEFORE THE CLOCK STARTS */
+
+static uint32_t next_value(void)
+{
+    static uint32_t seed = 1;
+    seed = seed * 1664525 + 1013904223;
+    return seed >> 4;
+}
+
+static void add(frame *f, unsigned byte)
+{
+    f->bytes[f->size++] = (uint8_t)byte;
+    f->bytes[5] = (uint8_t)(f->size - 6);
+}
+
+static void add_word(frame *f, uint32_t word)
+{
+    add(f, word >> 8 & 255);
+    add(f, word & 255);
+}
+
+static frame starting(unsigned function)
+{
+    frame f = {.size = 6};
+    add(&f, 1);
+    add(&f, function);
+    return f;
+}
+
+static frame asked(unsigned function, unsigned start, unsigned quantity)
+{
+    frame f = starting(function);
+    add_word(&f, start);
+    add_word(&f, quantity);
+    return f;
+}
+
+static uint32_t as_digits(uint32_t v)
+{
+    uint32_t digits = 0;
+    for (unsigned shift = 0; shift < 32; shift += 4, v /= 10)
+        digits |= v % 10 << shift;
+    return digits;
+}
+
+/* a value in the range of each tag, in binary or in digits */
+static void add_tags(frame *f, uint32_t coded(uint32_t))
+{
+    add(f, 2 * TAGGED);
+    for (unsigned k = 0; k < TAGS; k++) {
+        uint32_t v = coded(next_value() % (k % 2 ? 100000000 : 10000));
+        add_word(f, v);
+        if (k % 2)
+            add_word(f, v >> 16);
+    }
+}
+
+static uint32_t as_binary(uint32_t v)
+{
+    return v;
+}
+
+static void fail(const char *what)
+{
+    fprintf(stderr, "bench: %s\n", what);
+    exit(1);
+}
+
+static void start_device(void)
+{
+    static zb_settings s = {.timeout = 60000, .join = 1, .tags = TAGS};
+    for (unsigned k = 0; k < TAGS; k++) {
+        s.addr[k] = (uint16_t)(FIRST + k / 2 * 3 + k % 2);
+        s.width[k] = k % 2 ? 32 : 16;
+    }
+    unsigned refused = zb_fresh(&device, s).refusal;
+    for (unsigned c = 0; c < CLIENTS; c++)
+        refused |= zb_attach(&device, c).refusal;
+    if (refused)
+        fail("the device is refused");
+}
+
+static void make_reads(void)
+{
+    for (unsigned k = 0; k < FRAMES; k++) {
+        asking[k] = asked(3, k, PLAIN);
+        answering[k] = starting(3);
+        add(&answering[k], 2 * PLAIN);
+        for (unsigned r = 0; r < PLAIN; r++)
+            add_word(&answering[k], next_value());
+    }
+}
+
+static void make_tag_reads(void)
+{
+    for (unsigned k = 0; k < FRAMES; k++) {
+        asking[k] = asked(3, FIRST, TAGGED);
+        answering[k] = starting(3);
+        add_tags(&answering[k], as_digits);
+    }
+}
+
+static void make_tag_writes(void)
+{
+    for (unsigned k = 0; k < FRAMES; k++) {
+        answering[k] = asking[k] = asked(16, FIRST, TAGGED);
+        add_tags(&asking[k], as_binary);
+    }
+}
+
+static void fill_table(void)
+{
+    for (unsigned k = 0; k < ZB_PLACES; k++) {
+        frame f = asked(3, k, PLAIN);
+        if (zb_request(&device, k % CLIENTS, now, f.bytes, f.size, out, sizeof out).outcome != ZB_ISSUED)
+            fail("the table cannot be filled");
+    }
+}
+
+/* TURNS, WHICH ARE TIMED: each gives how many of its calls did not end as they should */
+
+static unsigned is_other(zb_answer a, uint32_t outcome)
+{
+    return (a.outcome != outcome) | (a.partial != 0) | (a.value != 0);
+}
+
+static unsigned request(unsigned client, unsigned k, uint32_t outcome)
+{
+    return is_other(zb_request(&device, client, now, asking[k].bytes, asking[k].size, out, sizeof out), outcome);
+}
+
+/* the reply to the frame that was written last, for so many parties */
+static unsigned reply(unsigned k, uint32_t parties)
+{
+    answering[k].bytes[0] = out[0];
+    answering[k].bytes[1] = out[1];
+    zb_answer a = zb_reply(&device, now, answering[k].bytes, answering[k].size, out, sizeof out, list, 2 * PARTIES);
+    return is_other(a, ZB_ANSWERED) | (a.parties != parties);
+}
+
+static unsigned turn_alone(unsigned k)
+{
+    unsigned wrong = request(k % CLIENTS, k, ZB_ISSUED);
+    return wrong + reply(k, 1);
+}
+
+static unsigned turn_joined(unsigned k)
+{
+    unsigned wrong = request(0, k, ZB_ISSUED);
+    for (unsigned c = 1; c < PARTIES; c++)
+        wrong += request(c, k, ZB_JOINED);
+    return wrong + reply(k, PARTIES);
+}
+
+static unsigned turn_tick(unsigned k)
+{
+    (void)k;
+    return is_other(zb_tick(&device, now, out, sizeof out, list, 2 * PARTIES), ZB_NOTHING_DUE);
+}
+
+static const struct {
+    const char *name;
+    void (*make)(void);
+    unsigned (*turn)(unsigned k);
+    unsigned calls; /* of one turn */
+} workloads[] = {
+    {"plain reads", make_reads, turn_alone, 2},
+    {"joined reads", make_reads, turn_joined, PARTIES + 1},
+    {"03 with 60 tags", make_tag_reads, turn_alone, 2},
+    {"16 with 60 tags", make_tag_writes, turn_alone, 2},
+    {"ticks, full table", fill_table, turn_tick, 1},
+};
+
+static double nanoseconds(void)
+{
+    struct timespec t;
+    clock_gettime(CLOCK_PROCESS_CPUTIME_ID, &t);
+    return 1e9 * (double)t.tv_sec + (double)t.tv_nsec;
+}
+
+int main(int count, char **words)
+{
+    if (zb_state_size() != ZB_STATE_SIZE)
+        fail("the header is not this archive's");
+    for (size_t w = 0; w < sizeof workloads / sizeof workloads[0]; w++) {
+        unsigned turns = CALLS / workloads[w].calls + 1, wrong = 0;
+        start_device();
+        workloads[w].make();
+        for (unsigned k = 0; k < turns / 4; k++) /* warm */
+            wrong += workloads[w].turn(k % FRAMES);
+        double began = nanoseconds();
+        for (unsigned k = 0; k < turns; k++)
+            wrong += workloads[w].turn(k % FRAMES);
+        double took = nanoseconds() - began;
+        if (wrong)
+            fail(workloads[w].name);
+        printf("%s\t%s\t%u\t%.0f\n", count > 1 ? words[1] : "now", workloads[w].name, turns * workloads[w].calls, took);
+    }
+    return 0;
+}
