@@ -1,0 +1,5 @@
+pub mod StreamLaws
+pub mod FieldLaws
+pub mod Fields
+pub mod EntryReset
+pub mod EntryTake

@@ -1,0 +1,3 @@
+pub mod Stream
+pub mod Hosts
+pub mod Lent
