@@ -1,4 +1,6 @@
 pub mod StreamLaws
+pub mod CuttingLaws
+pub mod CallLaws
 pub mod FieldLaws
 pub mod Fields
 pub mod EntryReset

@@ -115,7 +115,7 @@ unfolding flatten
 reads-nothing = record { whole = λ f i. absurd (List·Memᴰ·not-nil i); parts = refl; stands = short-waits [] (omega arith); six = λ z. absurd (unmarked z) }
 
 -- a call that takes nothing and leaves the stream
-reads-on : (f : Fed) (p : List ℕ) (n : ℕ) (o : List ℕ) → Reads f → Reads (with f p (outcome (refused n 0) (f .after) o))
+pub reads-on : (f : Fed) (p : List ℕ) (n : ℕ) (o : List ℕ) → Reads f → Reads (with f p (outcome (refused n 0) (f .after) o))
 reads-on f p n o h = record { whole = rw (append-nil (f .frames)) (h .whole); parts = rw (append-nil (f .frames), append-nil (f .bytes)) (h .parts); stands = h .stands; six = h .six }
 
 -- a call on a stream that still waits
