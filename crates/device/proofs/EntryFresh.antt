@@ -129,14 +129,14 @@ core-ended = record { signature = core-signature; kept = (yes, (yes, (yes, (yes,
 
 module _ {M : Type 1} (𝓤 : URA M) (R : Rel) where
   abbrev pub clauses : Clauses 𝓤 ended
-  clauses κs a = record { ghost = Unit {0}; requires = λ _. emp 𝓤; ensures = λ _ r e. fact 𝓤 (R (a .0 .now) (a .1 .0) r (e .0 .now) ) }
+  clauses κs a = record { ghost = Unit {0}; requires = λ _. emp 𝓤; ensures = λ _ r e. fact 𝓤 (R (a .0 .now) (a .1 .0) r (e .0 .now)) }
 
 module _ {M : Type 1} (𝓤 : URA M) (Rc : CoreRel) where
   abbrev pub core-clauses : Clauses 𝓤 core-ended
   core-clauses κs a = record {
     ghost = Unit {0};
     requires = λ _. emp 𝓤;
-    ensures = λ _ r e. fact 𝓤 (Rc (a .0 .now) (a .1 .0 .now) (a .1 .1 .0 .now) (a .1 .1 .1 .0 .now) (a .1 .1 .1 .1 .0 .now) (a .1 .1 .1 .1 .1 .0 .now) (a .1 .1 .1 .1 .1 .1 .0 .now) (a .1 .1 .1 .1 .1 .1 .1 .0 .now) (a .1 .1 .1 .1 .1 .1 .1 .1 .0 .now) (a .1 .1 .1 .1 .1 .1 .1 .1 .1 .0 .now) (a .1 .1 .1 .1 .1 .1 .1 .1 .1 .1 .0 .now) (a .1 .1 .1 .1 .1 .1 .1 .1 .1 .1 .1 .0 .now) (a .1 .1 .1 .1 .1 .1 .1 .1 .1 .1 .1 .1 .0 .now) (a .1 .1 .1 .1 .1 .1 .1 .1 .1 .1 .1 .1 .1 .0 .now) (a .1 .1 .1 .1 .1 .1 .1 .1 .1 .1 .1 .1 .1 .1 .0 .now) (a .1 .1 .1 .1 .1 .1 .1 .1 .1 .1 .1 .1 .1 .1 .1 .0) r (e .0 .now) (e .1 .0 .now) (e .1 .1 .0 .now) (e .1 .1 .1 .0 .now) (e .1 .1 .1 .1 .0 .now) (e .1 .1 .1 .1 .1 .0 .now) (e .1 .1 .1 .1 .1 .1 .0 .now) (e .1 .1 .1 .1 .1 .1 .1 .0 .now) (e .1 .1 .1 .1 .1 .1 .1 .1 .0 .now) (e .1 .1 .1 .1 .1 .1 .1 .1 .1 .0 .now) (e .1 .1 .1 .1 .1 .1 .1 .1 .1 .1 .0 .now) (e .1 .1 .1 .1 .1 .1 .1 .1 .1 .1 .1 .0 .now) (e .1 .1 .1 .1 .1 .1 .1 .1 .1 .1 .1 .1 .0 .now) (e .1 .1 .1 .1 .1 .1 .1 .1 .1 .1 .1 .1 .1 .0 .now) (e .1 .1 .1 .1 .1 .1 .1 .1 .1 .1 .1 .1 .1 .1 .0 .now) );
+    ensures = λ _ r e. fact 𝓤 (Rc (a .0 .now) (a .1 .0 .now) (a .1 .1 .0 .now) (a .1 .1 .1 .0 .now) (a .1 .1 .1 .1 .0 .now) (a .1 .1 .1 .1 .1 .0 .now) (a .1 .1 .1 .1 .1 .1 .0 .now) (a .1 .1 .1 .1 .1 .1 .1 .0 .now) (a .1 .1 .1 .1 .1 .1 .1 .1 .0 .now) (a .1 .1 .1 .1 .1 .1 .1 .1 .1 .0 .now) (a .1 .1 .1 .1 .1 .1 .1 .1 .1 .1 .0 .now) (a .1 .1 .1 .1 .1 .1 .1 .1 .1 .1 .1 .0 .now) (a .1 .1 .1 .1 .1 .1 .1 .1 .1 .1 .1 .1 .0 .now) (a .1 .1 .1 .1 .1 .1 .1 .1 .1 .1 .1 .1 .1 .0 .now) (a .1 .1 .1 .1 .1 .1 .1 .1 .1 .1 .1 .1 .1 .1 .0 .now) (a .1 .1 .1 .1 .1 .1 .1 .1 .1 .1 .1 .1 .1 .1 .1 .0) r (e .0 .now) (e .1 .0 .now) (e .1 .1 .0 .now) (e .1 .1 .1 .0 .now) (e .1 .1 .1 .1 .0 .now) (e .1 .1 .1 .1 .1 .0 .now) (e .1 .1 .1 .1 .1 .1 .0 .now) (e .1 .1 .1 .1 .1 .1 .1 .0 .now) (e .1 .1 .1 .1 .1 .1 .1 .1 .0 .now) (e .1 .1 .1 .1 .1 .1 .1 .1 .1 .0 .now) (e .1 .1 .1 .1 .1 .1 .1 .1 .1 .1 .0 .now) (e .1 .1 .1 .1 .1 .1 .1 .1 .1 .1 .1 .0 .now) (e .1 .1 .1 .1 .1 .1 .1 .1 .1 .1 .1 .1 .0 .now) (e .1 .1 .1 .1 .1 .1 .1 .1 .1 .1 .1 .1 .1 .0 .now) (e .1 .1 .1 .1 .1 .1 .1 .1 .1 .1 .1 .1 .1 .1 .0 .now));
   }
 
   module _ (H : Heap 𝓤) (A : Atoms 𝓤) where
@@ -153,7 +153,7 @@ with-emp 𝓤 P = via 𝓤 (sep 𝓤 (emp 𝓤) P) (emp∗ 𝓤 P) (comm∗ 𝓤
 with-fact : {M : Type 1} (𝓤 : URA M) (P : SProp 𝓤) {φ : Type 0} → φ → ent 𝓤 P (sep 𝓤 P (fact 𝓤 φ))
 with-fact 𝓤 P {φ} x = via 𝓤 (sep 𝓤 (emp 𝓤) P) (emp∗ 𝓤 P) (via 𝓤 (sep 𝓤 (fact 𝓤 φ) P) (monoL 𝓤 P (factI 𝓤 φ (emp 𝓤) x)) (comm∗ 𝓤 (fact 𝓤 φ) P))
 
-module _ {M : Type 1} (𝓤 : URA M) (H : Heap 𝓤) (A : Atoms 𝓤) (W : Given 𝓤 H A) (g : Name) (R : Rel) (Rc : CoreRel) (imp : ((h : Device) (p0 : Settings) (r : Report) (w0 : List ℕ) (w1 : List ℕ) (w2 : List ℕ) (w3 : List ℕ) (w4 : List ℕ) (w5 : List ℕ) (w6 : List ℕ) (w7 : ℕ) (w8 : ℕ) (w9 : ℕ) (w10 : ℕ) (w11 : ℕ) (w12 : ℕ) (w13 : ℕ) (w14 : List ℕ)  → Rc (h .ids) (h .asked) (h .callers) (h .deadlines) (h .counts) (h .clients) (h .originals) (h .top) (h .cursor) (h .attached) (h .clock) (h .timeout) (h .join) (h .tagged) (h .tags) p0 r w0 w1 w2 w3 w4 w5 w6 w7 w8 w9 w10 w11 w12 w13 w14 → R h p0 r (record { ids = w0; asked = w1; callers = w2; deadlines = w3; counts = w4; clients = w5; originals = w6; top = w7; cursor = w8; attached = w9; clock = w10; timeout = w11; join = w12; tagged = w13; tags = w14 }))) (κ0 : Lft) (q0 : Share) (b o : ℕ) (γ : GName) (h : Device) (p0 : Settings) (fit0 : Is P0.the-row p0 (LL.val P0.the-type P0′.the-laws p0 ∷ [])) where
+module _ {M : Type 1} (𝓤 : URA M) (H : Heap 𝓤) (A : Atoms 𝓤) (W : Given 𝓤 H A) (g : Name) (R : Rel) (Rc : CoreRel) (imp : ((h : Device) (p0 : Settings) (r : Report) (w0 : List ℕ) (w1 : List ℕ) (w2 : List ℕ) (w3 : List ℕ) (w4 : List ℕ) (w5 : List ℕ) (w6 : List ℕ) (w7 : ℕ) (w8 : ℕ) (w9 : ℕ) (w10 : ℕ) (w11 : ℕ) (w12 : ℕ) (w13 : ℕ) (w14 : List ℕ) → Rc (h .ids) (h .asked) (h .callers) (h .deadlines) (h .counts) (h .clients) (h .originals) (h .top) (h .cursor) (h .attached) (h .clock) (h .timeout) (h .join) (h .tagged) (h .tags) p0 r w0 w1 w2 w3 w4 w5 w6 w7 w8 w9 w10 w11 w12 w13 w14 → R h p0 r (record { ids = w0; asked = w1; callers = w2; deadlines = w3; counts = w4; clients = w5; originals = w6; top = w7; cursor = w8; attached = w9; clock = w10; timeout = w11; join = w12; tagged = w13; tags = w14 }))) (κ0 : Lft) (q0 : Share) (b o : ℕ) (γ : GName) (h : Device) (p0 : Settings) (fit0 : Is P0.the-row p0 (LL.val P0.the-type P0′.the-laws p0 ∷ [])) where
   -- the parameters that go on to the core as they are
   abbrev Tail : List RattleType
   Tail = P0.the-row ∷ []
@@ -183,8 +183,8 @@ module _ {M : Type 1} (𝓤 : URA M) (H : Heap 𝓤) (A : Atoms 𝓤) (W : Given
   abbrev to-core : ℕ → Names uses → Core 𝓤 Rc H A .Ghost
   to-core ν γs = (((ν ∷ [], tt), (fullShare, tt), tt, passed ν γs, ptrsAt (named 0) (ν ∷ []) uses zero b o Tail tail-vals), tt)
 
-  exits : (r : Report) (v : Val) (h′ : Device)  → R h p0 r h′ → ent 𝓤 (⋆ 𝓤 H A (‵ (Res.the-row .own r (v ∷ [])) ∷ ‵ (fobs γ (T.the-row .coded .code h′)) ∷ ‵ (fbor κ0 (Body (mem T.the-row) b o γ)) ∷ ‵ (flft κ0 q0) ∷ (‵ ftrue) ∷ [])) (Post v)
-  exits r v h′  e  =
+  exits : (r : Report) (v : Val) (h′ : Device) → R h p0 r h′ → ent 𝓤 (⋆ 𝓤 H A (‵ (Res.the-row .own r (v ∷ [])) ∷ ‵ (fobs γ (T.the-row .coded .code h′)) ∷ ‵ (fbor κ0 (Body (mem T.the-row) b o γ)) ∷ ‵ (flft κ0 q0) ∷ (‵ ftrue) ∷ [])) (Post v)
+  exits r v h′ e =
       qed W (‵ (Res.the-row .own r (v ∷ [])) ∷ ‵ (fobs γ (T.the-row .coded .code h′)) ∷ ‵ (fbor κ0 (Body (mem T.the-row) b o γ)) ∷ ‵ (flft κ0 q0) ∷ (‵ ftrue) ∷ []) ∵
       suffices ! _ (ends-at 𝓤 H A ended stayed (clauses 𝓤 R) W (((κ0, tt), (q0, tt), tt, a, vals), tt) v r (h′, (tt, tt)) (tt, (tt, tt))) $ says ! e $
       move ! (3 ∷ 4 ∷ []) $ join ! $ frame ! $ nothing ! $ nothing ! $ fjoin ! $ move ! (2 ∷ 3 ∷ []) $ feqI ! (List Val) (vptr b o ∷ []) (vptr b o ∷ []) refl $ fjoin3 ! $ fjoin ! $ done !
@@ -226,9 +226,9 @@ module _ {M : Type 1} (𝓤 : URA M) (H : Heap 𝓤) (A : Atoms 𝓤) (W : Given
         move ! (0 ∷ 1 ∷ 2 ∷ 3 ∷ 4 ∷ []) $ land ! (from ! (stop !)) (init ! 39 refl (LL.lawful Res.the-type Res′.the-laws 𝓤 H A W .typed r _ is .0)) $
         returns ! (look ! 39 refl) $ forget ! 5 refl $ forget ! 7 refl $ forget ! 9 refl $ forget ! 11 refl $ forget ! 13 refl $ forget ! 15 refl $ forget ! 17 refl $ forget ! 19 refl $ forget ! 21 refl $ forget ! 23 refl $ forget ! 25 refl $ forget ! 27 refl $ forget ! 29 refl $ forget ! 31 refl $ forget ! 33 refl $ forget ! 35 refl $ forget ! 37 refl $ forget ! 39 refl $
         move ! (39 ∷ 40 ∷ []) $ free1 ! $ move ! (37 ∷ 38 ∷ []) $ free1 ! $ move ! (35 ∷ 36 ∷ []) $ free1 ! $ move ! (33 ∷ 34 ∷ []) $ free1 ! $ move ! (31 ∷ 32 ∷ []) $ free1 ! $ move ! (29 ∷ 30 ∷ []) $ free1 ! $ move ! (27 ∷ 28 ∷ []) $ free1 ! $ move ! (25 ∷ 26 ∷ []) $ free1 ! $ move ! (23 ∷ 24 ∷ []) $ free1 ! $ move ! (21 ∷ 22 ∷ []) $ free1 ! $ move ! (19 ∷ 20 ∷ []) $ free1 ! $ move ! (17 ∷ 18 ∷ []) $ free1 ! $ move ! (15 ∷ 16 ∷ []) $ free1 ! $ move ! (13 ∷ 14 ∷ []) $ free1 ! $ move ! (11 ∷ 12 ∷ []) $ free1 ! $ move ! (9 ∷ 10 ∷ []) $ free1 ! $ move ! (7 ∷ 8 ∷ []) $ free1 ! $ move ! (5 ∷ 6 ∷ []) $ free1 ! $ free0 ! $
-        keep ! (0 ∷ 1 ∷ 2 ∷ 3 ∷ 4 ∷ []) $ by ! (exits r v (record { ids = (ws .0); asked = (ws .1 .0); callers = (ws .1 .1 .0); deadlines = (ws .1 .1 .1 .0); counts = (ws .1 .1 .1 .1 .0); clients = (ws .1 .1 .1 .1 .1 .0); originals = (ws .1 .1 .1 .1 .1 .1 .0); top = (ws .1 .1 .1 .1 .1 .1 .1 .0); cursor = (ws .1 .1 .1 .1 .1 .1 .1 .1 .0); attached = (ws .1 .1 .1 .1 .1 .1 .1 .1 .1 .0); clock = (ws .1 .1 .1 .1 .1 .1 .1 .1 .1 .1 .0); timeout = (ws .1 .1 .1 .1 .1 .1 .1 .1 .1 .1 .1 .0); join = (ws .1 .1 .1 .1 .1 .1 .1 .1 .1 .1 .1 .1 .0); tagged = (ws .1 .1 .1 .1 .1 .1 .1 .1 .1 .1 .1 .1 .1 .0); tags = (ws .1 .1 .1 .1 .1 .1 .1 .1 .1 .1 .1 .1 .1 .1 .0) })  (imp h p0 r (ws .0) (ws .1 .0) (ws .1 .1 .0) (ws .1 .1 .1 .0) (ws .1 .1 .1 .1 .0) (ws .1 .1 .1 .1 .1 .0) (ws .1 .1 .1 .1 .1 .1 .0) (ws .1 .1 .1 .1 .1 .1 .1 .0) (ws .1 .1 .1 .1 .1 .1 .1 .1 .0) (ws .1 .1 .1 .1 .1 .1 .1 .1 .1 .0) (ws .1 .1 .1 .1 .1 .1 .1 .1 .1 .1 .0) (ws .1 .1 .1 .1 .1 .1 .1 .1 .1 .1 .1 .0) (ws .1 .1 .1 .1 .1 .1 .1 .1 .1 .1 .1 .1 .0) (ws .1 .1 .1 .1 .1 .1 .1 .1 .1 .1 .1 .1 .1 .0) (ws .1 .1 .1 .1 .1 .1 .1 .1 .1 .1 .1 .1 .1 .1 .0)  e) ))))))))))))))))))))))))))
+        keep ! (0 ∷ 1 ∷ 2 ∷ 3 ∷ 4 ∷ []) $ by ! (exits r v (record { ids = (ws .0); asked = (ws .1 .0); callers = (ws .1 .1 .0); deadlines = (ws .1 .1 .1 .0); counts = (ws .1 .1 .1 .1 .0); clients = (ws .1 .1 .1 .1 .1 .0); originals = (ws .1 .1 .1 .1 .1 .1 .0); top = (ws .1 .1 .1 .1 .1 .1 .1 .0); cursor = (ws .1 .1 .1 .1 .1 .1 .1 .1 .0); attached = (ws .1 .1 .1 .1 .1 .1 .1 .1 .1 .0); clock = (ws .1 .1 .1 .1 .1 .1 .1 .1 .1 .1 .0); timeout = (ws .1 .1 .1 .1 .1 .1 .1 .1 .1 .1 .1 .0); join = (ws .1 .1 .1 .1 .1 .1 .1 .1 .1 .1 .1 .1 .0); tagged = (ws .1 .1 .1 .1 .1 .1 .1 .1 .1 .1 .1 .1 .1 .0); tags = (ws .1 .1 .1 .1 .1 .1 .1 .1 .1 .1 .1 .1 .1 .1 .0) }) (imp h p0 r (ws .0) (ws .1 .0) (ws .1 .1 .0) (ws .1 .1 .1 .0) (ws .1 .1 .1 .1 .0) (ws .1 .1 .1 .1 .1 .0) (ws .1 .1 .1 .1 .1 .1 .0) (ws .1 .1 .1 .1 .1 .1 .1 .0) (ws .1 .1 .1 .1 .1 .1 .1 .1 .0) (ws .1 .1 .1 .1 .1 .1 .1 .1 .1 .0) (ws .1 .1 .1 .1 .1 .1 .1 .1 .1 .1 .0) (ws .1 .1 .1 .1 .1 .1 .1 .1 .1 .1 .1 .0) (ws .1 .1 .1 .1 .1 .1 .1 .1 .1 .1 .1 .1 .0) (ws .1 .1 .1 .1 .1 .1 .1 .1 .1 .1 .1 .1 .1 .0) (ws .1 .1 .1 .1 .1 .1 .1 .1 .1 .1 .1 .1 .1 .1 .0) e)))))))))))))))))))))))))))
 
-module _ {M : Type 1} (𝓤 : URA M) (H : Heap 𝓤) (A : Atoms 𝓤) (W : Given 𝓤 H A) (g : Name) (R : Rel) (Rc : CoreRel) (imp : ((h : Device) (p0 : Settings) (r : Report) (w0 : List ℕ) (w1 : List ℕ) (w2 : List ℕ) (w3 : List ℕ) (w4 : List ℕ) (w5 : List ℕ) (w6 : List ℕ) (w7 : ℕ) (w8 : ℕ) (w9 : ℕ) (w10 : ℕ) (w11 : ℕ) (w12 : ℕ) (w13 : ℕ) (w14 : List ℕ)  → Rc (h .ids) (h .asked) (h .callers) (h .deadlines) (h .counts) (h .clients) (h .originals) (h .top) (h .cursor) (h .attached) (h .clock) (h .timeout) (h .join) (h .tagged) (h .tags) p0 r w0 w1 w2 w3 w4 w5 w6 w7 w8 w9 w10 w11 w12 w13 w14 → R h p0 r (record { ids = w0; asked = w1; callers = w2; deadlines = w3; counts = w4; clients = w5; originals = w6; top = w7; cursor = w8; attached = w9; clock = w10; timeout = w11; join = w12; tagged = w13; tags = w14 }))) where
+module _ {M : Type 1} (𝓤 : URA M) (H : Heap 𝓤) (A : Atoms 𝓤) (W : Given 𝓤 H A) (g : Name) (R : Rel) (Rc : CoreRel) (imp : ((h : Device) (p0 : Settings) (r : Report) (w0 : List ℕ) (w1 : List ℕ) (w2 : List ℕ) (w3 : List ℕ) (w4 : List ℕ) (w5 : List ℕ) (w6 : List ℕ) (w7 : ℕ) (w8 : ℕ) (w9 : ℕ) (w10 : ℕ) (w11 : ℕ) (w12 : ℕ) (w13 : ℕ) (w14 : List ℕ) → Rc (h .ids) (h .asked) (h .callers) (h .deadlines) (h .counts) (h .clients) (h .originals) (h .top) (h .cursor) (h .attached) (h .clock) (h .timeout) (h .join) (h .tagged) (h .tags) p0 r w0 w1 w2 w3 w4 w5 w6 w7 w8 w9 w10 w11 w12 w13 w14 → R h p0 r (record { ids = w0; asked = w1; callers = w2; deadlines = w3; counts = w4; clients = w5; originals = w6; top = w7; cursor = w8; attached = w9; clock = w10; timeout = w11; join = w12; tagged = w13; tags = w14 }))) where
   entry-walks : (C : Calls 𝓤 H) (Λ : Loops 𝓤 H) → FmC 𝓤 H (W .laws) C → Triple 𝓤 (C g) (Core 𝓤 Rc H A) → Walks 𝓤 H A ended stayed (WpFn 𝓤 H C Λ (function g)) (clauses 𝓤 R)
   entry-walks C Λ fm known = walked 𝓤 H A ended stayed (clauses 𝓤 R) (WpFn 𝓤 H C Λ (function g)) (λ κs. (ptr-vals, (LL.vals P0.the-type P0′.the-laws, tt)))
       (λ κs. (mut-tells (named 0) (κs .0) T.the-row, (LL.tells P0.the-type P0′.the-laws, tt)))

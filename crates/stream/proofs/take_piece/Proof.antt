@@ -41,9 +41,10 @@ lies c =
     let s = w .before .before .before .before .before .before .before in
     let t = c .before .if3 .taken in
     let none = eqb (now (s .args .count)) 0 in
-    let some = eqb (length (now (w .first-frame .result))) 0 in
-    (eqb-true (now (s .args .count)) 0 (and-left none (not some) t),
-    stands-there (now (s .args .piece)) (rw (w .first-frame .ensures) at (eqb-false (length (now (w .first-frame .result))) 0 (not-true some (and-right none (not some) t)))))
+    let some = eqb (length (now (w .first-frame .result))) 0 in (
+      eqb-true (now (s .args .count)) 0 (and-left none (not some) t),
+      stands-there (now (s .args .piece)) (rw (w .first-frame .ensures) at (eqb-false (length (now (w .first-frame .result))) 0 (not-true some (and-right none (not some) t)))),
+    )
 
 lying-short : (c : tie.After-copy-arg) → length (now (c .before .before .first-frame .result)) ≤ mostFrame
 lying-short c = rw (c .before .before .first-frame .ensures) (most-long _ (lies c .1))
