@@ -134,11 +134,18 @@ static void make_run(void)
     }
 }
 
-/* a piece of what is left: none, a byte or two, about a frame, or much */
+/* a piece of what is left: none, a byte or two, about a frame, or much; in half of the runs as the run has it, else by turns */
+static uint32_t most_of_run;
+
+static uint32_t most_of_piece(void)
+{
+    static const uint32_t most[] = {1, 2, 3, 8, 13, 40, 300, 5000};
+    return most[below(8)];
+}
+
 static size_t piece_size(size_t left)
 {
-    static const uint32_t most[] = {1, 2, 3, 8, 13, 300, 5000};
-    size_t n = below(most[below(7)] + 1);
+    size_t n = below((most_of_run ? most_of_run : most_of_piece()) + 1);
     return n < left ? n : left;
 }
 
@@ -159,6 +166,7 @@ static void one_run(void)
 {
     size_t at = 0, start = 0;
     make_run();
+    most_of_run = one_in(2) ? most_of_piece() : 0;
     reset();
     while (at < size || one_in(3)) {
         size_t end = at + piece_size(size - at);

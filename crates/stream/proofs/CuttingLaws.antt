@@ -18,7 +18,7 @@ use Rattle.wire.proofs.SplittingLaws.{starts, first-size, first-none, refusal-s
 use Rattle.stream.specs.Stream.{Stream, stream, refused, outcome, found, took}
 use Rattle.stream.specs.Hosts.{Fed, start, with, Offer, calls, Lends, drained, pieces, isBad, remains, isRefused, keptOf, uncut}
 use Rattle.stream.specs.Lent.{stood}
-use Rattle.stream.proofs.StreamLaws.{Reads, more-frame, unmarked, frame-ends-behind, marked-refused, waiting-finds, reads-nothing, reads-on, found-reads, took-reads}
+use Rattle.stream.proofs.StreamLaws.{Reads, more-frame, unmarked, frame-ends-behind, marked-refused, waiting-finds, flatten-more, reads-nothing, reads-on, found-reads, took-reads}
 
 -- there are no more frames than bytes
 few : (fs : List (List ℕ)) → Whole fs → length fs ≤ length (flatten fs)
@@ -154,7 +154,7 @@ module _ (o : Lends) (long : (f : Fed) → frameBuffer ≤ length (o f)) where
   pieces-offer r f (p ∷ ps) h = rw (append-assoc r p (flatten ps)) at (pieces-offer (r ++ p) (drained (suc (length p)) o f p) ps (drained-offers r f p (h .cut)))
 
   -- The same bytes, cut in any way into pieces, empty ones among them, over any buffers that are long enough: after every piece the frames, the bytes taken, the refusal that
-  -- the last call said, and the stream are what splitting makes of the uncut bytes up to there. So refusal 4 is first said in the call that brings the bad header's sixth byte.
+  -- the last call said, and the stream are what splitting makes of the uncut bytes up to there.
   pub any-cutting : (ps : List (List ℕ)) → pieces o start ps ≡ uncut (flatten ps)
   unfolding uncut
   any-cutting ps =
@@ -163,6 +163,16 @@ module _ (o : Lends) (long : (f : Fed) → frameBuffer ≤ length (o f)) where
       let a = cut-agrees (flatten ps) f (h .cut) in
       let s : f .refusal ≡ cond (isRefused (flatten ps)) 4 0 = h .says ∙ ap (λ b. cond b 4 0) (sym (a .0)) in
       λ i. record { frames = a .1 .frames i; bytes = a .1 .bytes i; refusal = s i; after = a .1 .after i }
+
+  -- So refusal 4 is said in the last call for the piece that brings a bad header's sixth byte, and not for the pieces before it; what is taken ends with that byte.
+  pub refused-with-the-sixth-byte : (ps : List (List ℕ)) (p : List ℕ) → isRefused (flatten ps) ≡ false → isRefused (flatten ps ++ p) ≡ true
+      → (pieces o start ps .refusal ≡ 0) × (pieces o start (ps ++ (p ∷ [])) .refusal ≡ 4)
+      × (pieces o start (ps ++ (p ∷ [])) .bytes ≡ flatten (frames (length (flatten ps ++ p)) (flatten ps ++ p)) ++ take 6 (remains (flatten ps ++ p)))
+  unfolding uncut
+  refused-with-the-sixth-byte ps p e e′ =
+      let r = flatten ps ++ p in
+      let q : pieces o start (ps ++ (p ∷ [])) ≡ uncut r = any-cutting (ps ++ (p ∷ [])) ∙ ap uncut (flatten-more ps p) in
+      (ap (λ (f : Fed). f .refusal) (any-cutting ps) ∙ ap (λ b. cond b 4 0) e, ap (λ (f : Fed). f .refusal) q ∙ ap (λ b. cond b 4 0) e′, ap (λ (f : Fed). f .bytes) q ∙ ap (λ b. flatten (frames (length r) r) ++ cond b (take uncounted (remains r)) (remains r)) e′)
 
 -- Two cuttings of the same bytes come to the same.
 pub two-cuttings : (o o′ : Lends) → ((f : Fed) → frameBuffer ≤ length (o f)) → ((f : Fed) → frameBuffer ≤ length (o′ f)) → (ps qs : List (List ℕ)) → flatten ps ≡ flatten qs → pieces o start ps ≡ pieces o′ start qs

@@ -104,7 +104,7 @@ whole-more : (fs : List (List ℕ)) (f : List ℕ) → Whole fs → misframed f 
 whole-more fs f h e g i =
     ⊎-elim (λ (j : List·Memᴰ g fs). h g j) (λ (j : List·Memᴰ g (f ∷ [])). rw (List·Memᴰ·eq-of-singleton j) e) (List·Memᴰ·append-cases fs i)
 
-flatten-more : (fs : List (List ℕ)) (f : List ℕ) → flatten (fs ++ (f ∷ [])) ≡ flatten fs ++ f
+pub flatten-more : (fs : List (List ℕ)) (f : List ℕ) → flatten (fs ++ (f ∷ [])) ≡ flatten fs ++ f
 unfolding flatten
 flatten-more [] f = append-nil f
 flatten-more (g ∷ fs) f = ap (λ t. g ++ t) (flatten-more fs f) ∙ sym (append-assoc g (flatten fs) f)
