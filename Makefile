@@ -38,6 +38,7 @@ host-test: host
 	tests/host/headers
 	STD=c++11 tests/host/run host-as-c++ examples/host.c
 	tests/host/run host-examples tests/host/examples.c $(AGAINST_MODEL)
+	ARGS=$(SEED) tests/host/run host-stream tests/host/stream.c tests/host/dice.c tests/host/lent.c
 	ARGS=$(SEED) tests/host/run host-generated tests/host/generated.c tests/host/ledger.c tests/host/making.c $(AGAINST_MODEL)
 
 install: kernel-archive

@@ -1,9 +1,11 @@
-/* Two screens and a controller, without sockets: the whole cycle of calls, and what goes where. */
+/* Two screens and a controller, without sockets: bytes as they arrive, the whole cycle of calls, and what goes where. */
 #include "zilborteka.h"
 #include <stdio.h>
 #include <string.h>
 
 static zb_state device;
+static zb_stream from_controller; /* one for each connection */
+static uint8_t frame[ZB_FRAME_BUFFER]; /* a received frame; out is what is sent */
 static uint8_t out[ZB_FRAME_BUFFER];
 static uint16_t list[ZB_LIST_BUFFER];
 
@@ -69,12 +71,37 @@ static void deliver(zb_answer a)
     }
 }
 
+static void replied(const char *call, uint64_t now, uint32_t length)
+{
+    zb_answer a = zb_reply(&device, now, frame, length, out, sizeof out, list, ZB_LIST_BUFFER);
+    told(call, a);
+    deliver(a);
+}
+
+/* What one receive call of the controller's connection gave, of any size: each frame that it completes is a reply. Where
+   false comes back the connection is closed, and its stream reset for the next. */
+static int received(const char *call, uint64_t now, const uint8_t *piece, size_t left)
+{
+    zb_taken a = zb_stream_take(&from_controller, piece, left, frame, sizeof frame);
+    printf("%-28s %u bytes\n", call, (unsigned)left);
+    while (a.outcome == ZB_FRAME) {
+        replied("  a frame is whole", now, a.length);
+        piece += a.taken;
+        left -= a.taken;
+        a = zb_stream_take(&from_controller, piece, left, frame, sizeof frame);
+    }
+    if (a.refusal)
+        printf("  refused: %s\n", refusal(a.refusal));
+    return a.refusal == 0;
+}
+
 int main(void)
 {
     static const char text[] = "version=1\ntimeout=3000\njoin=1\ntags=2\naddr=1024\nwidth=16\naddr=1026\nwidth=32\n";
     static const uint8_t read_3[] = {0x12, 0x34, 0, 0, 0, 6, 1, 3, 4, 0, 0, 1};
     static const uint8_t read_5[] = {0x00, 0x07, 0, 0, 0, 6, 1, 3, 4, 0, 0, 1};
     static const uint8_t reply[] = {0, 0, 0, 0, 0, 5, 1, 3, 2, 0x12, 0x34};
+    static const uint8_t noise[] = {0, 0, 0, 9, 0, 5};
 
     zb_read settings = zb_settings_read((const uint8_t *)text, strlen(text));
     told("settings text read", settings.answer);
@@ -83,12 +110,13 @@ int main(void)
     told("screen 5 attaches", zb_attach(&device, 5));
     told("screen 3 reads 1024 at 100", zb_request(&device, 3, 100, read_3, sizeof read_3, out, sizeof out));
     told("screen 5 reads 1024 at 101", zb_request(&device, 5, 101, read_5, sizeof read_5, out, sizeof out));
-    zb_answer a = zb_reply(&device, 150, reply, sizeof reply, out, sizeof out, list, ZB_LIST_BUFFER);
-    told("the controller replies", a);
-    deliver(a);
-    told("the same reply again", zb_reply(&device, 151, reply, sizeof reply, out, sizeof out, list, ZB_LIST_BUFFER));
+    zb_stream_reset(&from_controller);
+    received("half of a reply arrives", 149, reply, 5);
+    received("the other half", 150, reply + 5, sizeof reply - 5);
+    received("the same reply again", 151, reply, sizeof reply);
     told("screen 3 reads 1024 at 200", zb_request(&device, 3, 200, read_3, sizeof read_3, out, sizeof out));
     told("tick at 3199", zb_tick(&device, 3199, out, sizeof out, list, ZB_LIST_BUFFER));
+    zb_answer a;
     for (a = zb_tick(&device, 3200, out, sizeof out, list, ZB_LIST_BUFFER); a.outcome == ZB_TIMED_OUT;
          a = zb_tick(&device, 3200, out, sizeof out, list, ZB_LIST_BUFFER)) {
         told("tick at 3200", a);
@@ -96,6 +124,8 @@ int main(void)
     }
     told("tick at 3200", a);
     told("screen 5 leaves", zb_detach(&device, 5));
+    if (!received("a bad header arrives", 3201, noise, sizeof noise))
+        zb_stream_reset(&from_controller);
     a = zb_link_lost(&device);
     told("the link is lost", a);
     printf("  screens to disconnect, as bits: 0x%08X\n", (unsigned)a.set);

@@ -80,17 +80,18 @@ enum {
     ZB_ANSWERED = 5,    /* reply: the frame and its list are written */
     ZB_TIMED_OUT = 6,   /* tick: the exception 0B and its list are written */
     ZB_NOTHING_DUE = 7, /* tick */
-    ZB_FRAME = 8,       /* split: the first `length` bytes of the run are a frame */
-    ZB_MORE = 9         /* split: more bytes are needed */
+    ZB_FRAME = 8,       /* split: the first `length` bytes of the run are a frame; stream: a frame is written */
+    ZB_MORE = 9         /* split, stream: more bytes are needed */
 };
 
-/* Refusals: the lowest that applies is told. It changes no state and no byte, except that of zb_fresh (below). */
+/* Refusals: the lowest that applies is told. It changes no state and no byte, except that of zb_fresh and the
+   ZB_REFUSED_FRAME that sets a stream's mark (below). */
 enum {
     ZB_REFUSED_BUFFER = 1,   /* a lent output buffer is shorter than stated below */
     ZB_REFUSED_CLIENT = 2,   /* the client number is not below ZB_CLIENTS, or not attached (attach: only the first) */
     ZB_REFUSED_TIME = 3,     /* the time is above 2^63 - 1, or below the state's clock */
     ZB_REFUSED_FRAME = 4,    /* request or reply: size not 8 to 260, protocol not 0, or length field not size - 6;
-                                split: the header is wrong */
+                                split, stream: the header is wrong */
     ZB_REFUSED_FUNCTION = 5, /* request: function 0 or 128 to 255 */
     ZB_REFUSED_LENGTH = 6,   /* the PDU's length is wrong for request 03, 04, 06 or 16 */
     ZB_REFUSED_UNKNOWN = 7,  /* the reply's id is not live */
@@ -126,6 +127,33 @@ zb_answer zb_tick(zb_state *st, uint64_t now,
                   uint16_t *list, size_t list_len);
 zb_answer zb_link_lost(zb_state *st);
 zb_answer zb_split(const uint8_t *run, size_t run_len);
+
+/* One connection's received bytes, in whatever pieces they came: at most 259 bytes of an unfinished frame, and the mark
+   of a bad header. It is aligned to 4 bytes; zb_stream_reset comes first, on any memory, and only these calls write to
+   it. Stream, piece and out do not overlap. The fields are not for the host to read or write. */
+typedef struct {
+    uint8_t  bytes[260];
+    uint32_t count; /* how many of them are kept */
+    uint32_t mark;  /* 1: refused */
+} zb_stream;
+
+typedef struct {
+    uint32_t refusal; /* 0, ZB_REFUSED_BUFFER or ZB_REFUSED_FRAME */
+    uint32_t outcome; /* ZB_DONE (reset), ZB_FRAME, ZB_MORE, 0 on a refusal */
+    uint32_t length;  /* ZB_FRAME: bytes written to the frame buffer */
+    uint32_t taken;   /* bytes of the piece that were taken */
+} zb_taken;
+
+ZB_STATIC_ASSERT(sizeof(zb_stream) == 268, "zb_stream has the size that the core was proved for");
+
+/* For a new connection. Never refused. */
+zb_taken zb_stream_reset(zb_stream *s);
+/* Takes of a piece, which may be empty, what belongs to the next frame, and writes that frame once it is whole.
+   ZB_FRAME: call again with the rest of the piece, piece + taken. ZB_MORE: the whole piece was taken.
+   ZB_REFUSED_BUFFER: nothing was taken or changed. ZB_REFUSED_FRAME in the call that brings the sixth byte of a bad
+   header: the bytes up to it are taken and the stream is marked. In every later call, until the reset: nothing is taken
+   or changed. */
+zb_taken zb_stream_take(zb_stream *s, const uint8_t *piece, size_t piece_len, uint8_t *out, size_t out_len);
 
 #ifdef __cplusplus
 }

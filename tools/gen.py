@@ -1,5 +1,5 @@
 #!/usr/bin/env python3
-# Writes the proofs of thin entry points over one big struct lent by `&mut`.   usage: gen.py CRATE_DIR      (reads CRATE_DIR/entries.txt)
+# Writes the proofs of thin entry points over one big struct lent by `&mut`.   usage: gen.py CRATE_DIR [FILE]      (reads FILE, or each CRATE_DIR/*entries.txt: one file a struct)
 #   struct CRATE/Device MAKER                      the struct of numbers and arrays of numbers in the crate beside this one, and the function of its fields that makes it
 #   use MODULE.{NAMES}                             what the relations below cite
 #   field NAME TYPE                                its fields in order; TYPE: u16, or u32x64 for [u32; 64]
@@ -11,16 +11,19 @@
 #         CORE is a path in the crate, or CRATE/PATH
 #   core FN PRE LAW                                what FN's core requires, λ lent p.. ; and the law to it from `before`, h p.. before
 # The core ensures the same RELATION, at the struct made of its lent fields and any others with which `before` holds.
-# It writes proofs/Fields.antt and proofs/SHAPE.antt of the struct's crate, over the hand-written proofs/Lend.antt there, and proofs/FN/Proof.antt of CRATE_DIR. Add the first to proofs/Lib.antt; then rt fmt.
-import sys, os, re
+# It writes proofs/Fields.antt and proofs/SHAPE.antt of the struct's crate, over the hand-written proofs/Lend.antt of the crate lending, and proofs/FN/Proof.antt of CRATE_DIR. Add the first to proofs/Lib.antt; then rt fmt.
+import sys, os, re, glob, subprocess
 d = sys.argv[1].rstrip('/')
+if len(sys.argv) == 2:
+    for f in sorted(glob.glob(f'{d}/*entries.txt')): subprocess.run([sys.executable, __file__, d, f], check=True)
+    sys.exit()
 crate = os.path.basename(d)
 PR = f'{d}/proofs'
 W = {'u8': 'w8', 'u16': 'w16', 'u32': 'w32', 'u64': 'w64', 'usize': 'w64'}
 BITS = {'u8': 8, 'u16': 16, 'u32': 32, 'u64': 64, 'usize': 64}
 P, S = f'Rattle.{crate}.proofs', f'Rattle.{crate}.specs'
 fields, shapes, entries, ST, MAKE, USES, BEFORE, CORES = [], {}, [], 'State', '', [], '', {}
-for ln in open(f'{d}/entries.txt'):
+for ln in open(sys.argv[2]):
     text = ln.split('#')[0].strip()
     ln = text.split()
     if not ln: continue
@@ -150,7 +153,7 @@ class Ctx:
 def paths(t):
     "a struct written CRATE/Name: its name, and where its declaration, its row and its laws are"
     c, n = t.split('/')
-    return n, f'Rattle.{c}.specs.declared.{n}', f'Rattle.{c}.proofs.{n}'
+    return n, *((f'{SS}.declared.{n}', f'{SP}.{n}') if c == SC else (f'Rattle.{c}.specs.declared.{n}', f'Rattle.{c}.proofs.{n}'))
 
 def shape(name, lent, ps, res, req, creq):
     byname = {f[0]: f for f in fields}
@@ -357,7 +360,7 @@ use {SS}.declared.{ST}.{{{ST}}}
 use {SP}.{ST} as T
 use {SP}.{ST}.Laws as T′
 use {SP}.Fields.{{ms, {', '.join(mn(y) for y in names)}, tuple, takes, gives}}
-use {SP}.Lend.{{Use, lend, stay, Names, after, kept, refs, refsAt, ptrsAt, lents, finals, lend-all, back-all}}
+use Rattle.lending.proofs.Lend.{{Use, lend, stay, Names, after, kept, refs, refsAt, ptrsAt, lents, finals, lend-all, back-all}}
 
 abbrev pub Rel : Type 1
 Rel = {RelT}

@@ -1,5 +1,4 @@
 pub mod DeviceLaws
-pub mod Lend
 pub mod Fields
 pub mod EntryFresh
 pub mod EntryAttach

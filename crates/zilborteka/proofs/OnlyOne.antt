@@ -1,7 +1,7 @@
 -- Only one outcome fits: two outcomes that meet the contract of an exported function are the same report, the same lent bytes and the same machine afterwards.
 -- Assumes nothing.
 use Prim.Native.Nat.{ℕ}
-use mathlib.Core.Path.{_≡_, ap, sym, _∙_}
+use mathlib.Core.Path.{_≡_, refl, ap, sym, _∙_}
 use mathlib.Core.List.{List}
 use lib.ListN.{length}
 use Rattle.wire.specs.Splitting.{standingOf, firstFrame}
@@ -18,6 +18,12 @@ use Rattle.machine.specs.Numbers.{Reported}
 use Rattle.reports.specs.Reports.{TextSeen, textSeen, splitTold, readTold, writeTold}
 use Rattle.device.specs.Device.{stateOf, Served, Freshly}
 use Rattle.device.proofs.DeviceLaws.{same-device}
+use Rattle.machine.specs.Numbers.{isDone}
+use Rattle.reports.specs.Reports.{isFrame, isMore}
+use Rattle.stream.specs.Stream.{Stream, Outcome, isDone as done-on-a-stream, isFrame as frame-of-a-stream, isMore as more-for-a-stream}
+use Rattle.stream.specs.Lent.{streamOf, Takes, Resets}
+use Rattle.stream.specs.declared.Inlet.{Inlet}
+use Rattle.stream.specs.declared.Taken.{Taken}
 
 -- Attach, detach, request, reply, tick, link lost: from one device, one call has one report, one machine afterwards, and one content of each lent buffer;
 -- and a refusal leaves only one device: the one that was lent.
@@ -42,3 +48,16 @@ one-read text s t = s ∙ sym t
 pub one-write : (from : Settings) (text : List ℕ) {r q : Report} {a b : List ℕ} → textSeen r a ≡ writeTold (writtenTo (valueOf from) text) → textSeen q b ≡ writeTold (writtenTo (valueOf from) text)
     → (r ≡ q) × (a ≡ b)
 one-write from text s t = let p = s ∙ sym t in (ap (λ (y : TextSeen). y .says) p, ap (λ (y : TextSeen). y .buffer) p)
+
+-- A stream: from one lent stream, one piece and one buffer have one answer, one stream afterwards and one content of the buffer; and a reset has one answer and one stream.
+pub one-take : (i : Inlet) (piece out : List ℕ) {r q : Taken} {j k : Inlet} {w v : List ℕ} → Takes i piece out r j w → Takes i piece out q k v → (r ≡ q) × (streamOf j ≡ streamOf k) × (w ≡ v)
+one-take i piece out s t =
+    let p = s .comes ∙ sym (t .comes) in
+    (ap (λ (y : Outcome). y .says) p, ap (λ (y : Outcome). y .after) p, ap (λ (y : Outcome). y .written) p)
+
+pub one-reset : {r q : Taken} {i j : Inlet} → Resets r i → Resets q j → (r ≡ q) × (streamOf i ≡ streamOf j)
+one-reset s t = (s .says ∙ sym (t .says), s .after ∙ sym (t .after))
+
+-- Its outcomes have the numbers that they have elsewhere.
+pub same-numbers : (done-on-a-stream ≡ isDone) × (frame-of-a-stream ≡ isFrame) × (more-for-a-stream ≡ isMore)
+same-numbers = (refl, refl, refl)

@@ -1,5 +1,6 @@
 // The C boundary: the exported calls on the device that a host lends.
 pub mod deviceless;
+pub mod streams;
 
 use device::Device;
 use machine::Report;

@@ -1,0 +1,4 @@
+pub mod Stream
+pub mod Hosts
+pub mod Lent
+pub mod Lives

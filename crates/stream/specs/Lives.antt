@@ -1,0 +1,32 @@
+-- A lent stream's life: the calls that a host makes of it after the reset, one after the other, each with what the host sees of it afterwards.
+-- Assumes nothing.
+use Prim.Native.Nat.{ℕ}
+use mathlib.Core.List.{List, [], _∷_, map}
+use Rattle.stream.specs.Stream.{Outcome, outcome}
+use Rattle.stream.specs.Hosts.{Fed, with, Offer}
+use Rattle.stream.specs.Lent.{streamOf, Takes}
+use Rattle.stream.specs.declared.Taken.{Taken}
+use Rattle.stream.specs.declared.Inlet.{Inlet}
+
+-- one line of it: the piece and the buffer that were given; the answer, the lent stream and the buffer as they are afterwards
+pub record Line : Type 0 where
+  pub offer : Offer
+  pub says : Taken
+  pub after : Inlet
+  pub written : List ℕ
+
+abbrev pub came : Line → Outcome
+came x = outcome (x .says) (streamOf (x .after)) (x .written)
+
+abbrev pub offersOf : List Line → List Offer
+offersOf ls = map (λ (x : Line). x .offer) ls
+
+-- each line came as its exported function promises, from the lent stream that the one before left
+pub data Lived : Inlet → List Line → Type 0 where
+  none : {i : Inlet} → Lived i []
+  then : {i : Inlet} {x : Line} {ls : List Line} → Takes i (x .offer .piece) (x .offer .buffer) (x .says) (x .after) (x .written) → Lived (x .after) ls → Lived i (x ∷ ls)
+
+-- what the host gathers from these lines alone
+unfoldable pub heard : Fed → List Line → Fed
+heard f [] = f
+heard f (x ∷ ls) = heard (with f (x .offer .piece) (came x)) ls
