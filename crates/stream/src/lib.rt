@@ -2,7 +2,7 @@
 ghost use mathlib.Core.Path.{_≡_};
 ghost use Prim.Native.Nat.{_≤_, min};
 ghost use lib.ListN.{length};
-ghost use Rattle.laws.specs.Numbers.{mostFrame};
+ghost use Rattle.laws.specs.Numbers.{mostFrame, frameBuffer};
 ghost use Rattle.stream.specs.Lent.{inlet, Made, Takes, Resets, Filled};
 use wire::splitting::Split;
 
@@ -54,6 +54,59 @@ fn fill(bytes: &mut [u8; laws::MOST_FRAME], from: usize, piece: &[u8]) -> usize
     from + n
 }
 
+// Takes a piece behind the bytes kept, of which no frame is whole, and writes the frame once it is.
+fn take_behind<'a>(
+    bytes: &'a mut [u8; laws::MOST_FRAME],
+    count: &'a mut u32,
+    mark: &'a mut u32,
+    piece: &[u8],
+    out: &mut [u8],
+) -> Taken
+    requires { ⌜ Made (inlet (now bytes) (now count) (now mark)) × (frameBuffer ≤ length (now out)) × (now mark ≡ 0) ⌝ }
+    ensures { λ r. ⌜ Takes (inlet (now (bytes .entry)) (now (count .entry)) (now (mark .entry))) (now (piece .entry)) (now (out .entry)) r (inlet (now (bytes .exit)) (now (count .exit)) (now (mark .exit))) (now (out .exit)) ⌝ }
+{
+    let before = *count;
+    let end = fill(bytes, before as usize, piece);
+    let all: &[u8] = bytes;
+    let run = &all[..end];
+    match wire::splitting::standing(run) {
+        Split::Frame => {
+            let frame = wire::splitting::first_frame(run);
+            let size = frame.len();
+            wire::copy(out, frame);
+            let length = size as u32;
+            *count = 0;
+            Taken {
+                refusal: 0,
+                outcome: FRAME,
+                length,
+                taken: length - before,
+            }
+        }
+        Split::MoreNeeded => {
+            let length = end as u32;
+            *count = length;
+            Taken {
+                refusal: 0,
+                outcome: MORE,
+                length: 0,
+                taken: length - before,
+            }
+        }
+        Split::Refused => {
+            let header = laws::UNCOUNTED as u32;
+            *count = header;
+            *mark = 1;
+            Taken {
+                refusal: 4,
+                outcome: 0,
+                length: 0,
+                taken: header - before,
+            }
+        }
+    }
+}
+
 // Takes of a piece what belongs to the next frame, and writes that frame once it is whole. One that lies whole in the piece is copied from there.
 pub fn take_piece<'a>(
     bytes: &'a mut [u8; laws::MOST_FRAME],
@@ -94,45 +147,7 @@ pub fn take_piece<'a>(
             taken: length,
         };
     }
-    let end = fill(bytes, before as usize, piece);
-    let all: &[u8] = bytes;
-    let run = &all[..end];
-    match wire::splitting::standing(run) {
-        Split::Frame => {
-            let frame = wire::splitting::first_frame(run);
-            let size = frame.len();
-            wire::copy(out, frame);
-            let length = size as u32;
-            *count = 0;
-            Taken {
-                refusal: 0,
-                outcome: FRAME,
-                length,
-                taken: length - before,
-            }
-        }
-        Split::MoreNeeded => {
-            let length = end as u32;
-            *count = length;
-            Taken {
-                refusal: 0,
-                outcome: MORE,
-                length: 0,
-                taken: length - before,
-            }
-        }
-        Split::Refused => {
-            let header = laws::UNCOUNTED as u32;
-            *count = header;
-            *mark = 1;
-            Taken {
-                refusal: 4,
-                outcome: 0,
-                length: 0,
-                taken: header - before,
-            }
-        }
-    }
+    take_behind(bytes, count, mark, piece, out)
 }
 
 // An array has as many bytes as its type says: proved, and nothing in the compiled code.

@@ -1,27 +1,25 @@
 -- `stream::take_piece` meets its contract: each return is one of the definition's outcomes.
 -- Assumes nothing.
-use Prim.Native.Nat.{ℕ, _≤_}
-use mathlib.Core.Path.{_≡_, sym, _∙_, ap}
+use Prim.Native.Nat.{_≤_}
+use mathlib.Core.Path.{_≡_}
 use mathlib.Core.Bool.{not}
 use native.Mathlib.Omega.{arith}
-use lib.ListN.{length, take}
+use lib.ListN.{length}
 use lib.Dec.{eqb}
 use denote.Ref.{now}
 use borrow.Author.Needs.{needs}
 use borrow.Author.Tests.{eqb-true, eqb-false, not-true}
-use Rattle.laws.specs.Numbers.{mostFrame, frameBuffer}
+use Rattle.laws.specs.Numbers.{mostFrame}
 use Rattle.laws.proofs.Choice.{and-left, and-right}
-use Rattle.wire.specs.Splitting.{standingOf, firstFrame}
+use Rattle.wire.specs.Splitting.{standingOf}
 use Rattle.wire.specs.declared.splitting.Split.the-variants.{Frame}
-use Rattle.stream.proofs.FieldLaws.{Ready, short-comes, stuck-comes, stands-there, most-long, whole-comes, run-long, frame-long, frame-comes, more-comes, bad-new, bad-comes}
+use Rattle.stream.proofs.FieldLaws.{short-comes, stuck-comes, stands-there, most-long, whole-comes}
 use Rattle.stream.proofs.take_piece.Statement.{statement}
 use Rattle.stream.proofs.take_piece.Tie as tie
 use Rattle.stream.proofs.take_piece.Reads as reads
 use Rattle.stream.proofs.take_piece.Lts as lts
-use Rattle.stream.proofs.fill.Reads as fill-reads
 use Rattle.wire.proofs.copy.Reads as copy-reads
 use Rattle.wire.proofs.splitting.first_frame.Reads as first-frame-reads
-use Rattle.wire.proofs.splitting.standing.Reads as standing-reads
 
 returns : tie.Need-returns
 returns c =
@@ -61,61 +59,13 @@ returns-3 c =
     let e = lies (c .before .before .before) in
     rw (c .before .before .copy .ensures, c .before .before .before .before .before .first-frame .ensures) (whole-comes (now (s .args .bytes)) (now (s .args .count)) (now (s .args .mark)) (now (s .args .piece)) (now (s .args .out)) (s .pre) (c .before .before .before .before .before .before .before .before .before .if1 .left) (c .before .before .before .before .before .before .before .if2 .left) (e .0) (e .1))
 
-ready : (c : tie.After-fill)
-    → (let s = c .before .before .before .before .before .before .before .before .before .before in
-    Ready (now (s .args .bytes)) (now (s .args .count)) (now (s .args .mark)) (now (s .args .piece)) (now (s .args .out)) (c .fill .result) (c .fill .last .0))
-ready c =
-    let e = c .before .before .before .before .before in
-    record { made = e .before .before .before .before .before .pre; long = e .before .before .if1 .left; none = e .if2 .left; filled = c .fill .ensures }
-
-slice-aggregate-run : tie.Need-slice-aggregate-run
-slice-aggregate-run c = run-long (ready (c .before .before .before))
-
-frame-stands : (c : tie.After-first-frame2)
-    → (let a = c .before .before .before in standingOf (take (a .before .before .before .before .fill .result) (a .before .before .before .before .fill .last .0)) ≡ Frame)
-frame-stands c = let a = c .before .before .before in sym (a .standing .ensures) ∙ c .before .enum-told .given .1
-
-frame-known : (c : tie.After-first-frame2)
-    → (let s = c .before .before .before .before .before .before .before .before .before .before .before .before .before .before .before .before .before in
-    (now (s .args .count) ≤ length (now (c .first-frame2 .result))) × (length (now (c .first-frame2 .result)) ≤ mostFrame) × (frameBuffer ≤ length (now (s .args .out))))
-frame-known c =
-    let h = ready (c .before .before .before .before .before .before .before) in
-    let l = frame-long h (frame-stands c) in
-    (rw (c .first-frame2 .ensures) (l .0), rw (c .first-frame2 .ensures) (l .1), h .long)
-
-copy-requires-2 : tie.Need-copy-requires-2
-copy-requires-2 c κs = let l = frame-known (c .before) in omega arith
-
-cast-length-2 : tie.Need-cast-length-2
-cast-length-2 c = let l = frame-known (c .before .before .before .before) in omega arith
-
-sub-t34 : tie.Need-sub-t34
-sub-t34 c = let l = frame-known (c .before .before .before .before) in omega arith
-
-sub-t36 : tie.Need-sub-t36
-sub-t36 c =
-    let a = c .before .before in
-    omega (arith, bad-new (ready (a .before .before .before .before)) (sym (a .standing .ensures) ∙ c .enum-told3 .given .1))
+take-behind-requires : tie.Need-take-behind-requires
+take-behind-requires c κs = (c .before .before .before .before .before .before .before .before .before .before .before .before .pre, c .before .before .before .before .before .before .before .before .before .if1 .left, c .before .before .before .before .before .before .before .if2 .left)
 
 returns-4 : tie.Need-returns-4
-returns-4 c =
-    let w = c .before .before .before .before in
-    let a = w .before .before .before in
-    rw (c .before .before .copy2 .ensures, w .first-frame2 .ensures) (frame-comes (ready (a .before .before .before .before)) (frame-stands w))
-
-returns-5 : tie.Need-returns-5
-returns-5 c =
-    let a = c .before .before in
-    more-comes (ready (a .before .before .before .before)) (sym (a .standing .ensures) ∙ c .enum-told2 .given .1)
-
-returns-6 : tie.Need-returns-6
-returns-6 c =
-    let a = c .before .before in
-    bad-comes (ready (a .before .before .before .before)) (sym (a .standing .ensures) ∙ c .enum-told3 .given .1)
+returns-4 c = c .before .before .take-behind .ensures
 
 pub take-piece-spec : {M : Type 1} → statement M
 take-piece-spec =
     tie.close
-    (tie.spec returns returns-2 (λ c κs. search needs) copy-requires cast-length (λ c. search needs) returns-3 (λ c κs. search needs) slice-aggregate-run
-    (λ c κs. search needs) (λ c. search needs) (λ c κs. search needs) copy-requires-2 cast-length-2 sub-t34 (λ c. search needs) (λ c. search needs)
-    (λ c. search needs) (λ c. search needs) (λ c. search needs) sub-t36 (λ c. search needs) returns-4 returns-5 returns-6)
+    (tie.spec returns returns-2 (λ c κs. search needs) copy-requires cast-length (λ c. search needs) returns-3 take-behind-requires (λ c. search needs) returns-4)
