@@ -53,9 +53,9 @@ pub record Given : Type 0 where
 abbrev pub given : Answer → List ℕ → List ℕ → Given
 given a f l = record { says = a; frame = f; list = l }
 
-unfoldable pub played : Outcome → List Call → Outcome
-played d [] = d
-played d (x ∷ xs) = played (outcome (d .after) x) xs
+unfoldable pub played : Machine → Outcome → List Call → Outcome
+played m d [] = d
+played m d (x ∷ xs) = played (outcome m x .after) (outcome m x) xs
 
 -- an example: calls on a fresh state with clients 3 and 5 attached, and what the last of them comes to
 pub record Example : Type 0 where
@@ -85,7 +85,7 @@ unfolding played outcome granted rows lowest admitted served exhausted excepted 
     digits value below packed unpacked decimal encodedDigits decodedDigits registers encoded decoded wordsOf numberOf kindOf
     classOf badFunction badLength badValue badAddress askedBy faultOf shaped answering misframed exception liveIn flatMap
 shown e =
-    let d = played ready (attach 3 ∷ attach 5 ∷ (e .calls)) in
+    let d = played (made site) ready (attach 3 ∷ attach 5 ∷ (e .calls)) in
     given (d .says) (d .written) (d .listed)
 
 abbrev pub examples : List Example
