@@ -114,7 +114,7 @@ module _ (v : Value) (xs : List Call) where
   pub live-ids-differ : (i j : ℕ) (d e : Live What Note) → at (afterCalls v xs .book) i ≡ some d → at (afterCalls v xs .book) j ≡ some e → d .id ≡ e .id → i ≡ j
   live-ids-differ = good .differ
 
-  -- Tender 3: an id is not issued again until at least 65,280 others were.
+  -- Tender 3, with #104's number: an id is not issued again until at least 65,280 others were.
   pub an-id-comes-round-late : Apart distance (ledgerOf v xs .issues)
   an-id-comes-round-late = ids-come-round-late (product v) xs
 
@@ -147,7 +147,7 @@ module _ (v : Value) (xs : List Call) where
       → Excepts (afterCalls v xs) t f o (outcome (afterCalls v xs) (request c t f o))
   an-exception-is-this c t f o = exception-is (afterCalls v xs) c t f o good
 
-  -- Tender 3: the proxy itself gives exception 04 exactly when a legal request can join nothing and 256 are live.
+  -- Tender 3, with #104's number: the proxy itself gives exception 04 exactly when a legal request can join nothing and 256 are live.
   pub exception-04-exactly : (c t : ℕ) (f o : List ℕ)
       → (outcome (afterCalls v xs) (request c t f o) .says ≡ answer.Excepted 4)
       ↔ ((refusal (afterCalls v xs) (request c t f o) ≡ 0) × (legal (settings (afterCalls v xs)) f ≡ true) × NoneToJoin (afterCalls v xs) t f × AllLive rules (afterCalls v xs .book))

@@ -178,7 +178,7 @@ module _ (from : Settings) {r : Report} {d d′ : Device} (ls : List Line) (fres
       rw (left x s, lived .after)
       (claim.the-accepted-stand v xs c t f o (saw .report .id) (⊎-elim (λ e. rw (tells .issued e) refl) (λ e. rw (tells .joined e) refl) w))
 
-  -- Tender 3: the proxy itself gives exception 04 exactly when a legal request can join nothing and 256 are live.
+  -- Tender 3, with #104's number: the proxy itself gives exception 04 exactly when a legal request can join nothing and 256 are live.
   pub exception-04-exactly : (c t : ℕ) (f o : List ℕ) {saw : Seen} {d″ : Device} → Called d′ (request c t f o) saw d″
       → ((saw .report .outcome ≡ isException) × (saw .report .code ≡ 4))
       ↔ ((saw .report .refusal ≡ 0) × (legal (inForce from) f ≡ true) × NoneToJoin (machineIn d′) t f × AllLive rules (machineIn d′ .book))
@@ -295,7 +295,7 @@ module _ (from : Settings) {r : Report} {d d′ : Device} (ls : List Line) (fres
       let live = place-live d′ (lived .next) in
       claim.live-ids-differ v xs i j _ _ (rw (lived .after) at (live i n)) (rw (lived .after) at (live j (rw e at n))) (ap (λ (k : ℕ). k - 1) e)
 
-  -- Tender 3: an id is not issued again until at least 65,280 others were,
+  -- Tender 3, with #104's number: an id is not issued again until at least 65,280 others were,
   pub an-id-comes-round-late : Apart distance (ledgerIn (inForce from) ls .issues)
   an-id-comes-round-late = rw (lived .told) (claim.an-id-comes-round-late v xs)
 
