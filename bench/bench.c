@@ -12,6 +12,8 @@ enum {
     CALLS = 200000, /* at least so many are timed */
     CLIENTS = 32,
     PARTIES = ZB_PARTY_PLACES / ZB_PLACES,
+    FEW_PARTIES = 8, /* as many parties, and places, as document 01 has: the same work for every archive */
+    FEW_PLACES = 64,
     MOST_FRAME = 260,
     TAGS = 60, /* from FIRST on, of width 16 and 32 by turns */
     FIRST = 1000,
@@ -141,13 +143,23 @@ static void make_tag_writes(void)
     }
 }
 
-static void fill_table(void)
+static void fill_places(unsigned places)
 {
-    for (unsigned k = 0; k < ZB_PLACES; k++) {
+    for (unsigned k = 0; k < places; k++) {
         frame f = asked(3, k, PLAIN);
         if (zb_request(&device, k % CLIENTS, now, f.bytes, f.size, out, sizeof out).outcome != ZB_ISSUED)
             fail("the table cannot be filled");
     }
+}
+
+static void fill_few(void)
+{
+    fill_places(FEW_PLACES);
+}
+
+static void fill_table(void)
+{
+    fill_places(ZB_PLACES);
 }
 
 /* TURNS, WHICH ARE TIMED: each gives how many of its calls did not end as they should */
@@ -177,12 +189,22 @@ static unsigned turn_alone(unsigned k)
     return wrong + reply(k, 1);
 }
 
-static unsigned turn_joined(unsigned k)
+static unsigned joined_by(unsigned k, unsigned parties)
 {
     unsigned wrong = request(0, k, ZB_ISSUED);
-    for (unsigned c = 1; c < PARTIES; c++)
+    for (unsigned c = 1; c < parties; c++)
         wrong += request(c, k, ZB_JOINED);
-    return wrong + reply(k, PARTIES);
+    return wrong + reply(k, parties);
+}
+
+static unsigned turn_joined(unsigned k)
+{
+    return joined_by(k, FEW_PARTIES);
+}
+
+static unsigned turn_full(unsigned k)
+{
+    return joined_by(k, PARTIES);
 }
 
 static unsigned turn_tick(unsigned k)
@@ -198,9 +220,11 @@ static const struct {
     unsigned calls; /* of one turn */
 } workloads[] = {
     {"plain reads", make_reads, turn_alone, 2},
-    {"joined reads", make_reads, turn_joined, PARTIES + 1},
+    {"joined reads", make_reads, turn_joined, FEW_PARTIES + 1},
+    {"joined, full entry", make_reads, turn_full, PARTIES + 1},
     {"03 with 60 tags", make_tag_reads, turn_alone, 2},
     {"16 with 60 tags", make_tag_writes, turn_alone, 2},
+    {"ticks, 64 live", fill_few, turn_tick, 1},
     {"ticks, full table", fill_table, turn_tick, 1},
 };
 

@@ -17,12 +17,12 @@ extern "C" {
 #define ZB_STATIC_ASSERT _Static_assert
 #endif
 
-#define ZB_CLIENTS 32       /* a client number is below this */
-#define ZB_PLACES 64        /* live requests */
-#define ZB_PARTY_PLACES 512 /* parties of all live requests; of one: ZB_PARTY_PLACES / ZB_PLACES */
+#define ZB_CLIENTS 32        /* a client number is below this */
+#define ZB_PLACES 256        /* live requests */
+#define ZB_PARTY_PLACES 8192 /* parties of all live requests; of one: ZB_PARTY_PLACES / ZB_PLACES */
 #define ZB_MOST_TAGS 256
-#define ZB_FRAME_BUFFER 260 /* bytes that a frame buffer `out` has at least */
-#define ZB_LIST_BUFFER 16   /* numbers that a list has at least */
+#define ZB_FRAME_BUFFER 260  /* bytes that a frame buffer `out` has at least */
+#define ZB_LIST_BUFFER 64    /* numbers that a list has at least */
 
 /* One device's state, which only these calls make and change; the host owns the memory and lends it for each call.
    The fields are spelled out so that a host can place a device statically. They are not for the host to read or
@@ -45,7 +45,7 @@ typedef struct zb_state {
     uint64_t tags[ZB_MOST_TAGS];         /* a word a tag */
 } zb_state;
 
-#define ZB_STATE_SIZE 5032
+#define ZB_STATE_SIZE 32296
 ZB_STATIC_ASSERT(sizeof(zb_state) == ZB_STATE_SIZE, "zb_state has the size that the core was proved for");
 
 size_t zb_state_size(void);

@@ -113,24 +113,24 @@ static void begin(void)
 
 static void sizes_and_offsets(void)
 {
-    /* document 01's numbers; that they are the archive's is seen where buffers, parties and places run short */
-    EXPECT(ZB_PLACES == 64 && PARTIES == 8 && ZB_CLIENTS == 32 && ZB_FRAME_BUFFER == 260 && ZB_LIST_BUFFER == 16);
-    EXPECT(zb_state_size() == 5032 && sizeof(zb_state) == 5032 && ZB_STATE_SIZE == 5032 && _Alignof(zb_state) == 8);
-    EXPECT(offsetof(zb_state, ids) == 0 && sizeof((zb_state *)0)->ids == 256);
-    EXPECT(offsetof(zb_state, asked) == 256 && sizeof((zb_state *)0)->asked == 512);
-    EXPECT(offsetof(zb_state, callers) == 768 && sizeof((zb_state *)0)->callers == 64);
-    EXPECT(offsetof(zb_state, deadlines) == 832 && sizeof((zb_state *)0)->deadlines == 512);
-    EXPECT(offsetof(zb_state, counts) == 1344 && sizeof((zb_state *)0)->counts == 64);
-    EXPECT(offsetof(zb_state, clients) == 1408 && sizeof((zb_state *)0)->clients == 512);
-    EXPECT(offsetof(zb_state, originals) == 1920 && sizeof((zb_state *)0)->originals == 1024);
-    EXPECT(offsetof(zb_state, top) == 2944 && sizeof((zb_state *)0)->top == 4);
-    EXPECT(offsetof(zb_state, cursor) == 2948 && sizeof((zb_state *)0)->cursor == 2);
-    EXPECT(offsetof(zb_state, attached) == 2952 && sizeof((zb_state *)0)->attached == 4);
-    EXPECT(offsetof(zb_state, clock) == 2960 && sizeof((zb_state *)0)->clock == 8);
-    EXPECT(offsetof(zb_state, timeout) == 2968 && sizeof((zb_state *)0)->timeout == 4);
-    EXPECT(offsetof(zb_state, join) == 2972 && sizeof((zb_state *)0)->join == 4);
-    EXPECT(offsetof(zb_state, tagged) == 2976 && sizeof((zb_state *)0)->tagged == 4);
-    EXPECT(offsetof(zb_state, tags) == 2984 && sizeof((zb_state *)0)->tags == 2048);
+    /* document 01's numbers and #104's; that they are the archive's is seen where buffers, parties and places run short */
+    EXPECT(ZB_PLACES == 256 && PARTIES == 32 && ZB_CLIENTS == 32 && ZB_FRAME_BUFFER == 260 && ZB_LIST_BUFFER == 64);
+    EXPECT(zb_state_size() == 32296 && sizeof(zb_state) == 32296 && ZB_STATE_SIZE == 32296 && _Alignof(zb_state) == 8);
+    EXPECT(offsetof(zb_state, ids) == 0 && sizeof((zb_state *)0)->ids == 1024);
+    EXPECT(offsetof(zb_state, asked) == 1024 && sizeof((zb_state *)0)->asked == 2048);
+    EXPECT(offsetof(zb_state, callers) == 3072 && sizeof((zb_state *)0)->callers == 256);
+    EXPECT(offsetof(zb_state, deadlines) == 3328 && sizeof((zb_state *)0)->deadlines == 2048);
+    EXPECT(offsetof(zb_state, counts) == 5376 && sizeof((zb_state *)0)->counts == 256);
+    EXPECT(offsetof(zb_state, clients) == 5632 && sizeof((zb_state *)0)->clients == 8192);
+    EXPECT(offsetof(zb_state, originals) == 13824 && sizeof((zb_state *)0)->originals == 16384);
+    EXPECT(offsetof(zb_state, top) == 30208 && sizeof((zb_state *)0)->top == 4);
+    EXPECT(offsetof(zb_state, cursor) == 30212 && sizeof((zb_state *)0)->cursor == 2);
+    EXPECT(offsetof(zb_state, attached) == 30216 && sizeof((zb_state *)0)->attached == 4);
+    EXPECT(offsetof(zb_state, clock) == 30224 && sizeof((zb_state *)0)->clock == 8);
+    EXPECT(offsetof(zb_state, timeout) == 30232 && sizeof((zb_state *)0)->timeout == 4);
+    EXPECT(offsetof(zb_state, join) == 30236 && sizeof((zb_state *)0)->join == 4);
+    EXPECT(offsetof(zb_state, tagged) == 30240 && sizeof((zb_state *)0)->tagged == 4);
+    EXPECT(offsetof(zb_state, tags) == 30248 && sizeof((zb_state *)0)->tags == 2048);
     EXPECT(sizeof(zb_settings) == 1036 && _Alignof(zb_settings) == 4);
     EXPECT(offsetof(zb_settings, timeout) == 0 && offsetof(zb_settings, join) == 4 && offsetof(zb_settings, tags) == 8);
     EXPECT(offsetof(zb_settings, addr) == 12 && offsetof(zb_settings, width) == 524);
@@ -268,9 +268,8 @@ static void longest_write(void)
 }
 
 /* An entry's last party joins; the equal read after it is issued on its own. */
-static void last_party_and_the_next(void)
+static void last_party_and_the_next(uint16_t *pairs)
 {
-    uint16_t pairs[2 * PARTIES];
     uint8_t read[] = {0, 0, 0, 0, 0, 6, 1, 3, 4, 0, 0, 1};
     begin();
     for (uint8_t k = 0; k < PARTIES; k++) {
@@ -281,7 +280,43 @@ static void last_party_and_the_next(void)
         EXPECT(k == 0 ? is_issued(a, 0) : a.outcome == ZB_JOINED && a.id == 0);
     }
     EXPECT(is_issued(pair_request(3, 0, read, 12, ZB_FRAME_BUFFER), 1));
+}
+
+static void full_entry_ends(void)
+{
+    uint16_t pairs[2 * PARTIES];
+    last_party_and_the_next(pairs);
     EXPECT(listed(reply(0, "00 00 00 00 00 05 01 03 02 12 34"), PARTIES, pairs));
+    last_party_and_the_next(pairs);
+    zb_answer a = tick(3000);
+    EXPECT(a.outcome == ZB_TIMED_OUT && wrote(a, "00 00 00 00 00 03 01 83 0B") && listed(a, PARTIES, pairs));
+}
+
+/* Every place is taken and every entry full, by clients 3 and 5 in turn. Client 3 leaves: the others stay in their
+   order, and the room is used again. */
+static void struck_out_of_a_full_table(void)
+{
+    uint8_t read[] = {0, 0, 0, 0, 0, 6, 1, 3, 0, 0, 0, 1}, answer[] = {0, 0, 0, 0, 0, 5, 1, 3, 2, 0x12, 0x34};
+    uint16_t pairs[PARTIES + 2];
+    begin();
+    for (uint32_t n = 0; n < ZB_PARTY_PLACES; n++) {
+        read[1] = (uint8_t)(n % PARTIES);
+        read[9] = (uint8_t)(n / PARTIES);
+        EXPECT(pair_request(n % 2 ? 5 : 3, 0, read, 12, ZB_FRAME_BUFFER).id == n / PARTIES);
+    }
+    EXPECT(is_exception(request(5, 0, "00 09 00 00 00 06 01 03 00 00 00 01"), 4, "00 09 00 00 00 03 01 83 04"));
+    EXPECT(pair_detach(3).outcome == ZB_DONE && pair_attach(3).outcome == ZB_DONE);
+    for (uint16_t k = 0; k < PARTIES / 2; k++) {
+        pairs[2 * k] = 5;
+        pairs[2 * k + 1] = (uint16_t)(2 * k + 1);
+    }
+    pairs[PARTIES] = 3;
+    pairs[PARTIES + 1] = PARTIES - 1;
+    for (uint32_t n = 0; n < ZB_PLACES; n++) {
+        answer[1] = read[9] = (uint8_t)n;
+        EXPECT(pair_request(3, 0, read, 12, ZB_FRAME_BUFFER).outcome == ZB_JOINED);
+        EXPECT(listed(pair_reply(0, answer, 11, ZB_FRAME_BUFFER, ZB_LIST_BUFFER), PARTIES / 2 + 1, pairs));
+    }
 }
 
 /* The last place is taken; the request after it gets exception 04. */
@@ -605,9 +640,9 @@ int main(void)
 {
     static void (*const all[])(void) = {
         sizes_and_offsets, fields_are_where_the_header_says, device_of_zeros, p1_to_p8, p9_to_p12,
-        quantities_and_starts, longest_write, last_party_and_the_next, last_place_and_the_next, single_writes,
-        cursor_and_clock_stay_after_a_lost_link, struck_room_and_successor, left_by_all, due_is_not_joined,
-        mismatched_reply_leaves_the_entry, refusals_of_attach_and_detach,
+        quantities_and_starts, longest_write, full_entry_ends, struck_out_of_a_full_table, last_place_and_the_next,
+        single_writes, cursor_and_clock_stay_after_a_lost_link, struck_room_and_successor, left_by_all,
+        due_is_not_joined, mismatched_reply_leaves_the_entry, refusals_of_attach_and_detach,
         refusals_of_request_before_the_frame, refusals_of_request_by_the_frame, lowest_refusal_of_request,
         refusals_of_reply_and_tick, splitting, texts, text_of_75_bytes, longest_text, invalid_settings,
     };

@@ -33,7 +33,7 @@ static const session sessions[] = {
     {"crowd",      70000, SETTINGS_OF_THE_DOCUMENT, {0, 90, 70, 700, 60, 30, 1, 0, 0, 0}, 3, 40, 40, PLAIN},
     {"crowds",     70000, SETTINGS_BARE,            {0, 90, 80, 700, 25, 80, 1, 0, 0, 0}, 9, 40, 3, PLAIN},
     {"full",       60000, SETTINGS_DENSE,           {0, 60, 30, 800, 180, 10, 1, 5, 0, 0}, 0, 20, 4, PLAIN},
-    {"full join",  60000, SETTINGS_OF_THE_DOCUMENT, {0, 90, 80, 700, 60, 20, 1, 0, 0, 0}, 90, 30, 6, PLAIN},
+    {"full join",  60000, SETTINGS_OF_THE_DOCUMENT, {0, 90, 80, 700, 60, 20, 1, 0, 0, 0}, 400, 30, 6, PLAIN},
     {"edges",      50000, SETTINGS_EDGES,           {0, 60, 10, 500, 400, 50, 1, 10, 2, 2}, 0, 20, 10, PLAIN},
     {"top",        50000, SETTINGS_TOP,             {0, 60, 10, 500, 400, 50, 1, 10, 2, 2}, 0, 20, 10, PLAIN},
     {"dense",      50000, SETTINGS_DENSE,           {0, 60, 10, 500, 450, 50, 1, 10, 2, 2}, 0, 30, 10, PLAIN},
@@ -44,7 +44,7 @@ static const session sessions[] = {
     {"refused",    15000, SETTINGS_INVALID,         {20, 90, 10, 400, 200, 60, 1, 0, 0, 0}, 0, 20, 60, PLAIN},
     {"texts",      15000, SETTINGS_INVALID,         {0, 40, 10, 100, 80, 10, 1, 50, 300, 200}, 0, 4, 10, PLAIN},
     {"wrap",      290000, SETTINGS_NO_JOIN,         {0, 5, 1, 510, 500, 1, 0, 0, 0, 0}, 0, 200, 0, PINS_WITH_0},
-    {"wrap join", 290000, SETTINGS_OF_THE_DOCUMENT, {0, 10, 5, 520, 500, 1, 0, 0, 0, 0}, 400, 200, 0, PINS},
+    {"wrap join", 330000, SETTINGS_OF_THE_DOCUMENT, {0, 10, 5, 520, 500, 1, 0, 0, 0, 0}, 400, 200, 0, PINS},
 };
 
 /* What a session that joins does while the cursor passes 65,535: entries of equal reads on both sides of it. */
@@ -52,7 +52,7 @@ static const session at_the_wrap = {
     "at the wrap", 0, SETTINGS_OF_THE_DOCUMENT, {0, 90, 90, 700, 20, 1, 0, 0, 0, 0}, 3, 200, 0, PINS,
 };
 
-enum { BALANCE_EVERY = 64, PINNED_EVERY = 4096, LIVE_WITH_PINS = ZB_PLACES - 14 };
+enum { BALANCE_EVERY = 64, PINNED_EVERY = 4096, LIVE_WITH_PINS = 50 };
 
 static const uint64_t LAST_TIME = ((uint64_t)1 << 63) - 1;
 static zb_settings settings;

@@ -82,6 +82,7 @@ void ledger_attach(uint32_t client, zb_answer a)
 static void strike(ledger_entry *e, uint32_t client)
 {
     uint32_t kept = 0;
+    bool full = e->parties == PARTIES;
     for (uint32_t p = 0; p < e->parties; p++) {
         if (e->party[p].client != client) {
             e->party[kept++] = e->party[p];
@@ -93,6 +94,8 @@ static void strike(ledger_entry *e, uint32_t client)
         reached(REACHED_STRUCK);
     }
     e->parties = kept;
+    if (full && kept < PARTIES)
+        reached(REACHED_FULL_STRUCK);
 }
 
 void ledger_detach(uint32_t client, zb_answer a)
@@ -305,6 +308,8 @@ static void end_entry(ledger_entry *e, zb_answer a, enum group to)
         ledger.by_timeout += e->parties;
     if (e->parties == 0)
         reached(to == BY_REPLY ? REACHED_EMPTY_ANSWERED : REACHED_EMPTY_TIMED_OUT);
+    if (e->parties == PARTIES)
+        reached(to == BY_REPLY ? REACHED_FULL_ANSWERED : REACHED_FULL_TIMED_OUT);
     *e = ledger.live[--ledger.lives];
 }
 

@@ -13,6 +13,9 @@ extern const char *const call_names[CALLS];
 #define REACHED_LIST(X) \
     X(LAST_PARTY, "an entry's last party joins") \
     X(BEYOND_THE_PARTIES, "a read equal to a full entry's is issued") \
+    X(FULL_ANSWERED, "an entry with its last party is answered") \
+    X(FULL_TIMED_OUT, "an entry with its last party times out") \
+    X(FULL_STRUCK, "a client is struck out of a full entry") \
     X(LAST_PLACE, "the last place is taken") \
     X(BEYOND_THE_PLACES, "the request after it gets exception 04") \
     X(JOINED_WHEN_FULL, "a read joins while every place is taken") \

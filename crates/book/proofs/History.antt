@@ -6,10 +6,10 @@ use mathlib.Core.Bool.{true}
 use mathlib.Core.Logic.{⊎-elim}
 use mathlib.Core.List.{List, [], _∷_, _++_, append-nil, append-assoc, List·Memᴰ, List·Memᴰ·append-cases, List·Memᴰ·not-nil}
 use native.Mathlib.Omega.{arith}
-use lib.ListN.{length, getD}
+use lib.ListN.{length}
 use Rattle.laws.proofs.FilterLaws.{filter-all}
 use Rattle.book.specs.Book.{Rules, Book, Event, Move, Good, Fits, apply, tell, fresh}
-use Rattle.book.specs.Ledger.{Ticket, Ledger, empty, post, posts, AllFair, Moved, whose, many}
+use Rattle.book.specs.Ledger.{Ticket, Ledger, Apart, empty, post, posts, AllFair, Moved, whose, many}
 use Rattle.book.specs.Kept.{Kept, held}
 use Rattle.book.specs.Machine.{Machine, tells, applies, AllFit, after, history, Accounted}
 use Rattle.book.specs.Desk.{Op, choose}
@@ -28,17 +28,11 @@ record Truth {R W N : Type 0} (r : Rules R) (b : Book R W N) (l : Ledger W) : Ty
   spaced : Spaced r b (l .issues)
 
 -- facts on numbers alone: where a record like `Truth` is in reach, `omega` reads its fields too, and takes seconds
-others : (m n a c : ℕ) → n < m → m + a < n + c → a + (m - n) < c
-others m n a c h k = omega arith
-
 sum : (a c d e f g h i j : ℕ) → a ≡ c + d + e + f + g → a ≡ 0 + h → c ≡ 0 + i → d ≡ 0 + j → h ≡ i + j + e + f + g
 sum a c d e f g h i j p q u v = omega arith
 
 later : (t d o n u : ℕ) → t < d → d ≡ o + n → o ≤ u → t < u + n
 later t d o n u h k z = omega arith
-
-contra : (x y : ℕ) → y ≤ x → x < y → ⊥
-contra x y p q = omega arith
 
 module _ {R W N : Type 0} (r : Rules R) where
   truth-move : (b : Book R W N) (l : Ledger W) (m : Move R W N) → Fits r b m → Truth r b l → Truth r (apply r b m) (posts l (tell m))
@@ -79,7 +73,6 @@ module _ {R W N : Type 0} (r : Rules R) where
         asked = asked-same r b l (t .kept);
         answers = f;
         good = t .good;
-        apart = λ a c z h e. others (r .ids) (r .places) a c (r .fewer) (t .spaced .apart a c z h e);
         drained = λ d x m.
             let s = t .kept .waits x m in
             let w = live-where (b .places) (x .id) (s .0) in
@@ -139,21 +132,23 @@ module _ {R : Type 0} {r : Rules R} {W N O : Type 0} {A : O → Type 0} {S : Typ
       (λ (h : List·Memᴰ e (history M (M .next s o) os)). let i = seen-at (M .next s o) os e h in (o ∷ i .0, i .1, i .2, ap (o ∷_) (i .3), i .4))
       (List·Memᴰ·append-cases (M .seen o (M .answer s o)) m)
 
+  from-the-start : (os : List O)
+      → Truth r (M .bookOf (after M (M .start) os)) (posts empty (history M (M .start) os)) × AllFair empty (history M (M .start) os) × M .Sound (after M (M .start) os)
+  from-the-start os = run (M .start) empty os (M .sound-start) (rw (M .begins) (truth-fresh r (M .made)))
+
   -- for any list of calls from the start the history is accounted for
   pub always : (os : List O) → Accounted r (M .bookOf (after M (M .start) os)) (history M (M .start) os) (posts empty (history M (M .start) os))
-  always os =
-      let i = run (M .start) empty os (M .sound-start) (rw (M .begins) (truth-fresh r (M .made))) in
-      accounted r _ _ (i .0) (i .1)
+  always os = let i = from-the-start os in accounted r _ _ (i .0) (i .1)
 
   -- and what the states are known to be holds of every state
   pub always-sound : (os : List O) → M .Sound (after M (M .start) os)
-  always-sound os = run (M .start) empty os (M .sound-start) (rw (M .begins) (truth-fresh r (M .made))) .2
+  always-sound os = from-the-start os .2
+
+  -- The distance of ids, for any number of ids and places: whatever the calls, between two issues of one id there are at least ids - places others.
+  pub ids-come-round-late : (os : List O) → Apart (r .ids - r .places) (posts empty (history M (M .start) os) .issues)
+  ids-come-round-late os = from-the-start os .0 .spaced .apart
 
 module _ {R W N : Type 0} (r : Rules R) (b : Book R W N) (vs : List (Event W)) (l : Ledger W) (a : Accounted r b vs l) where
-  -- any two issues that are at most ids - places apart are of different ids: so between two of one id so many different others are
-  pub issues-differ : (i j : ℕ) → i < j → j ≤ i + (r .ids - r .places) → j < length (l .issues) → getD (l .issues) i 0 ≡ getD (l .issues) j 0 → ⊥
-  issues-differ i j h k z e = contra (i + (r .ids - r .places)) j k (a .apart i j h z e)
-
   -- the list of every answer in the history is exactly the parties of the requests that it takes out of waiting, in order, and they go into its group; and so for a leaving and a lost link
   pub answers-exactly : (us : List (Event W)) (v : Event W) (ws : List (Event W)) → vs ≡ us ++ v ∷ ws → Moved (posts empty us) v (post (posts empty us) v)
   answers-exactly us v ws e = moved us v ws (subst (AllFair empty) e (a .answers))

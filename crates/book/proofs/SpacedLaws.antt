@@ -1,8 +1,8 @@
--- How far apart two issues of one proxy id are: every move that fits keeps them apart.
+-- How far apart two issues of one proxy id are: every move that fits keeps them apart. And what a distance says in other words.
 -- Assumes nothing.
-use Prim.Native.Nat.{ℕ, _+_, _≤_, _<_}
+use Prim.Native.Nat.{ℕ, _+_, _-_, _≤_, _<_}
 use mathlib.Core.Path.{_≡_, refl, ap, sym, _∙_}
-use mathlib.Core.Logic.{⊎-elim}
+use mathlib.Core.Logic.{⊎-elim, _↔_}
 use mathlib.Core.Bool.{Bool, true, false, cond, not, false≢true}
 use mathlib.Core.Option.{Option, some, none}
 use mathlib.Core.List.{List, [], _∷_, _++_}
@@ -17,7 +17,7 @@ use Rattle.laws.proofs.CountLaws.{count-more, count-ext, count-none, count-mono
 use Rattle.laws.proofs.CircleLaws.{turn-inj, turn-add, gap-low, gap-on, gap-here, gap-round, turn-gap, turn-low}
 use Rattle.book.specs.Book.{Rules, Party, Live, Book, Move, Good, Fits, book, newEntry, apply, tell, liveIn, hasId, added, struck, marked}
 use Rattle.book.specs.Book.Move.{rest, pass, join, issue, reply, expire, strike, wipe, mark, adopt}
-use Rattle.book.specs.Ledger.{Ledger, posts}
+use Rattle.book.specs.Ledger.{Ledger, Apart, Differing, posts}
 use Rattle.book.proofs.PlaceLaws.{at-low, live-here, live-set, live-less, live-map, live-none, live-count}
 
 module _ {R W N : Type 0} where
@@ -30,8 +30,14 @@ module _ {R W N : Type 0} where
     pub low : (a : ℕ) → a < length issues → getD issues a 0 < r .ids
     -- those issued since, and those that must be issued still before it comes again, are enough
     pub due : (a : ℕ) → a < length issues → r .ids + a < r .places + (length issues + ahead r b (getD issues a 0))
-    -- between two issues of one id there are at least ids - places others
-    pub apart : (a c : ℕ) → a < c → c < length issues → getD issues a 0 ≡ getD issues c 0 → r .ids + a < r .places + c
+    pub apart : Apart (r .ids - r .places) issues
+
+-- two issues of one id have at least n others between them exactly if any two that are at most n apart are of different ids: so those others differ from it and from each other
+pub apart-exactly : (n : ℕ) (is : List ℕ) → Apart n is ↔ Differing n is
+apart-exactly n is = (
+  λ h i j l k z e. let y = h i j l z e in omega arith,
+  λ h a c l z e. ⊎-elim (λ (y : a + n < c). y) (λ (y : c ≤ a + n). absurd (h a c l y z e)) (lt-or (a + n) c),
+)
 
 not-less : (a b : Bool) → (b ≡ true → a ≡ true) → not a ≡ true → not b ≡ true
 not-less true b h e = absurd (false≢true e)
@@ -139,6 +145,7 @@ module _ {R W N : Type 0} (r : Rules R) where
               let y = s .due a (omega arith) in
               let x : getD is a 0 ≡ id = sym (List·getD-append is (id ∷ []) 0 a (omega arith)) ∙ e ∙ ap (λ (i : ℕ). getD (is ++ (id ∷ [])) i 0) q ∙ new in
               let u : ahead r b (getD is a 0) ≡ 0 = ap (ahead r b) x ∙ ahead-here in
+              let f = r .fewer in
               omega arith)
               (lt-or c n);
         }

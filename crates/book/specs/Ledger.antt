@@ -7,7 +7,7 @@ use mathlib.Core.Logic.{_⊎_}
 use mathlib.Core.Bool.{Bool, cond}
 use mathlib.Core.Option.{Option, some, none}
 use mathlib.Core.List.{List, [], _∷_, _++_, map, List·Memᴰ}
-use lib.ListN.{length}
+use lib.ListN.{length, getD}
 use lib.Dec.{eqb}
 use Rattle.laws.specs.Lists.{filter}
 use Rattle.book.specs.Book.{Party, Event, isOf, without}
@@ -37,6 +37,14 @@ pub record Ledger (W : Type 0) : Type 0 where
   pub opened : ℕ → ℕ
   pub due : ℕ → ℕ
   pub asked : ℕ → Option W
+
+-- the distance of ids, in the order in which they were issued: of two issues of one id at least n others are between
+abbrev pub Apart : ℕ → List ℕ → Type 0
+Apart n is = (a c : ℕ) → a < c → c < length is → getD is a 0 ≡ getD is c 0 → a + n < c
+
+-- any two issues that are at most n apart are of different ids
+abbrev pub Differing : ℕ → List ℕ → Type 0
+Differing n is = (i j : ℕ) → i < j → j ≤ i + n → j < length is → getD is i 0 ≡ getD is j 0 → ⊥
 
 module _ {W : Type 0} where
   abbrev pub ledger : (now : ℕ) (accepted replied timedOut left lost waiting : List (Ticket W)) (issues : List ℕ) (opened due : ℕ → ℕ) (asked : ℕ → Option W) → Ledger W

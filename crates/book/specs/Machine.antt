@@ -1,11 +1,11 @@
 -- A machine whose calls make fitting moves on a book and tell what they did, and what the history of such a machine must be: every accepted request accounted for.
 -- Assumes nothing.
-use Prim.Native.Nat.{ℕ, _+_, _-_, _<_}
+use Prim.Native.Nat.{ℕ, _+_, _<_}
 use mathlib.Core.Path.{_≡_}
 use mathlib.Core.Bool.{Bool}
 use mathlib.Core.Option.{some}
 use mathlib.Core.List.{List, [], _∷_, _++_, List·Memᴰ}
-use lib.ListN.{length, getD}
+use lib.ListN.{length}
 use Rattle.laws.specs.Lists.{filter}
 use Rattle.book.specs.Book.{Rules, Party, Live, Book, Event, Move, Good, Fits, NothingDue, at, apply, tell, fresh}
 use Rattle.book.specs.Ledger.{Ticket, Ledger, empty, AllFair, many, whose, numbered, under, partiesOf, tally, accepts, replies, timeouts}
@@ -80,7 +80,5 @@ pub record Accounted {R W N : Type 0} (r : Rules R) (b : Book R W N) (vs : List 
   pub answers : AllFair empty vs
   -- live ids differ, and the book keeps its lengths and bounds
   pub good : Good r b
-  -- of two issues of one id, at least ids - places others are between
-  pub apart : (a c : ℕ) → a < c → c < length (l .issues) → getD (l .issues) a 0 ≡ getD (l .issues) c 0 → a + (r .ids - r .places) < c
   -- where nothing is due, every waiting request was accepted less than the wait of the rule in force ago: a rule changes only where nothing is live
   pub drained : NothingDue b → (t : Ticket W) → List·Memᴰ t (l .waiting) → b .clock < t .time + r .wait (b .rule)

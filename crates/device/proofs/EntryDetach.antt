@@ -78,9 +78,9 @@ function g = record {
       local (Res′.mir) valueLocal ∷
       local (tyRef (named 0) mut (pointee (T.the-row .written))) valueLocal ∷
       local (tyInt w32) valueLocal ∷
-      local (tyRef erased mut (tyArray (tyInt w8) 64)) valueLocal ∷
-      local (tyRef erased mut (tyArray (tyInt w8) 512)) valueLocal ∷
-      local (tyRef erased mut (tyArray (tyInt w16) 512)) valueLocal ∷
+      local (tyRef erased mut (tyArray (tyInt w8) 256)) valueLocal ∷
+      local (tyRef erased mut (tyArray (tyInt w8) 8192)) valueLocal ∷
+      local (tyRef erased mut (tyArray (tyInt w16) 8192)) valueLocal ∷
       local (tyRef erased mut (tyInt w32)) valueLocal ∷
       local (tyRef erased mut (tyInt w32)) valueLocal ∷ [];
   body =
@@ -104,7 +104,7 @@ abbrev pub core-signature : Signature
 core-signature = record {
   lifetimes = 1;
   outlives = [];
-  params = RefMutOf (0 ∷ []) tt (plain (λ κs. Array u8 64)) (λ κs. tt) ∷ RefMutOf (0 ∷ []) tt (plain (λ κs. Array u8 512)) (λ κs. tt) ∷ RefMutOf (0 ∷ []) tt (plain (λ κs. Array u16 512)) (λ κs. tt) ∷ RefMutOf (0 ∷ []) tt (plain (λ κs. u32)) (λ κs. tt) ∷ RefMutOf (0 ∷ []) tt (plain (λ κs. u32)) (λ κs. tt) ∷ (plain (λ κs. u32)) ∷ [];
+  params = RefMutOf (0 ∷ []) tt (plain (λ κs. Array u8 256)) (λ κs. tt) ∷ RefMutOf (0 ∷ []) tt (plain (λ κs. Array u8 8192)) (λ κs. tt) ∷ RefMutOf (0 ∷ []) tt (plain (λ κs. Array u16 8192)) (λ κs. tt) ∷ RefMutOf (0 ∷ []) tt (plain (λ κs. u32)) (λ κs. tt) ∷ RefMutOf (0 ∷ []) tt (plain (λ κs. u32)) (λ κs. tt) ∷ (plain (λ κs. u32)) ∷ [];
   result = plain (λ κs. Res.the-row);
 }
 

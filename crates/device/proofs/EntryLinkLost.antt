@@ -73,7 +73,7 @@ function g = record {
   locals =
       local (Res′.mir) valueLocal ∷
       local (tyRef (named 0) mut (pointee (T.the-row .written))) valueLocal ∷
-      local (tyRef erased mut (tyArray (tyInt w32) 64)) valueLocal ∷
+      local (tyRef erased mut (tyArray (tyInt w32) 256)) valueLocal ∷
       local (tyRef erased mut (tyInt w32)) valueLocal ∷
       local (tyRef erased mut (tyInt w32)) valueLocal ∷ [];
   body =
@@ -95,7 +95,7 @@ abbrev pub core-signature : Signature
 core-signature = record {
   lifetimes = 1;
   outlives = [];
-  params = RefMutOf (0 ∷ []) tt (plain (λ κs. Array u32 64)) (λ κs. tt) ∷ RefMutOf (0 ∷ []) tt (plain (λ κs. u32)) (λ κs. tt) ∷ RefMutOf (0 ∷ []) tt (plain (λ κs. u32)) (λ κs. tt) ∷ [];
+  params = RefMutOf (0 ∷ []) tt (plain (λ κs. Array u32 256)) (λ κs. tt) ∷ RefMutOf (0 ∷ []) tt (plain (λ κs. u32)) (λ κs. tt) ∷ RefMutOf (0 ∷ []) tt (plain (λ κs. u32)) (λ κs. tt) ∷ [];
   result = plain (λ κs. Res.the-row);
 }
 

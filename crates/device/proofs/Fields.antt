@@ -32,25 +32,25 @@ use Rattle.device.proofs.Device.Laws as T′
 
 -- the fields
 abbrev pub m-ids : Member
-m-ids = record { row = Array u32 64; ty = tyArray (tyInt w32) 64 }
+m-ids = record { row = Array u32 256; ty = tyArray (tyInt w32) 256 }
 
 abbrev pub m-asked : Member
-m-asked = record { row = Array u64 64; ty = tyArray (tyInt w64) 64 }
+m-asked = record { row = Array u64 256; ty = tyArray (tyInt w64) 256 }
 
 abbrev pub m-callers : Member
-m-callers = record { row = Array u8 64; ty = tyArray (tyInt w8) 64 }
+m-callers = record { row = Array u8 256; ty = tyArray (tyInt w8) 256 }
 
 abbrev pub m-deadlines : Member
-m-deadlines = record { row = Array u64 64; ty = tyArray (tyInt w64) 64 }
+m-deadlines = record { row = Array u64 256; ty = tyArray (tyInt w64) 256 }
 
 abbrev pub m-counts : Member
-m-counts = record { row = Array u8 64; ty = tyArray (tyInt w8) 64 }
+m-counts = record { row = Array u8 256; ty = tyArray (tyInt w8) 256 }
 
 abbrev pub m-clients : Member
-m-clients = record { row = Array u8 512; ty = tyArray (tyInt w8) 512 }
+m-clients = record { row = Array u8 8192; ty = tyArray (tyInt w8) 8192 }
 
 abbrev pub m-originals : Member
-m-originals = record { row = Array u16 512; ty = tyArray (tyInt w16) 512 }
+m-originals = record { row = Array u16 8192; ty = tyArray (tyInt w16) 8192 }
 
 abbrev pub m-top : Member
 m-top = record { row = u32; ty = tyInt w32 }

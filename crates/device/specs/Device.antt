@@ -59,4 +59,4 @@ zeros =
 
 -- how many bytes a device has
 abbrev pub stateSize : ℕ
-stateSize = 5032
+stateSize = 32296

@@ -22,9 +22,9 @@ pub struct Device {
     pub tags: [u64; laws::MOST_TAGS],
 }
 
-// The fields' sizes in order, each at a multiple of its element's: 256 + 512 + 64 + 512 + 64 + 512 + 1024 bytes of columns, then at 2944
-// top, cursor and 2 unused bytes, attached, 4 unused, clock at 2960, timeout, join, tagged, 4 unused, and 2048 bytes of tags at 2984.
-const STATE_SIZE: usize = 5032;
+// The fields' sizes in order, each at a multiple of its element's: 1024 + 2048 + 256 + 2048 + 256 + 8192 + 16384 bytes of columns, then at 30208
+// top, cursor and 2 unused bytes, attached, 4 unused, clock at 30224, timeout, join, tagged, 4 unused, and 2048 bytes of tags at 30248.
+const STATE_SIZE: usize = 32296;
 
 // How many bytes a device has.
 pub fn size() -> usize

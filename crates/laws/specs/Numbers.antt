@@ -1,7 +1,7 @@
--- The sizes, bounds and codes of document 01, once and by name. The code has them as constants of the same names; only the number of ids, which 16 bits do not hold, is the last
--- id there, and digits to a register are a word of the definitions alone. A refusal's number is its name in document 01, and a width that of a kind of tag: they stand where they
--- are given. Refusals: the rows of machine/specs/Refusals.antt, proxy/specs/Gates.antt for those told before a frame is looked into and for a fresh state, and the reports of the
--- calls that need no device.
+-- The sizes, bounds and codes of document 01, as document 02 changed them, once and by name. The code has them as constants of the same names; only the number of ids, which 16
+-- bits do not hold, is the last id there, and the distance of ids and digits to a register are words of the definitions alone. A refusal's number is its name in document 01, and a
+-- width that of a kind of tag: they stand where they are given. Refusals: the rows of machine/specs/Refusals.antt, proxy/specs/Gates.antt for those told before a frame is looked
+-- into and for a fresh state, and the reports of the calls that need no device.
 -- Assumes nothing.
 use Prim.Native.Nat.{ℕ, _*_, _-_, _^_}
 
@@ -10,10 +10,10 @@ abbrev pub clients : ℕ
 clients = 32
 
 abbrev pub places : ℕ
-places = 64
+places = 256
 
 abbrev pub room : ℕ
-room = 8
+room = 32
 
 abbrev pub partyPlaces : ℕ
 partyPlaces = places * room
@@ -52,6 +52,10 @@ ids = 65536
 
 abbrev pub addresses : ℕ
 addresses = 65536
+
+-- between two issues of one id at least so many others are issued
+abbrev pub distance : ℕ
+distance = 65280
 
 -- "A frame": the bytes that the length field does not count, those before the PDU, and what the field may say
 abbrev pub uncounted : ℕ

@@ -5,9 +5,9 @@ ghost use Prim.Native.Nat.{_<_};
 // Document 01's numbers: specs/Numbers.antt has each under the same name, and how many ids there are in place of the last.
 pub const CLIENTS: u32 = 32;
 
-pub const PLACES: usize = 64;
+pub const PLACES: usize = 256;
 
-pub const ROOM: usize = 8;
+pub const ROOM: usize = 32;
 
 pub const PARTY_PLACES: usize = PLACES * ROOM;
 

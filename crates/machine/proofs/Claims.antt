@@ -11,7 +11,7 @@ use mathlib.Core.List.{List, [], _∷_, _++_, List·Memᴰ}
 use native.Mathlib.Omega.{arith}
 use lib.ListN.{length, getD}
 use borrow.Author.Tests.{eqb-true}
-use Rattle.laws.specs.Numbers.{places, ids, latestTime}
+use Rattle.laws.specs.Numbers.{places, ids, distance, latestTime}
 use Rattle.laws.specs.Lists.{filter, lastGiven, lastOf}
 use Rattle.laws.specs.Bits.{has}
 use Rattle.laws.proofs.BitLaws.{has-none}
@@ -30,11 +30,12 @@ use Rattle.rewrite.specs.Rewriting.{ownIn}
 use Rattle.rewrite.specs.Plain.{Whole}
 use Rattle.book.specs.Book.{Party, Live, Good, NothingDue, at}
 use Rattle.book.specs.Book.Event.{issued, left, lost}
-use Rattle.book.specs.Ledger.{Ticket, Anew, under, partiesOf}
+use Rattle.book.specs.Ledger.{Ticket, Apart, Differing, Anew, under, partiesOf}
 use Rattle.book.specs.Traced.{issuedId, behind, Outstanding, Holds}
 use Rattle.book.specs.Desk.{AllLive}
 use Rattle.book.specs.Machine.{Accounted, history}
-use Rattle.book.proofs.History.{issues-differ, always-sound, after-on, after-one, history-on}
+use Rattle.book.proofs.History.{always-sound, ids-come-round-late, after-on, after-one, history-on}
+use Rattle.book.proofs.SpacedLaws.{apart-exactly}
 use Rattle.book.proofs.TracedLaws.{traced}
 use Rattle.book.proofs.LedgerLaws.{successor, successor-of-lost}
 use Rattle.machine.specs.Machine.{Machine, Note, made, rules, settings, clocked}
@@ -78,6 +79,10 @@ the-report-tells-the-answer = numbers-tell
 pub who-asked-what : (c : ℕ) (f : List ℕ) → AskedBy c f (partyOf c f) (wanted f)
 who-asked-what = kept-as-asked
 
+-- The distance of ids is the book's, of these numbers of ids and places.
+pub the-distance : distance ≡ rules .ids - rules .places
+the-distance = refl
+
 -- Link lost is never refused.
 pub never-refused : (m : Machine) → refusal m linkLost ≡ 0
 unfolding rows lowest
@@ -109,13 +114,13 @@ module _ (v : Value) (xs : List Call) where
   pub live-ids-differ : (i j : ℕ) (d e : Live What Note) → at (afterCalls v xs .book) i ≡ some d → at (afterCalls v xs .book) j ≡ some e → d .id ≡ e .id → i ≡ j
   live-ids-differ = good .differ
 
-  -- Tender 3: an id is not issued again until at least 65,472 others were.
-  pub an-id-comes-round-late : (a c : ℕ) → a < c → c < length (ledgerOf v xs .issues) → getD (ledgerOf v xs .issues) a 0 ≡ getD (ledgerOf v xs .issues) c 0 → a + (ids - places) < c
-  an-id-comes-round-late = accounted v xs .apart
+  -- Tender 3, with #104's number: an id is not issued again until at least 65,280 others were.
+  pub an-id-comes-round-late : Apart distance (ledgerOf v xs .issues)
+  an-id-comes-round-late = ids-come-round-late (product v) xs
 
   -- and those others are of different ids
-  pub the-others-differ : (i j : ℕ) → i < j → j ≤ i + (ids - places) → j < length (ledgerOf v xs .issues) → getD (ledgerOf v xs .issues) i 0 ≡ getD (ledgerOf v xs .issues) j 0 → ⊥
-  the-others-differ = issues-differ rules (afterCalls v xs .book) (toldBy v xs) (ledgerOf v xs) (accounted v xs)
+  pub the-others-differ : Differing distance (ledgerOf v xs .issues)
+  the-others-differ = apart-exactly distance (ledgerOf v xs .issues) .0 an-id-comes-round-late
 
   -- Tender 3: an accepted request stands in the party places afterwards, as the latest party of a live entry that asks what it asks.
   pub the-accepted-stand : (c t : ℕ) (f o : List ℕ) (id : ℕ)
@@ -142,7 +147,7 @@ module _ (v : Value) (xs : List Call) where
       → Excepts (afterCalls v xs) t f o (outcome (afterCalls v xs) (request c t f o))
   an-exception-is-this c t f o = exception-is (afterCalls v xs) c t f o good
 
-  -- Tender 3: the proxy itself gives exception 04 exactly when a legal request can join nothing and 64 are live.
+  -- Tender 3, with #104's number: the proxy itself gives exception 04 exactly when a legal request can join nothing and 256 are live.
   pub exception-04-exactly : (c t : ℕ) (f o : List ℕ)
       → (outcome (afterCalls v xs) (request c t f o) .says ≡ answer.Excepted 4)
       ↔ ((refusal (afterCalls v xs) (request c t f o) ≡ 0) × (legal (settings (afterCalls v xs)) f ≡ true) × NoneToJoin (afterCalls v xs) t f × AllLive rules (afterCalls v xs .book))

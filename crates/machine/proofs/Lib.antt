@@ -1,4 +1,3 @@
-pub mod Examples
 pub mod SpelledLaws
 pub mod JoinLaws
 pub mod LowestLaws

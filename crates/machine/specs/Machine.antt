@@ -15,7 +15,7 @@ Note = Unit {0}
 abbrev pub Live-book : Type 0
 Live-book = Book Value What Note
 
--- 65,536 ids, 64 places, 8 parties to a place; a request waits for the timeout
+-- 65,536 ids, 256 places, 32 parties to a place; a request waits for the timeout
 abbrev pub rules : Rules Value
 rules = record { ids = ids; places = places; room = room; wait = λ v. v .timeout; fewer = lit< tt; roomy = lit< tt }
 

@@ -42,7 +42,7 @@ sameRead Other v = false
 unfoldable pub joins : Value → What → What → Bool
 joins s w v = eqb (s .join) 1 && (eqb (w .unit) (v .unit) && (eqb (w .function) (v .function) && sameRead (w .asked) (v .asked)))
 
--- where a request would join: the smallest proxy id of those that it may join; and the place for an issue, if fewer than 64 are live
+-- where a request would join: the smallest proxy id of those that it may join; and the place for an issue, if fewer than 256 are live
 abbrev pub joiningPlace : Machine → List ℕ → ℕ
 joiningPlace m f = joinPlace rules (m .book) (joins (settings m) (wanted f))
 

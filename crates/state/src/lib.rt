@@ -18,7 +18,7 @@ pub struct Place {
     pub count: u8,
 }
 
-// One device's state. The parties of place k stand from k times 8 on; no place from `top` on is live; tags are words, the first `tagged` of them count.
+// One device's state. The parties of place k stand from k times ROOM on; no place from `top` on is live; tags are words, the first `tagged` of them count.
 pub struct State {
     pub entries: [Place; laws::PLACES],
     pub clients: [u8; laws::PARTY_PLACES],

@@ -16,7 +16,7 @@ use Rattle.book.specs.Book.{Party, Live, book, entry}
 use Rattle.machine.specs.Machine.{Note, Live-book}
 
 -- 0 in `ids` is a free place, else the proxy id + 1; `asked` is what was asked as one word; `callers` is the client that it was issued for; the parties of place k
--- stand from k × 8 on, `counts` of them; no place from `top` on is live
+-- stand from k × room on, `counts` of them; no place from `top` on is live
 pub record Columns : Type 0 where
   pub ids : List ℕ
   pub asked : List ℕ

@@ -8,7 +8,7 @@ use mathlib.Core.Option.{some, Option·getD}
 use mathlib.Core.List.{List, [], _∷_, _++_, map-append, append-assoc, List·Memᴰ}
 use native.Mathlib.Omega.{arith}
 use lib.ListN.{length, getD}
-use Rattle.laws.specs.Numbers.{ids, places, latestTime, exceptionFrame}
+use Rattle.laws.specs.Numbers.{ids, places, distance, latestTime, exceptionFrame}
 use Rattle.laws.specs.Lists.{lastGiven, lastOf}
 use Rattle.laws.specs.Bits.{has}
 use Rattle.bcd.specs.Bcd.{inRange}
@@ -25,7 +25,7 @@ use Rattle.rewrite.specs.Rewriting.{ownIn}
 use Rattle.rewrite.specs.Plain.{Whole}
 use Rattle.book.specs.Book.{Party}
 use Rattle.book.specs.Book.Event.{issued}
-use Rattle.book.specs.Ledger.{Ticket, Anew, partiesOf}
+use Rattle.book.specs.Ledger.{Ticket, Apart, Differing, Anew, partiesOf}
 use Rattle.book.specs.Traced.{issuedId, behind, Outstanding}
 use Rattle.book.specs.Desk.{AllLive}
 use Rattle.book.proofs.History.{always-sound}
@@ -178,7 +178,7 @@ module _ (from : Settings) {r : Report} {d d′ : Device} (ls : List Line) (fres
       rw (left x s, lived .after)
       (claim.the-accepted-stand v xs c t f o (saw .report .id) (⊎-elim (λ e. rw (tells .issued e) refl) (λ e. rw (tells .joined e) refl) w))
 
-  -- Tender 3: the proxy itself gives exception 04 exactly when a legal request can join nothing and 64 are live.
+  -- Tender 3, with #104's number: the proxy itself gives exception 04 exactly when a legal request can join nothing and 256 are live.
   pub exception-04-exactly : (c t : ℕ) (f o : List ℕ) {saw : Seen} {d″ : Device} → Called d′ (request c t f o) saw d″
       → ((saw .report .outcome ≡ isException) × (saw .report .code ≡ 4))
       ↔ ((saw .report .refusal ≡ 0) × (legal (inForce from) f ≡ true) × NoneToJoin (machineIn d′) t f × AllLive rules (machineIn d′ .book))
@@ -295,12 +295,12 @@ module _ (from : Settings) {r : Report} {d d′ : Device} (ls : List Line) (fres
       let live = place-live d′ (lived .next) in
       claim.live-ids-differ v xs i j _ _ (rw (lived .after) at (live i n)) (rw (lived .after) at (live j (rw e at n))) (ap (λ (k : ℕ). k - 1) e)
 
-  -- Tender 3: an id is not issued again until at least 65,472 others were,
-  pub an-id-comes-round-late : let l = ledgerIn (inForce from) ls in (a c : ℕ) → a < c → c < length (l .issues) → getD (l .issues) a 0 ≡ getD (l .issues) c 0 → a + (ids - places) < c
+  -- Tender 3, with #104's number: an id is not issued again until at least 65,280 others were,
+  pub an-id-comes-round-late : Apart distance (ledgerIn (inForce from) ls .issues)
   an-id-comes-round-late = rw (lived .told) (claim.an-id-comes-round-late v xs)
 
   -- and those others are of different ids
-  pub the-others-differ : let l = ledgerIn (inForce from) ls in (i j : ℕ) → i < j → j ≤ i + (ids - places) → j < length (l .issues) → getD (l .issues) i 0 ≡ getD (l .issues) j 0 → ⊥
+  pub the-others-differ : Differing distance (ledgerIn (inForce from) ls .issues)
   the-others-differ = rw (lived .told) (claim.the-others-differ v xs)
 
   -- Document 01: link lost returns the former set, client by client those that were attached, and nobody is attached after it.

@@ -1,9 +1,9 @@
 -- Document 01's examples P1 to P12: one table, and the one claim that the definitions give what it says, shown by computing.
 -- Assumes nothing.
 use Prim.Native.Nat.{ℕ}
-use mathlib.Core.Path.{_≡_, refl}
-use mathlib.Core.List.{List, [], _∷_, map, flatMap}
-use lib.ListN.{replicate}
+use mathlib.Core.Path.{_≡_, refl, ap₂}
+use mathlib.Core.List.{List, [], _∷_, _++_, map, flatMap}
+use lib.ListN.{replicate, take, drop}
 use Rattle.laws.specs.Lists.{tab, filter}
 use Rattle.laws.specs.Search.{best, first}
 use Rattle.laws.specs.Bits.{with}
@@ -42,7 +42,7 @@ abbrev pub buffer : List ℕ
 buffer = replicate 260 170
 
 abbrev pub numbers : List ℕ
-numbers = replicate 16 170
+numbers = replicate 64 170
 
 -- what the last of some calls says, writes and lists
 pub record Given : Type 0 where
@@ -78,7 +78,12 @@ whole e =
     let x = lastOf (attach 3) (e .calls) in
     given (e .comes .says) (over (e .comes .frame) (outOf x)) (over (e .comes .list) (listOf x))
 
+-- what it comes to by the definitions, all of which are computed with where this one is
 unfoldable pub shown : Example → Given
+unfolding played outcome granted rows lowest admitted served exhausted excepted joinedTo issuedTo sameRead joins answered answeredTo ticked expiredTo outOf listOf
+    forwarded returned returnedBy rewriting partials values rewrittenFrom laidBy verdict turned registersAt laidAt filter tab best first with
+    digits value below packed unpacked decimal encodedDigits decodedDigits registers encoded decoded wordsOf numberOf kindOf
+    classOf badFunction badLength badValue badAddress askedBy faultOf shaped answering misframed exception liveIn flatMap
 shown e =
     let d = played (made site) ready (attach 3 ∷ attach 5 ∷ (e .calls)) in
     given (d .says) (d .written) (d .listed)
@@ -113,9 +118,21 @@ examples =
     ∷ example (request 3 0 (18 ∷ 52 ∷ 0 ∷ 0 ∷ 0 ∷ 6 ∷ 1 ∷ 3 ∷ 4 ∷ 0 ∷ 0 ∷ 1 ∷ []) buffer ∷ request 5 0 (0 ∷ 7 ∷ 0 ∷ 0 ∷ 0 ∷ 6 ∷ 1 ∷ 3 ∷ 4 ∷ 0 ∷ 0 ∷ 1 ∷ []) buffer ∷ tick 2999 buffer numbers ∷ []) (NothingDue) ([]) ([])
     ∷ []
 
+abbrev Hold : List Example → Type 0
+Hold es = map shown es ≡ map whole es
+
+-- in three parts, each of which is computed in less memory than the whole
+first-four : Hold (take 4 examples)
+unfolding shown lastOf
+first-four = refl
+
+next-four : Hold (take 4 (drop 4 examples))
+unfolding shown lastOf
+next-four = refl
+
+last-five : Hold (drop 8 examples)
+unfolding shown lastOf
+last-five = refl
+
 pub examples-hold : map shown examples ≡ map whole examples
-unfolding shown lastOf played outcome granted rows lowest admitted served exhausted excepted joinedTo issuedTo sameRead joins answered answeredTo ticked expiredTo outOf listOf
-    forwarded returned returnedBy rewriting partials values rewrittenFrom laidBy verdict turned registersAt laidAt filter tab best first with
-    digits value below packed unpacked decimal encodedDigits decodedDigits registers encoded decoded wordsOf numberOf kindOf
-    classOf badFunction badLength badValue badAddress askedBy faultOf shaped answering misframed exception liveIn flatMap
-examples-hold = refl
+examples-hold = ap₂ _++_ first-four (ap₂ _++_ next-four last-five)
