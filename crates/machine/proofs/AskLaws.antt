@@ -19,6 +19,7 @@ use Rattle.wire.proofs.FrameLaws.{framed, length-laid}
 use Rattle.settings.specs.Grammar.{Tag}
 use Rattle.pdu.specs.Requests.{askedOf, faultOf, checkedOf, legal}
 use Rattle.pdu.specs.Replies.{What}
+use Rattle.pdu.specs.declared.Table.the-variants.{Bits, Registers}
 use Rattle.pdu.specs.declared.Asked.{Asked}
 use Rattle.pdu.specs.declared.Asked.the-variants.{Read, SingleWrite, MultipleWrite, Other}
 use Rattle.pdu.specs.declared.Checked.the-variants as check
@@ -47,10 +48,10 @@ use Rattle.machine.proofs.OutcomeLaws.{clocked-at, not-refused}
 use Rattle.machine.proofs.RequestLaws.Comes.{faulty, joining, full, issuing}
 use Rattle.machine.proofs.RequestLaws.{NoneToJoin, Comes, comes, request-passes, fault-checked}
 
--- which registers a write carries: from which byte on, of which addresses
+-- which registers a write carries: from which byte on, of which addresses; a write of coils carries none
 pub data Carries : Asked → (base start quantity : ℕ) → Type 0 where
-  single : {a : ℕ} → Carries (SingleWrite a) 10 a 1
-  multiple : {s q : ℕ} → Carries (MultipleWrite s q) 13 s q
+  single : {a v : ℕ} → Carries (SingleWrite Registers a v) 10 a 1
+  multiple : {s q : ℕ} → Carries (MultipleWrite Registers s q) 13 s q
 
 -- the registers from byte base on, of the addresses from start on, stand in w as the definition rewrites them, every other byte behind the id as in f; and what is counted
 pub record Rewrites (tags : List Tag) (f w : List ℕ) (partial value base start quantity : ℕ) : Type 0 where
@@ -171,9 +172,11 @@ carried multiple tags f w r h = run-rewritten _ _ _ tags f w (omega arith) (omeg
 passed-on : (a : Asked) → ((base start quantity : ℕ) → Carries a base start quantity → ⊥) → (tags : List Tag) (f : List ℕ)
     → (forwarded tags a f .bytes ≡ f) × (forwarded tags a f .partial ≡ 0) × (forwarded tags a f .value ≡ 0)
 unfolding forwarded
-passed-on (Read s q) n tags f = (refl, refl, refl)
-passed-on (SingleWrite a) n tags f = absurd (n _ _ _ single)
-passed-on (MultipleWrite s q) n tags f = absurd (n _ _ _ multiple)
+passed-on (Read t s q) n tags f = (refl, refl, refl)
+passed-on (SingleWrite Bits a v) n tags f = (refl, refl, refl)
+passed-on (SingleWrite Registers a v) n tags f = absurd (n _ _ _ single)
+passed-on (MultipleWrite Bits s q) n tags f = (refl, refl, refl)
+passed-on (MultipleWrite Registers s q) n tags f = absurd (n _ _ _ multiple)
 passed-on Other n tags f = (refl, refl, refl)
 
 -- f's own bytes 0, 1 and 7 in an exception frame

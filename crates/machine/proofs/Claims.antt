@@ -24,6 +24,7 @@ use Rattle.settings.proofs.TagLaws.{valid-ascends}
 use Rattle.pdu.specs.Requests.{legal}
 use Rattle.pdu.specs.Replies.{What, excepts}
 use Rattle.pdu.specs.declared.ProxyId.{ProxyId}
+use Rattle.pdu.specs.declared.Table.the-variants.{Registers}
 use Rattle.pdu.specs.declared.Asked.the-variants.{Read}
 use Rattle.rewrite.specs.Registers.{registersAt}
 use Rattle.rewrite.specs.Rewriting.{ownIn}
@@ -264,7 +265,7 @@ pub a-value-comes-back : (v : Value) → valid v ≡ true → (tag : Tag) → Li
     → (base s q : ℕ) → Carries (asking f .asked) base s q → Whole s q tag → inRange (kindOf tag) (numberOf (ownIn s (registersAt base q f) tag)) ≡ true
     → (ys : List Call) (t′ : ℕ) (g o′ l : List ℕ) → ((k : ℕ) → getD g k 0 < 256)
     → (a : Answers (afterCalls v ys) g o′ l (outcome (afterCalls v ys) (reply t′ g o′ l))) → excepts (a .entry .what .function) g ≡ false
-    → (s′ q′ : ℕ) → a .entry .what .asked ≡ Read s′ q′ → Whole s′ q′ tag
+    → (s′ q′ : ℕ) → a .entry .what .asked ≡ Read Registers s′ q′ → Whole s′ q′ tag
     → ownIn s′ (registersAt 9 q′ g) tag ≡ ownIn s (registersAt base q (outcome (afterCalls v xs) (request c t f o) .written)) tag
     → ownIn s′ (registersAt 9 q′ (outcome (afterCalls v ys) (reply t′ g o′ l) .written)) tag ≡ ownIn s (registersAt base q f) tag
 a-value-comes-back v right tag m xs c t f o bytes i n p w e base s q carries whole range ys =
