@@ -11,8 +11,9 @@ ghost use Rattle.pdu.specs.Requests.{checkedBy, checkedOf};
 use pdu::Asked;
 use pdu::Checked;
 use pdu::Class;
+use pdu::Table;
 
-// Where 16's byte count stands in its request.
+// Where the byte count stands in a request 15 or 16.
 const BYTE_COUNT_AT: usize = 12;
 
 // Whether a range ends past the last address.
@@ -35,9 +36,9 @@ fn judge(misvalued: bool, misranged: bool, asked: Asked) -> Checked
     Checked::Legal(asked)
 }
 
-// Request 03 or 04.
-fn check_read(frame: &[u8]) -> Checked
-    ensures { λ r. ⌜ r ≡ checkedBy Class.Reads (now (frame .entry)) ⌝ }
+// Requests 01 to 04.
+fn check_read(table: Table, frame: &[u8]) -> Checked
+    ensures { λ r. ⌜ r ≡ checkedBy (Class.Reads table) (now (frame .entry)) ⌝ }
 {
     if wire::pdu_size(frame) != laws::SHORT_PDU {
         return Checked::BadLength;
@@ -45,27 +46,43 @@ fn check_read(frame: &[u8]) -> Checked
     let start = wire::pair_at(frame, pdu::START_AT);
     let quantity = wire::pair_at(frame, pdu::QUANTITY_AT);
     judge(
-        (quantity == 0) | (laws::MOST_READ < quantity),
+        (quantity == 0) | (pdu::most_read_of(table) < quantity),
         ends_past(start, quantity),
-        Asked::Read { start, quantity },
+        Asked::Read {
+            table,
+            start,
+            quantity,
+        },
     )
 }
 
-// Request 06: any address and any value are legal.
-fn check_single_write(frame: &[u8]) -> Checked
-    ensures { λ r. ⌜ r ≡ checkedBy Class.WritesOne (now (frame .entry)) ⌝ }
+// Requests 05 and 06: any address is legal; a coil is written with 0x0000 or 0xFF00, a register with any value.
+fn check_single_write(table: Table, frame: &[u8]) -> Checked
+    ensures { λ r. ⌜ r ≡ checkedBy (Class.WritesOne table) (now (frame .entry)) ⌝ }
 {
     if wire::pdu_size(frame) != laws::SHORT_PDU {
         return Checked::BadLength;
     }
-    Checked::Legal(Asked::SingleWrite {
-        address: wire::pair_at(frame, pdu::START_AT),
-    })
+    let address = wire::pair_at(frame, pdu::START_AT);
+    let value = wire::pair_at(frame, pdu::VALUE_AT);
+    let asked = Asked::SingleWrite {
+        table,
+        address,
+        value,
+    };
+    match table {
+        Table::Bits => judge(
+            !((value == laws::COIL_OFF) | (value == laws::COIL_ON)),
+            false,
+            asked,
+        ),
+        Table::Registers => Checked::Legal(asked),
+    }
 }
 
-// Request 16: the byte count is held against the PDU's size for refusal 6, and against the quantity for exception 03.
-fn check_multiple_write(frame: &[u8]) -> Checked
-    ensures { λ r. ⌜ r ≡ checkedBy Class.WritesMany (now (frame .entry)) ⌝ }
+// Requests 15 and 16: the byte count is held against the PDU's size for refusal 6, and against the quantity for exception 03.
+fn check_multiple_write(table: Table, frame: &[u8]) -> Checked
+    ensures { λ r. ⌜ r ≡ checkedBy (Class.WritesMany table) (now (frame .entry)) ⌝ }
 {
     let size = wire::pdu_size(frame);
     let count = laws::wide(wire::byte_at(frame, BYTE_COUNT_AT));
@@ -74,10 +91,15 @@ fn check_multiple_write(frame: &[u8]) -> Checked
     }
     let start = wire::pair_at(frame, pdu::START_AT);
     let quantity = wire::pair_at(frame, pdu::QUANTITY_AT);
+    let bytes = pdu::bytes_for(table, quantity);
     judge(
-        (quantity == 0) | ((laws::MOST_WRITTEN < quantity) | (count != 2 * quantity as usize)),
+        (quantity == 0) | ((pdu::most_written_of(table) < quantity) | (count != bytes)),
         ends_past(start, quantity),
-        Asked::MultipleWrite { start, quantity },
+        Asked::MultipleWrite {
+            table,
+            start,
+            quantity,
+        },
     )
 }
 
@@ -90,9 +112,9 @@ pub fn check_request(frame: &[u8]) -> Checked
         return Checked::BadFunction;
     }
     match pdu::class_of(function) {
-        Class::Reads => check_read(frame),
-        Class::WritesOne => check_single_write(frame),
-        Class::WritesMany => check_multiple_write(frame),
+        Class::Reads(table) => check_read(table, frame),
+        Class::WritesOne(table) => check_single_write(table, frame),
+        Class::WritesMany(table) => check_multiple_write(table, frame),
         Class::Others => Checked::Legal(Asked::Other),
     }
 }

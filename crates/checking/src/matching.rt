@@ -1,10 +1,25 @@
 // The check of a reply: whether it answers what was asked.
 ghost use mathlib.Core.Path.{_≡_};
+ghost use mathlib.Core.Bool.{_&&_};
+ghost use lib.Dec.{eqb};
+ghost use Rattle.laws.specs.Numbers.{shortPdu};
+ghost use Rattle.wire.specs.Frame.{pduSize};
+ghost use Rattle.pdu.specs.Requests.{startOf, quantityOf};
 ghost use Rattle.pdu.specs.Replies.{what, shaped, excepts, answering};
 use pdu::Asked;
+use pdu::Table;
 
-// Where the byte count stands in a reply to 03 and 04.
+// Where the byte count stands in a reply to 01 to 04.
 const REPLY_COUNT_AT: usize = 8;
+
+// Whether a PDU has 5 bytes and these two numbers in it.
+fn is_short(frame: &[u8], first: u16, second: u16) -> bool
+    ensures { λ r. ⌜ r ≡ (eqb (pduSize (now (frame .entry))) shortPdu && (eqb (startOf (now (frame .entry))) first && eqb (quantityOf (now (frame .entry))) second)) ⌝ }
+{
+    (wire::pdu_size(frame) == laws::SHORT_PDU)
+        & ((wire::pair_at(frame, pdu::START_AT) == first)
+            & (wire::pair_at(frame, pdu::QUANTITY_AT) == second))
+}
 
 // Whether a reply of the same function has the shape that what was asked calls for.
 fn is_shaped(asked: Asked, frame: &[u8]) -> bool
@@ -12,18 +27,29 @@ fn is_shaped(asked: Asked, frame: &[u8]) -> bool
 {
     let size = wire::pdu_size(frame);
     match asked {
-        Asked::Read { start: _, quantity } => {
-            let bytes = 2 * quantity as usize;
+        Asked::Read {
+            table,
+            start: _,
+            quantity,
+        } => {
+            let bytes = pdu::bytes_for(table, quantity);
             (laws::wide(wire::byte_at(frame, REPLY_COUNT_AT)) == bytes) & (size == 2 + bytes)
         }
-        Asked::SingleWrite { address } => {
-            (size == laws::SHORT_PDU) & (wire::pair_at(frame, pdu::START_AT) == address)
-        }
-        Asked::MultipleWrite { start, quantity } => {
-            (size == laws::SHORT_PDU)
-                & ((wire::pair_at(frame, pdu::START_AT) == start)
-                    & (wire::pair_at(frame, pdu::QUANTITY_AT) == quantity))
-        }
+        Asked::SingleWrite {
+            table,
+            address,
+            value,
+        } => match table {
+            Table::Bits => is_short(frame, address, value),
+            Table::Registers => {
+                (size == laws::SHORT_PDU) & (wire::pair_at(frame, pdu::START_AT) == address)
+            }
+        },
+        Asked::MultipleWrite {
+            table: _,
+            start,
+            quantity,
+        } => is_short(frame, start, quantity),
         Asked::Other => true,
     }
 }

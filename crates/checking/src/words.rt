@@ -20,9 +20,21 @@ fn kept_of(asked: Asked) -> u64
     ensures { λ r. ⌜ (r ≡ kept asked) × (r < 281474976710656) ⌝ }
 {
     match asked {
-        Asked::Read { start, quantity } => start as u64 * FIELDS + quantity as u64,
-        Asked::SingleWrite { address } => address as u64 * FIELDS,
-        Asked::MultipleWrite { start, quantity } => start as u64 * FIELDS + quantity as u64,
+        Asked::Read {
+            table: _,
+            start,
+            quantity,
+        } => start as u64 * FIELDS + quantity as u64,
+        Asked::SingleWrite {
+            table: _,
+            address,
+            value,
+        } => address as u64 * FIELDS + value as u64,
+        Asked::MultipleWrite {
+            table: _,
+            start,
+            quantity,
+        } => start as u64 * FIELDS + quantity as u64,
         Asked::Other => 0,
     }
 }
@@ -55,12 +67,18 @@ fn kept_in(class: Class, kept: u64) -> Asked
     let first = low_field(kept / FIELDS);
     let second = low_field(kept);
     match class {
-        Class::Reads => Asked::Read {
+        Class::Reads(table) => Asked::Read {
+            table,
             start: first,
             quantity: second,
         },
-        Class::WritesOne => Asked::SingleWrite { address: first },
-        Class::WritesMany => Asked::MultipleWrite {
+        Class::WritesOne(table) => Asked::SingleWrite {
+            table,
+            address: first,
+            value: second,
+        },
+        Class::WritesMany(table) => Asked::MultipleWrite {
+            table,
             start: first,
             quantity: second,
         },

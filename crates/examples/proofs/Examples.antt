@@ -24,7 +24,7 @@ use Rattle.machine.specs.Machine.{Machine, made}
 use Rattle.machine.specs.Calls.{Call, Outcome, outOf, listOf}
 use Rattle.machine.specs.Calls.Call.{attach, request, reply, tick}
 use Rattle.machine.specs.Refusals.{rows, lowest}
-use Rattle.machine.specs.Requests.{sameRead, joins, exhausted, excepted, joinedTo, issuedTo, served, admitted}
+use Rattle.machine.specs.Requests.{sameTable, sameRead, joins, exhausted, excepted, joinedTo, issuedTo, served, admitted}
 use Rattle.machine.specs.Replies.{answeredTo, answered, expiredTo, ticked}
 use Rattle.machine.specs.Outcomes.{granted, outcome}
 use Rattle.machine.specs.declared.Answer.{Answer}
@@ -80,7 +80,7 @@ whole e =
 
 -- what it comes to by the definitions, all of which are computed with where this one is
 unfoldable pub shown : Example → Given
-unfolding played outcome granted rows lowest admitted served exhausted excepted joinedTo issuedTo sameRead joins answered answeredTo ticked expiredTo outOf listOf
+unfolding played outcome granted rows lowest admitted served exhausted excepted joinedTo issuedTo sameTable sameRead joins answered answeredTo ticked expiredTo outOf listOf
     forwarded returned returnedBy rewriting partials values rewrittenFrom laidBy verdict turned registersAt laidAt filter tab best first with
     digits value below packed unpacked decimal encodedDigits decodedDigits registers encoded decoded wordsOf numberOf kindOf
     classOf badFunction badLength badValue badAddress askedBy faultOf shaped answering misframed exception liveIn flatMap

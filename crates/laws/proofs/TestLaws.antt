@@ -28,9 +28,12 @@ holds-or false t p q = (λ e. inr (q .0 e), λ w. ⊎-elim (λ x. absurd (false�
 pub holds-always : (true ≡ true) ↔ Unit {0}
 holds-always = (λ e. tt, λ u. refl)
 
--- a test fails exactly where two numbers are equal, where one is not below the other, where a number is not 0
+-- a test fails exactly where another holds, where two numbers are equal, where one is not below the other, where a number is not 0
+pub fails-not : {P : Type 0} (t : Bool) → (t ≡ true) ↔ P → (not t ≡ false) ↔ P
+fails-not t p = (λ e. p .0 (not-false t e), λ w. rw (p .1 w))
+
 pub fails-ne : (a b : ℕ) → (not (eqb a b) ≡ false) ↔ (a ≡ b)
-fails-ne a b = (λ e. eqb-true a b (not-false (eqb a b) e), λ e. rw (eq-eqb a b e))
+fails-ne a b = fails-not (eqb a b) (holds-eq a b)
 
 pub fails-lt : (a b : ℕ) → (ltb a b ≡ false) ↔ (b ≤ a)
 fails-lt a b = (ltb-false a b, le-ltb a b)

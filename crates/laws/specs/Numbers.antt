@@ -1,7 +1,7 @@
--- The sizes, bounds and codes of document 01, as document 02 changed them, once and by name. The code has them as constants of the same names; only the number of ids, which 16
--- bits do not hold, is the last id there, and the distance of ids and digits to a register are words of the definitions alone. A refusal's number is its name in document 01, and a
--- width that of a kind of tag: they stand where they are given. Refusals: the rows of machine/specs/Refusals.antt, proxy/specs/Gates.antt for those told before a frame is looked
--- into and for a fresh state, and the reports of the calls that need no device.
+-- The sizes, bounds and codes of documents 01 and 02, once and by name. The code has them as constants of the same names; only the number of ids, which 16 bits do not hold, is the last
+-- id there, and the distance of ids and digits to a register are words of the definitions alone. A refusal's number is its name in document 01, and a width that of a kind of tag: they stand where they
+-- are given. Refusals: the rows of machine/specs/Refusals.antt, proxy/specs/Gates.antt for those told before a frame is looked into and for a fresh state, and the reports of the
+-- calls that need no device.
 -- Assumes nothing.
 use Prim.Native.Nat.{ℕ, _*_, _-_, _^_}
 
@@ -70,15 +70,27 @@ leastLength = 2
 abbrev pub mostLength : ℕ
 mostLength = 254
 
--- "A request": the functions that are looked into, and how many registers each may ask for
+-- "A request" and request #101: the functions that are looked into, and how many registers or bits each may ask for
+abbrev pub readCoils : ℕ
+readCoils = 1
+
+abbrev pub readDiscrete : ℕ
+readDiscrete = 2
+
 abbrev pub readHolding : ℕ
 readHolding = 3
 
 abbrev pub readInput : ℕ
 readInput = 4
 
+abbrev pub writeCoil : ℕ
+writeCoil = 5
+
 abbrev pub writeSingle : ℕ
 writeSingle = 6
+
+abbrev pub writeCoils : ℕ
+writeCoils = 15
 
 abbrev pub writeMultiple : ℕ
 writeMultiple = 16
@@ -92,7 +104,20 @@ mostRead = 125
 abbrev pub mostWritten : ℕ
 mostWritten = 123
 
--- PDU lengths: of 03, 04 and 06, and of 16 before its registers; of an exception
+abbrev pub mostBitsRead : ℕ
+mostBitsRead = 2000
+
+abbrev pub mostBitsWritten : ℕ
+mostBitsWritten = 1968
+
+-- the values that one coil is written with
+abbrev pub coilOff : ℕ
+coilOff = 0
+
+abbrev pub coilOn : ℕ
+coilOn = 65280
+
+-- PDU lengths: of 01 to 06, and of 15 and 16 before their bits and registers; of an exception
 abbrev pub shortPdu : ℕ
 shortPdu = 5
 

@@ -1,8 +1,8 @@
-// Facts on lists, digits, bits, bytes and searches, each said once, and document 01's sizes, bounds and codes.
+// Facts on lists, digits, bits, bytes and searches, each said once, and the sizes, bounds and codes of documents 01 and 02.
 ghost use mathlib.Core.Path.{_≡_};
 ghost use Prim.Native.Nat.{_<_};
 
-// Document 01's numbers: specs/Numbers.antt has each under the same name, and how many ids there are in place of the last.
+// The documents' numbers: specs/Numbers.antt has each under the same name, and how many ids there are in place of the last.
 pub const CLIENTS: u32 = 32;
 
 pub const PLACES: usize = 256;
@@ -41,11 +41,19 @@ pub const LEAST_LENGTH: u16 = 2;
 
 pub const MOST_LENGTH: u16 = 254;
 
+pub const READ_COILS: u8 = 1;
+
+pub const READ_DISCRETE: u8 = 2;
+
 pub const READ_HOLDING: u8 = 3;
 
 pub const READ_INPUT: u8 = 4;
 
+pub const WRITE_COIL: u8 = 5;
+
 pub const WRITE_SINGLE: u8 = 6;
+
+pub const WRITE_COILS: u8 = 15;
 
 pub const WRITE_MULTIPLE: u8 = 16;
 
@@ -54,6 +62,14 @@ pub const LAST_FUNCTION: u8 = 127;
 pub const MOST_READ: u16 = 125;
 
 pub const MOST_WRITTEN: u16 = 123;
+
+pub const MOST_BITS_READ: u16 = 2000;
+
+pub const MOST_BITS_WRITTEN: u16 = 1968;
+
+pub const COIL_OFF: u16 = 0;
+
+pub const COIL_ON: u16 = 65280;
 
 pub const SHORT_PDU: usize = 5;
 

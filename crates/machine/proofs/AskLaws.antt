@@ -3,7 +3,7 @@
 use Prim.Native.Nat.{ℕ, zero, suc, _+_, _*_, _-_, _/_, _%_, _≤_, _<_}
 use mathlib.Core.Path.{_≡_, refl, ap, sym, _∙_}
 use mathlib.Core.Logic.{⊎-elim, _⊎_, inl, inr}
-use mathlib.Core.Bool.{true}
+use mathlib.Core.Bool.{Bool, true, false, true≢false}
 use mathlib.Core.Option.{some, none}
 use mathlib.Core.List.{List, [], _∷_, _++_}
 use native.Mathlib.Omega.{arith}
@@ -19,6 +19,7 @@ use Rattle.wire.proofs.FrameLaws.{framed, length-laid}
 use Rattle.settings.specs.Grammar.{Tag}
 use Rattle.pdu.specs.Requests.{askedOf, faultOf, checkedOf, legal}
 use Rattle.pdu.specs.Replies.{What}
+use Rattle.pdu.specs.declared.Table.the-variants.{Bits, Registers}
 use Rattle.pdu.specs.declared.Asked.{Asked}
 use Rattle.pdu.specs.declared.Asked.the-variants.{Read, SingleWrite, MultipleWrite, Other}
 use Rattle.pdu.specs.declared.Checked.the-variants as check
@@ -28,6 +29,8 @@ use Rattle.rewrite.specs.declared.Way.the-variants.{ToBcd}
 use Rattle.rewrite.specs.Registers.{registersAt}
 use Rattle.rewrite.specs.Rewriting.{partials, values, rewriting}
 use Rattle.rewrite.specs.Frames.{forwarded}
+use Rattle.rewrite.specs.Plain.{OfBits}
+use Rattle.rewrite.specs.Plain.OfBits.{coils-read, discrete-read, coil-written, coils-written}
 use Rattle.rewrite.proofs.FrameLaws.{length-forwarded, rewriting-other}
 use Rattle.book.specs.Book.{Live, Next, Good, at}
 use Rattle.book.specs.Desk.{freePlace, freeId}
@@ -39,7 +42,7 @@ use Rattle.machine.specs.Calls.Call.{request}
 use Rattle.machine.specs.Refusals.{refusal}
 use Rattle.machine.specs.Requests.{excepted, joinedTo, issuedTo}
 use Rattle.machine.specs.Outcomes.{outcome}
-use Rattle.machine.specs.Spelled.{asker, asking}
+use Rattle.machine.specs.Spelled.{asker, spelled, asking}
 use Rattle.machine.specs.declared.Answer.the-variants as answer
 use Rattle.machine.proofs.SpelledLaws.{party-spelled, asked-spelled, wanted-spelled}
 use Rattle.machine.proofs.JoinLaws.{MayJoin}
@@ -47,10 +50,36 @@ use Rattle.machine.proofs.OutcomeLaws.{clocked-at, not-refused}
 use Rattle.machine.proofs.RequestLaws.Comes.{faulty, joining, full, issuing}
 use Rattle.machine.proofs.RequestLaws.{NoneToJoin, Comes, comes, request-passes, fault-checked}
 
--- which registers a write carries: from which byte on, of which addresses
+-- which registers a write carries: from which byte on, of which addresses; a write of coils carries none
 pub data Carries : Asked → (base start quantity : ℕ) → Type 0 where
-  single : {a : ℕ} → Carries (SingleWrite a) 10 a 1
-  multiple : {s q : ℕ} → Carries (MultipleWrite s q) 13 s q
+  single : {a v : ℕ} → Carries (SingleWrite Registers a v) 10 a 1
+  multiple : {s q : ℕ} → Carries (MultipleWrite Registers s q) 13 s q
+
+-- what carries registers, and that 01, 02, 05 and 15 carry none
+carrying : Asked → Bool
+carrying (Read t s q) = false
+carrying (SingleWrite Bits a v) = false
+carrying (SingleWrite Registers a v) = true
+carrying (MultipleWrite Bits s q) = false
+carrying (MultipleWrite Registers s q) = true
+carrying Other = false
+
+carries-some : {a : Asked} {base start quantity : ℕ} → Carries a base start quantity → carrying a ≡ true
+unfolding carrying
+carries-some single = refl
+carries-some multiple = refl
+
+spelled-none : (n a b : ℕ) → OfBits n → carrying (spelled n a b) ≡ false
+unfolding carrying spelled
+spelled-none n a b coils-read = refl
+spelled-none n a b discrete-read = refl
+spelled-none n a b coil-written = refl
+spelled-none n a b coils-written = refl
+
+-- A request 01, 02, 05 or 15 carries no registers.
+pub bits-carry-none : (f : List ℕ) → OfBits (getD f 7 0) → (base start quantity : ℕ) → Carries (asking f .asked) base start quantity → ⊥
+unfolding asking
+bits-carry-none f b base start quantity c = true≢false (sym (carries-some c) ∙ spelled-none (getD f 7 0) _ _ b)
 
 -- the registers from byte base on, of the addresses from start on, stand in w as the definition rewrites them, every other byte behind the id as in f; and what is counted
 pub record Rewrites (tags : List Tag) (f w : List ℕ) (partial value base start quantity : ℕ) : Type 0 where
@@ -171,9 +200,11 @@ carried multiple tags f w r h = run-rewritten _ _ _ tags f w (omega arith) (omeg
 passed-on : (a : Asked) → ((base start quantity : ℕ) → Carries a base start quantity → ⊥) → (tags : List Tag) (f : List ℕ)
     → (forwarded tags a f .bytes ≡ f) × (forwarded tags a f .partial ≡ 0) × (forwarded tags a f .value ≡ 0)
 unfolding forwarded
-passed-on (Read s q) n tags f = (refl, refl, refl)
-passed-on (SingleWrite a) n tags f = absurd (n _ _ _ single)
-passed-on (MultipleWrite s q) n tags f = absurd (n _ _ _ multiple)
+passed-on (Read t s q) n tags f = (refl, refl, refl)
+passed-on (SingleWrite Bits a v) n tags f = (refl, refl, refl)
+passed-on (SingleWrite Registers a v) n tags f = absurd (n _ _ _ single)
+passed-on (MultipleWrite Bits s q) n tags f = (refl, refl, refl)
+passed-on (MultipleWrite Registers s q) n tags f = absurd (n _ _ _ multiple)
 passed-on Other n tags f = (refl, refl, refl)
 
 -- f's own bytes 0, 1 and 7 in an exception frame

@@ -7,15 +7,18 @@ use mathlib.Core.Path.{_≡_, refl, ap, sym, _∙_}
 use mathlib.Core.Logic.{_⊎_, _↔_}
 use mathlib.Core.Bool.{true, false}
 use mathlib.Core.Option.{some, Option·getD}
-use mathlib.Core.List.{List, [], _∷_, _++_, List·Memᴰ}
+use mathlib.Core.List.{List, [], _∷_, _++_, List·Memᴰ, List·Memᴰ·head, Memᴰ·append-right}
 use native.Mathlib.Omega.{arith}
 use lib.ListN.{length, getD}
 use borrow.Author.Tests.{eqb-true}
 use Rattle.laws.specs.Numbers.{places, ids, distance, latestTime}
 use Rattle.laws.specs.Lists.{filter, lastGiven, lastOf}
 use Rattle.laws.specs.Bits.{has}
+use Rattle.laws.specs.Bytes.{over}
 use Rattle.laws.proofs.BitLaws.{has-none}
 use Rattle.laws.proofs.FilterLaws.{filter-in}
+use Rattle.laws.proofs.LastLaws.{last-of-exactly}
+use Rattle.wire.specs.Frame.{laid}
 use Rattle.bcd.specs.Bcd.{inRange}
 use Rattle.bcd.specs.Words.{numberOf}
 use Rattle.settings.specs.Grammar.{Value, Tag, valid}
@@ -24,14 +27,16 @@ use Rattle.settings.proofs.TagLaws.{valid-ascends}
 use Rattle.pdu.specs.Requests.{legal}
 use Rattle.pdu.specs.Replies.{What, excepts}
 use Rattle.pdu.specs.declared.ProxyId.{ProxyId}
+use Rattle.pdu.specs.declared.Table.the-variants.{Registers}
 use Rattle.pdu.specs.declared.Asked.the-variants.{Read}
 use Rattle.rewrite.specs.Registers.{registersAt}
-use Rattle.rewrite.specs.Rewriting.{ownIn}
-use Rattle.rewrite.specs.Plain.{Whole}
+use Rattle.rewrite.specs.Rewriting.{ownIn, Rewritten}
+use Rattle.rewrite.specs.Plain.{Whole, OfBits}
+use Rattle.rewrite.proofs.FrameLaws.{returned-bits}
 use Rattle.book.specs.Book.{Party, Live, Good, NothingDue, at}
 use Rattle.book.specs.Book.Event.{issued, left, lost}
 use Rattle.book.specs.Ledger.{Ticket, Apart, Differing, Anew, under, partiesOf}
-use Rattle.book.specs.Traced.{issuedId, behind, Outstanding, Holds}
+use Rattle.book.specs.Traced.{touches, issuedId, behind, Outstanding, Holds}
 use Rattle.book.specs.Desk.{AllLive}
 use Rattle.book.specs.Machine.{Accounted, history}
 use Rattle.book.proofs.History.{always-sound, ids-come-round-late, after-on, after-one, history-on}
@@ -53,9 +58,9 @@ use Rattle.machine.specs.declared.Answer.the-variants as answer
 use Rattle.machine.proofs.RefusalLaws.{table, Applies, refused-exactly}
 use Rattle.machine.proofs.OutcomeLaws.{clocked-at, says-refusal, refused-is, granted-is}
 use Rattle.machine.proofs.NumberLaws.{Tells, numbers-tell}
-use Rattle.machine.proofs.SpelledLaws.{AskedBy, kept-as-asked}
+use Rattle.machine.proofs.SpelledLaws.{AskedBy, asked-spelled, kept-as-asked}
 use Rattle.machine.proofs.RequestLaws.{NoneToJoin, codeOf, no-other-exception, exception-04 as said-exactly}
-use Rattle.machine.proofs.AskLaws.{Carries, Issues, Joins, Excepts, request-comes-to, issue-is, join-is, exception-is}
+use Rattle.machine.proofs.AskLaws.{Carries, bits-carry-none, Issues, Joins, Excepts, request-comes-to, issue-is, join-is, exception-is}
 use Rattle.machine.proofs.PartyLaws.{Accepts, Stands, accepted-stands}
 use Rattle.machine.proofs.AnswerLaws.{Answers, Expires, reply-answers, tick-expires, idle-when}
 use Rattle.machine.proofs.ReadBack.{comes-back}
@@ -222,6 +227,30 @@ module _ (v : Value) (xs : List Call) where
   pub what-an-issue-is : (id : ℕ) (w : What) (d : ℕ) (p : Party) → List·Memᴰ (issued id w d p) (toldBy v xs) → Origin v xs id w d p
   what-an-issue-is = issue-origin v xs
 
+  -- Request #101: no tag touches coils and discrete inputs. A request 01, 02, 05 or 15 that is issued goes out as it came, but for its id, and no tag is counted.
+  pub bits-go-out-as-they-came : (c t : ℕ) (f o : List ℕ) (i : ProxyId) (n p w : ℕ) → outcome (afterCalls v xs) (request c t f o) .says ≡ answer.Issued i n p w → OfBits (getD f 7 0)
+      → ((k : ℕ) → 2 ≤ k → k < length f → getD (outcome (afterCalls v xs) (request c t f o) .written) k 0 ≡ getD f k 0) × (p ≡ 0) × (w ≡ 0)
+  bits-go-out-as-they-came c t f o i n p w e b =
+      let x = an-issue-is-this c t f o i n p w e in
+      let u = x .unchanged (bits-carry-none f b) in
+      (u .0, cc (u .1), cc (u .2))
+
+  -- And a reply to one is handed on as it came, under id 0; no tag is counted.
+  pub bits-come-back-as-they-came : (t : ℕ) (f o l : List ℕ) (a : Answers (afterCalls v xs) f o l (outcome (afterCalls v xs) (reply t f o l))) → OfBits (a .entry .what .function)
+      → (outcome (afterCalls v xs) (reply t f o l) .written ≡ over (laid 0 f) o)
+      × (outcome (afterCalls v xs) (reply t f o l) .says ≡ answer.Answered (record { 0 = a .entry .id }) (length f) (length (a .entry .parties)) 0 0)
+  unfolding asking
+  bits-come-back-as-they-came t f o l a b =
+      let e = a .entry in
+      let u = which-ids-are-live (e .id) (e .what) (e .by) (e .deadline) .0 (a .place, e, a .there, refl, refl, refl, refl) in
+      let i = last-of-exactly (touches (e .id)) (toldBy v xs) _ .0 (u .2) in
+      let g = what-an-issue-is (e .id) (e .what) (e .deadline) (u .0) (rw (i .2) (Memᴰ·append-right (i .0) (List·Memᴰ·head refl))) in
+      let same = g .spells .0 in
+      let r = returned-bits (settings (afterCalls v xs) .tags) f (e .what) (g .frame) (rw same at b) (ap (λ (w : What). w .asked) same ∙ sym (asked-spelled (g .frame))) in (
+        a .frame ∙ ap (λ (y : Rewritten). over (laid 0 (y .bytes)) o) r,
+        a .says ∙ ap (λ (y : Rewritten). answer.Answered (record { 0 = e .id }) (length f) (length (e .parties)) (y .partial) (y .value)) r,
+      )
+
   -- Document 01: link lost returns the former set, client by client those that were attached, and nobody is attached after it.
   pub link-lost-says-who-was-attached : (s : ℕ) × (outcome (afterCalls v xs) linkLost .says ≡ answer.Lost s)
       × ((c : ℕ) → (has s c ≡ true) ↔ (lastOf (concerns c) (grantedCalls v xs) ≡ some (attach c))) × ((c : ℕ) → has (outcome (afterCalls v xs) linkLost .after .attached) c ≡ false)
@@ -269,7 +298,7 @@ pub a-value-comes-back : (v : Value) → valid v ≡ true → (tag : Tag) → Li
     → (base s q : ℕ) → Carries (asking f .asked) base s q → Whole s q tag → inRange (kindOf tag) (numberOf (ownIn s (registersAt base q f) tag)) ≡ true
     → (ys : List Call) (t′ : ℕ) (g o′ l : List ℕ) → ((k : ℕ) → getD g k 0 < 256)
     → (a : Answers (afterCalls v ys) g o′ l (outcome (afterCalls v ys) (reply t′ g o′ l))) → excepts (a .entry .what .function) g ≡ false
-    → (s′ q′ : ℕ) → a .entry .what .asked ≡ Read s′ q′ → Whole s′ q′ tag
+    → (s′ q′ : ℕ) → a .entry .what .asked ≡ Read Registers s′ q′ → Whole s′ q′ tag
     → ownIn s′ (registersAt 9 q′ g) tag ≡ ownIn s (registersAt base q (outcome (afterCalls v xs) (request c t f o) .written)) tag
     → ownIn s′ (registersAt 9 q′ (outcome (afterCalls v ys) (reply t′ g o′ l) .written)) tag ≡ ownIn s (registersAt base q f) tag
 a-value-comes-back v right tag m xs c t f o bytes i n p w e base s q carries whole range ys =

@@ -2,7 +2,7 @@
 -- Assumes nothing.
 use Prim.Native.Nat.{ℕ, _<_}
 use mathlib.Core.Path.{_≡_, refl, ap, sym, _∙_}
-use mathlib.Core.Logic.{⊎-elim, _⊎_, _↔_}
+use mathlib.Core.Logic.{⊎-elim, _⊎_, inl, inr, _↔_}
 use mathlib.Core.Bool.{Bool, true, false, cond, _&&_, _||_, false≢true, true≢false, and-true, and-false}
 use mathlib.Core.List.{List}
 use lib.ListN.{length, getD}
@@ -10,15 +10,17 @@ use lib.Dec.{eqb}
 use borrow.Author.Tests.{eq-eqb, eqb-true}
 use Rattle.laws.specs.Numbers.{room}
 use Rattle.laws.proofs.Choice.{true-or, and-left, and-right, never}
-use Rattle.laws.proofs.TestLaws.{holds-eq, holds-or}
+use Rattle.laws.proofs.TestLaws.{holds-eq, holds-and, holds-or}
 use Rattle.settings.specs.Grammar.{Value}
 use Rattle.pdu.specs.Replies.{What, what}
+use Rattle.pdu.specs.declared.Table.{Table}
+use Rattle.pdu.specs.declared.Table.the-variants.{Bits, Registers}
 use Rattle.pdu.specs.declared.Asked.{Asked}
 use Rattle.pdu.specs.declared.Asked.the-variants.{Read, SingleWrite, MultipleWrite, Other}
 use Rattle.book.specs.Book.{Live}
 use Rattle.book.specs.Desk.{Open}
 use Rattle.machine.specs.Machine.{Machine, Note, rules, settings, clocked}
-use Rattle.machine.specs.Requests.{wanted, sameRead, joins}
+use Rattle.machine.specs.Requests.{wanted, sameTable, sameRead, joins}
 use Rattle.machine.specs.Spelled.{spelled, asking}
 use Rattle.machine.proofs.SpelledLaws.{asked-spelled, wanted-spelled, kept-as-asked}
 
@@ -28,15 +30,25 @@ whats p q r = rw (p, q, r)
 what-same : (w u : What) → w .unit ≡ u .unit → w .function ≡ u .function → w .asked ≡ u .asked → w ≡ u
 what-same w u p q r = whats p q r
 
+-- Two tables are the same exactly where they are equal.
+pub same-table : (t r : Table) → (sameTable t r ≡ true) ↔ (t ≡ r)
+unfolding sameTable
+same-table Bits Bits = (λ e. refl, λ e. refl)
+same-table Bits Registers = (λ e. absurd (false≢true e), λ e. never (cc))
+same-table Registers Bits = (λ e. absurd (false≢true e), λ e. never (cc))
+same-table Registers Registers = (λ e. refl, λ e. refl)
+
 same-read : (a b : Asked) → sameRead a b ≡ true → a ≡ b
 unfolding sameRead
-same-read (Read s q) (Read u p) t = rw (eqb-true s u (and-left (eqb s u) (eqb q p) t), eqb-true q p (and-right (eqb s u) (eqb q p) t))
-same-read (Read s q) (SingleWrite a) t = absurd (false≢true t)
-same-read (Read s q) (MultipleWrite u p) t = absurd (false≢true t)
-same-read (Read s q) Other t = absurd (false≢true t)
-same-read (SingleWrite a) b t = absurd (false≢true t)
-same-read (MultipleWrite s q) b t = absurd (false≢true t)
-same-read Other b t = absurd (false≢true t)
+same-read (Read t s q) (Read r u p) e =
+    let x = holds-and (sameTable t r) _ (same-table t r) (holds-and (eqb s u) (eqb q p) (holds-eq s u) (holds-eq q p)) .0 e in
+    rw (x .0, x .1 .0, x .1 .1)
+same-read (Read t s q) (SingleWrite r a v) e = absurd (false≢true e)
+same-read (Read t s q) (MultipleWrite r u p) e = absurd (false≢true e)
+same-read (Read t s q) Other e = absurd (false≢true e)
+same-read (SingleWrite t a v) b e = absurd (false≢true e)
+same-read (MultipleWrite t s q) b e = absurd (false≢true e)
+same-read Other b e = absurd (false≢true e)
 
 -- A request joins nothing but what it asks itself.
 pub joins-exact : (v : Value) (w u : What) → joins v w u ≡ true → w ≡ u
@@ -55,26 +67,27 @@ pub joins-none : (v : Value) (w u : What) → joins v w w ≡ false → joins v 
 joins-none v w u off = ⊎-elim (λ t. absurd (true≢false (sym t ∙ ap (joins v w) (sym (joins-exact v w u t)) ∙ off))) (λ t. t) (true-or (joins v w u))
 
 -- A read may join its like when joining is on.
-pub joins-read : (v : Value) (w : What) (s q : ℕ) → w .asked ≡ Read s q → joins v w w ≡ eqb (v .join) 1
+pub joins-read : (v : Value) (w : What) (t : Table) (s q : ℕ) → w .asked ≡ Read t s q → joins v w w ≡ eqb (v .join) 1
 unfolding joins sameRead
-joins-read v w s q e = rw (e, eq-eqb (w .unit) (w .unit) refl, eq-eqb (w .function) (w .function) refl, eq-eqb s s refl, eq-eqb q q refl) (and-true (eqb (v .join) 1))
+joins-read v w t s q e =
+    rw (e, eq-eqb (w .unit) (w .unit) refl, eq-eqb (w .function) (w .function) refl, same-table t t .1 refl, eq-eqb s s refl, eq-eqb q q refl) (and-true (eqb (v .join) 1))
 
-reads-other : (a b : Asked) → ((s q : ℕ) → a ≡ Read s q → ⊥) → sameRead a b ≡ false
+reads-other : (a b : Asked) → ((t : Table) (s q : ℕ) → a ≡ Read t s q → ⊥) → sameRead a b ≡ false
 unfolding sameRead
-reads-other (Read s q) b other = absurd (other s q refl)
-reads-other (SingleWrite a) b other = refl
-reads-other (MultipleWrite s q) b other = refl
+reads-other (Read t s q) b other = absurd (other t s q refl)
+reads-other (SingleWrite t a v) b other = refl
+reads-other (MultipleWrite t s q) b other = refl
 reads-other Other b other = refl
 
 -- What is no read joins nothing.
-pub joins-other : (v : Value) (w u : What) → ((s q : ℕ) → w .asked ≡ Read s q → ⊥) → joins v w u ≡ false
+pub joins-other : (v : Value) (w u : What) → ((t : Table) (s q : ℕ) → w .asked ≡ Read t s q → ⊥) → joins v w u ≡ false
 unfolding joins
 joins-other v w u other = simp (reads-other (w .asked) (u .asked) other, and-false)
 
--- the entry may be joined by the request f at the time t: joining is on, f is a read, the entry asks what f asks, has room for one more party, and is due later
+-- the entry may be joined by the request f at the time t: joining is on, f is a read (01 to 04), the entry asks what f asks, has room for one more party, and is due later
 pub record MayJoin (m : Machine) (t : ℕ) (f : List ℕ) (e : Live What Note) : Type 0 where
   pub on : settings m .join ≡ 1
-  pub reads : (getD f 7 0 ≡ 3) ⊎ (getD f 7 0 ≡ 4)
+  pub reads : ((getD f 7 0 ≡ 1) ⊎ (getD f 7 0 ≡ 2)) ⊎ ((getD f 7 0 ≡ 3) ⊎ (getD f 7 0 ≡ 4))
   pub same : e .what ≡ asking f
   pub fewer : length (e .parties) < room
   pub later : t < e .deadline
@@ -83,22 +96,37 @@ joins-on : (v : Value) (w u : What) → joins v w u ≡ true → v .join ≡ 1
 unfolding joins
 joins-on v w u t = eqb-true (v .join) 1 (and-left (eqb (v .join) 1) _ t)
 
-no-read : (f : List ℕ) → (eqb (getD f 7 0) 3 || eqb (getD f 7 0) 4) ≡ false → (s q : ℕ) → asking f .asked ≡ Read s q → ⊥
-unfolding asking spelled
-no-read f z s q = rw z (by (eqb (getD f 7 0) 6) (eqb (getD f 7 0) 16) _ _)
-  where
-    by : (single multiple : Bool) (a b : ℕ) → cond single (SingleWrite a) (cond multiple (MultipleWrite a b) Other) ≡ Read s q → ⊥
-    by true multiple a b e = never (cc)
-    by false true a b e = never (cc)
-    by false false a b e = never (cc)
+one-of : (n a b : ℕ) → ((eqb n a || eqb n b) ≡ true) ↔ ((n ≡ a) ⊎ (n ≡ b))
+one-of n a b = holds-or (eqb n a) (eqb n b) (holds-eq n a) (holds-eq n b)
 
-joins-reads : (v : Value) (f : List ℕ) (u : What) → joins v (wanted f) u ≡ true → (getD f 7 0 ≡ 3) ⊎ (getD f 7 0 ≡ 4)
+no-read : (f : List ℕ) → (eqb (getD f 7 0) 1 || eqb (getD f 7 0) 2) ≡ false → (eqb (getD f 7 0) 3 || eqb (getD f 7 0) 4) ≡ false → (t : Table) (s q : ℕ) → asking f .asked ≡ Read t s q → ⊥
+unfolding asking spelled
+no-read f x y t s q = rw (x, y) (by (eqb (getD f 7 0) 5) (eqb (getD f 7 0) 6) (eqb (getD f 7 0) 15) (eqb (getD f 7 0) 16) _ _)
+  where
+    by : (coil single coils multiple : Bool) (a b : ℕ)
+        → cond coil (SingleWrite Bits a b) (cond single (SingleWrite Registers a b) (cond coils (MultipleWrite Bits a b) (cond multiple (MultipleWrite Registers a b) Other))) ≡ Read t s q → ⊥
+    by true single coils multiple a b e = never (cc)
+    by false true coils multiple a b e = never (cc)
+    by false false true multiple a b e = never (cc)
+    by false false false true a b e = never (cc)
+    by false false false false a b e = never (cc)
+
+joins-reads : (v : Value) (f : List ℕ) (u : What) → joins v (wanted f) u ≡ true → ((getD f 7 0 ≡ 1) ⊎ (getD f 7 0 ≡ 2)) ⊎ ((getD f 7 0 ≡ 3) ⊎ (getD f 7 0 ≡ 4))
 joins-reads v f u t =
     let n = getD f 7 0 in
     ⊎-elim
-    (holds-or (eqb n 3) (eqb n 4) (holds-eq n 3) (holds-eq n 4) .0)
-    (λ (z : (eqb n 3 || eqb n 4) ≡ false). absurd (true≢false (sym t ∙ joins-other v (wanted f) u (λ s q e. no-read f z s q (sym (asked-spelled f) ∙ e)))))
-    (true-or (eqb n 3 || eqb n 4))
+    (λ x. inl (one-of n 1 2 .0 x))
+    (λ (x : (eqb n 1 || eqb n 2) ≡ false). ⊎-elim
+    (λ y. inr (one-of n 3 4 .0 y))
+    (λ (y : (eqb n 3 || eqb n 4) ≡ false). absurd (true≢false (sym t ∙ joins-other v (wanted f) u (λ r s q e. no-read f x y r s q (sym (asked-spelled f) ∙ e)))))
+    (true-or (eqb n 3 || eqb n 4)))
+    (true-or (eqb n 1 || eqb n 2))
+
+-- a request that is a read may join its like
+reads-join : (v : Value) (f : List ℕ) → ((getD f 7 0 ≡ 1) ⊎ (getD f 7 0 ≡ 2)) ⊎ ((getD f 7 0 ≡ 3) ⊎ (getD f 7 0 ≡ 4)) → joins v (wanted f) (wanted f) ≡ eqb (v .join) 1
+reads-join v f =
+    let k = kept-as-asked 0 f in
+    ⊎-elim (λ h. joins-read v (wanted f) Bits _ _ (k .reads-bits h)) (λ h. joins-read v (wanted f) Registers _ _ (k .reads h))
 
 -- What may be joined is what the test of the definition lets through.
 pub may-join : (m : Machine) (t : ℕ) (f : List ℕ) (e : Live What Note) → clocked m t .book .clock ≡ t → Open rules (clocked m t .book) (joins (settings m) (wanted f)) e ↔ MayJoin m t f e
@@ -112,7 +140,7 @@ may-join m t f e k = (
         later = rw k at (o .2);
       },
   λ j. (
-    rw (j .same ∙ sym (wanted-spelled f)) (joins-read (settings m) (wanted f) _ _ (kept-as-asked 0 f .reads (j .reads)) ∙ eq-eqb (settings m .join) 1 (j .on)),
+    rw (j .same ∙ sym (wanted-spelled f)) (reads-join (settings m) f (j .reads) ∙ eq-eqb (settings m .join) 1 (j .on)),
     j .fewer,
     rw k (j .later),
   ),

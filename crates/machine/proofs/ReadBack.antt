@@ -13,6 +13,7 @@ use Rattle.bcd.specs.Words.{numberOf}
 use Rattle.settings.specs.Grammar.{Tag}
 use Rattle.settings.specs.TagWords.{kindOf, Ascending}
 use Rattle.pdu.specs.Replies.{excepts}
+use Rattle.pdu.specs.declared.Table.the-variants.{Registers}
 use Rattle.pdu.specs.declared.Asked.{Asked}
 use Rattle.pdu.specs.declared.Asked.the-variants.{Read}
 use Rattle.pdu.proofs.ReplyLaws.{ReplyRoom, answering-room}
@@ -36,11 +37,11 @@ registers-ext k zero d e h = refl
 registers-ext k (suc n) d e h =
     rw (h k (omega arith) (omega arith), h (k + 1) (omega arith) (omega arith), registers-ext (k + 2) n d e (λ j a b. h j (omega arith) (omega arith)))
 
-read-is : (tags : List Tag) (a : Asked) (s q : ℕ) (g : List ℕ) → a ≡ Read s q → returnedBy tags a g .bytes ≡ rewriting ToBinary 9 s q tags g .bytes
+read-is : (tags : List Tag) (a : Asked) (s q : ℕ) (g : List ℕ) → a ≡ Read Registers s q → returnedBy tags a g .bytes ≡ rewriting ToBinary 9 s q tags g .bytes
 unfolding returnedBy
 read-is tags a s q g e = rw e
 
-read-room : (a : Asked) (s q : ℕ) (g : List ℕ) → a ≡ Read s q → ReplyRoom a g → 9 + 2 * q ≤ length g
+read-room : (a : Asked) (s q : ℕ) (g : List ℕ) → a ≡ Read Registers s q → ReplyRoom a g → 9 + 2 * q ≤ length g
 read-room a s q g e r = omega (arith, rw e at r)
 
 -- A value in a tag's range, written over the whole tag in one request, stored as sent and read back whole in one, comes back equal: over any two calls of any two machines
@@ -50,7 +51,7 @@ pub comes-back : (tags : List Tag) → Ascending 0 tags → (tag : Tag) → List
     → (base s q : ℕ) → Carries (asking f .asked) base s q → Whole s q tag → inRange (kindOf tag) (numberOf (ownIn s (registersAt base q f) tag)) ≡ true
     → (m′ : Machine) → settings m′ .tags ≡ tags → (t′ : ℕ) (g o′ l : List ℕ) → ((k : ℕ) → getD g k 0 < 256)
     → (a : Answers m′ g o′ l (outcome m′ (reply t′ g o′ l))) → excepts (a .entry .what .function) g ≡ false
-    → (s′ q′ : ℕ) → a .entry .what .asked ≡ Read s′ q′ → Whole s′ q′ tag
+    → (s′ q′ : ℕ) → a .entry .what .asked ≡ Read Registers s′ q′ → Whole s′ q′ tag
     → ownIn s′ (registersAt 9 q′ g) tag ≡ ownIn s (registersAt base q (outcome m (request c t f o) .written)) tag
     → ownIn s′ (registersAt 9 q′ (outcome m′ (reply t′ g o′ l) .written)) tag ≡ ownIn s (registersAt base q f) tag
 comes-back tags asc tag mem m same c t f o bytes x base s q carries whole range m′ same′ t′ g o′ l bytes′ a plain s′ q′ reads whole′ stored =

@@ -2,16 +2,16 @@
 -- Assumes nothing.
 use Prim.Native.Nat.{ℕ, _+_, _*_}
 use mathlib.Core.Path.{_≡_, refl, ap, sym, subst₂}
-use mathlib.Core.Logic.{_⊎_}
+use mathlib.Core.Logic.{⊎-elim, _⊎_}
 use mathlib.Core.Bool.{Bool, true, false, cond, _||_}
 use mathlib.Core.List.{List}
 use native.Mathlib.Omega.{arith}
 use lib.ListN.{getD}
 use lib.Dec.{eqb}
 use borrow.Author.Tests.{ne-eqb}
-use Rattle.laws.proofs.TestLaws.{holds-eq, holds-or}
 use Rattle.pdu.specs.Requests.{classOf, startOf, quantityOf, askedBy, askedOf}
 use Rattle.pdu.specs.Replies.{What, what}
+use Rattle.pdu.specs.declared.Table.the-variants.{Bits, Registers}
 use Rattle.pdu.specs.declared.Class.the-variants.{Reads, WritesOne, WritesMany, Others}
 use Rattle.pdu.specs.declared.Asked.the-variants.{Read, SingleWrite, MultipleWrite, Other}
 use Rattle.book.specs.Book.{Party}
@@ -24,17 +24,22 @@ unfolding asker
 party-spelled c f = let e : getD f 0 0 * 256 + getD f 1 0 ≡ 256 * getD f 0 0 + getD f 1 0 = omega arith in rw e
 
 -- what is kept of a request by the class of its function
-by-class : (reads single multiple : Bool) (f : List ℕ) (a b : ℕ) → startOf f ≡ a → quantityOf f ≡ b
-    → askedBy (cond reads Reads (cond single WritesOne (cond multiple WritesMany Others))) f ≡ cond reads (Read a b) (cond single (SingleWrite a) (cond multiple (MultipleWrite a b) Other))
-unfolding askedBy
-by-class true single multiple f a b p q = cc
-by-class false true multiple f a b p q = cc
-by-class false false true f a b p q = cc
-by-class false false false f a b p q = refl
+module _ (f : List ℕ) (a b : ℕ) (p : startOf f ≡ a) (q : quantityOf f ≡ b) where
+  by-class : (bits registers coil single coils multiple : Bool)
+      → askedBy (cond bits (Reads Bits) (cond registers (Reads Registers) (cond coil (WritesOne Bits) (cond single (WritesOne Registers) (cond coils (WritesMany Bits) (cond multiple (WritesMany Registers) Others)))))) f
+      ≡ cond bits (Read Bits a b) (cond registers (Read Registers a b) (cond coil (SingleWrite Bits a b) (cond single (SingleWrite Registers a b) (cond coils (MultipleWrite Bits a b) (cond multiple (MultipleWrite Registers a b) Other)))))
+  unfolding askedBy
+  by-class true registers coil single coils multiple = cc
+  by-class false true coil single coils multiple = cc
+  by-class false false true single coils multiple = cc
+  by-class false false false true coils multiple = cc
+  by-class false false false false true multiple = cc
+  by-class false false false false false true = cc
+  by-class false false false false false false = refl
 
 pub asked-spelled : (f : List ℕ) → askedOf f ≡ asking f .asked
 unfolding asking spelled classOf
-asked-spelled f = by-class (eqb (getD f 7 0) 3 || eqb (getD f 7 0) 4) (eqb (getD f 7 0) 6) (eqb (getD f 7 0) 16) f _ _ (omega arith) (omega arith)
+asked-spelled f = let n = getD f 7 0 in by-class f _ _ (omega arith) (omega arith) (eqb n 1 || eqb n 2) (eqb n 3 || eqb n 4) (eqb n 5) (eqb n 6) (eqb n 15) (eqb n 16)
 
 -- What is wanted is what the bytes spell.
 pub wanted-spelled : (f : List ℕ) → wanted f ≡ asking f
@@ -47,10 +52,14 @@ pub record AskedBy (c : ℕ) (f : List ℕ) (p : Party) (w : What) : Type 0 wher
   pub original : p .original ≡ 256 * getD f 0 0 + getD f 1 0
   pub unit : w .unit ≡ getD f 6 0
   pub function : w .function ≡ getD f 7 0
-  pub reads : (getD f 7 0 ≡ 3) ⊎ (getD f 7 0 ≡ 4) → w .asked ≡ Read (256 * getD f 8 0 + getD f 9 0) (256 * getD f 10 0 + getD f 11 0)
-  pub writes-one : getD f 7 0 ≡ 6 → w .asked ≡ SingleWrite (256 * getD f 8 0 + getD f 9 0)
-  pub writes-many : getD f 7 0 ≡ 16 → w .asked ≡ MultipleWrite (256 * getD f 8 0 + getD f 9 0) (256 * getD f 10 0 + getD f 11 0)
-  pub other : (getD f 7 0 ≡ 3 → ⊥) → (getD f 7 0 ≡ 4 → ⊥) → (getD f 7 0 ≡ 6 → ⊥) → (getD f 7 0 ≡ 16 → ⊥) → w .asked ≡ Other
+  pub reads-bits : (getD f 7 0 ≡ 1) ⊎ (getD f 7 0 ≡ 2) → w .asked ≡ Read Bits (256 * getD f 8 0 + getD f 9 0) (256 * getD f 10 0 + getD f 11 0)
+  pub reads : (getD f 7 0 ≡ 3) ⊎ (getD f 7 0 ≡ 4) → w .asked ≡ Read Registers (256 * getD f 8 0 + getD f 9 0) (256 * getD f 10 0 + getD f 11 0)
+  pub writes-coil : getD f 7 0 ≡ 5 → w .asked ≡ SingleWrite Bits (256 * getD f 8 0 + getD f 9 0) (256 * getD f 10 0 + getD f 11 0)
+  pub writes-one : getD f 7 0 ≡ 6 → w .asked ≡ SingleWrite Registers (256 * getD f 8 0 + getD f 9 0) (256 * getD f 10 0 + getD f 11 0)
+  pub writes-coils : getD f 7 0 ≡ 15 → w .asked ≡ MultipleWrite Bits (256 * getD f 8 0 + getD f 9 0) (256 * getD f 10 0 + getD f 11 0)
+  pub writes-many : getD f 7 0 ≡ 16 → w .asked ≡ MultipleWrite Registers (256 * getD f 8 0 + getD f 9 0) (256 * getD f 10 0 + getD f 11 0)
+  pub other : (getD f 7 0 ≡ 1 → ⊥) → (getD f 7 0 ≡ 2 → ⊥) → (getD f 7 0 ≡ 3 → ⊥) → (getD f 7 0 ≡ 4 → ⊥) → (getD f 7 0 ≡ 5 → ⊥) → (getD f 7 0 ≡ 6 → ⊥) → (getD f 7 0 ≡ 15 → ⊥) → (getD f 7 0 ≡ 16 → ⊥)
+      → w .asked ≡ Other
 
 -- The bytes spell that.
 pub asking-says : (c : ℕ) (f : List ℕ) → AskedBy c f (asker c f) (asking f)
@@ -62,10 +71,13 @@ asking-says c f =
       original = refl;
       unit = refl;
       function = refl;
-      reads = λ h. rw (holds-or (eqb n 3) (eqb n 4) (holds-eq n 3) (holds-eq n 4) .1 h);
+      reads-bits = ⊎-elim (λ h. rw h) (λ h. rw h);
+      reads = ⊎-elim (λ h. rw h) (λ h. rw h);
+      writes-coil = λ h. rw h;
       writes-one = λ h. rw h;
+      writes-coils = λ h. rw h;
       writes-many = λ h. rw h;
-      other = λ h i j k. simp (ne-eqb n 3 h, ne-eqb n 4 i, ne-eqb n 6 j, ne-eqb n 16 k);
+      other = λ g h i j k l m o. simp (ne-eqb n 1 g, ne-eqb n 2 h, ne-eqb n 3 i, ne-eqb n 4 j, ne-eqb n 5 k, ne-eqb n 6 l, ne-eqb n 15 m, ne-eqb n 16 o);
     }
 
 -- The machine's party and request are that.

@@ -1,7 +1,7 @@
 -- A request that was not refused: the exceptions 03 and 02, joining, issuing, and exception 04, in document 01's order.
 -- Assumes nothing.
 use Prim.Native.Nat.{ℕ, _+_}
-use mathlib.Core.Bool.{Bool, false, cond, not, _&&_}
+use mathlib.Core.Bool.{Bool, true, false, cond, not, _&&_}
 use mathlib.Core.Option.{Option, some, none}
 use mathlib.Core.List.{List, []}
 use lib.ListN.{length}
@@ -12,6 +12,8 @@ use Rattle.wire.specs.Frame.{idOf, unitOf, functionOf, laid, exception}
 use Rattle.settings.specs.Grammar.{Value}
 use Rattle.pdu.specs.Requests.{askedOf, faultOf}
 use Rattle.pdu.specs.Replies.{What, what}
+use Rattle.pdu.specs.declared.Table.{Table}
+use Rattle.pdu.specs.declared.Table.the-variants.{Bits, Registers}
 use Rattle.pdu.specs.declared.Asked.{Asked}
 use Rattle.pdu.specs.declared.Asked.the-variants.{Read, SingleWrite, MultipleWrite, Other}
 use Rattle.rewrite.specs.Frames.{forwarded}
@@ -29,15 +31,22 @@ wanted f = what (unitOf f) (functionOf f) (askedOf f)
 abbrev pub partyOf : ℕ → List ℕ → Party
 partyOf c f = record { client = c; original = idOf f }
 
--- 03 and 04, when joining is on: equal unit, function, start and quantity
+-- both of bits, or both of registers
+unfoldable pub sameTable : Table → Table → Bool
+sameTable Bits Bits = true
+sameTable Bits Registers = false
+sameTable Registers Bits = false
+sameTable Registers Registers = true
+
+-- 01 to 04, when joining is on: equal unit, function, start and quantity; equal functions have the same table
 unfoldable pub sameRead : Asked → Asked → Bool
-sameRead (Read s q) (Read u p) = eqb s u && eqb q p
-sameRead (Read s q) (SingleWrite a) = false
-sameRead (Read s q) (MultipleWrite u p) = false
-sameRead (Read s q) Other = false
-sameRead (SingleWrite a) v = false
-sameRead (MultipleWrite u p) v = false
-sameRead Other v = false
+sameRead (Read t s q) (Read r u p) = sameTable t r && (eqb s u && eqb q p)
+sameRead (Read t s q) (SingleWrite r a v) = false
+sameRead (Read t s q) (MultipleWrite r u p) = false
+sameRead (Read t s q) Other = false
+sameRead (SingleWrite t a v) x = false
+sameRead (MultipleWrite t s q) x = false
+sameRead Other x = false
 
 unfoldable pub joins : Value → What → What → Bool
 joins s w v = eqb (s .join) 1 && (eqb (w .unit) (v .unit) && (eqb (w .function) (v .function) && sameRead (w .asked) (v .asked)))

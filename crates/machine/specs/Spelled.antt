@@ -6,6 +6,7 @@ use mathlib.Core.List.{List}
 use lib.ListN.{getD}
 use lib.Dec.{eqb}
 use Rattle.pdu.specs.Replies.{What, what}
+use Rattle.pdu.specs.declared.Table.the-variants.{Bits, Registers}
 use Rattle.pdu.specs.declared.Asked.{Asked}
 use Rattle.pdu.specs.declared.Asked.the-variants.{Read, SingleWrite, MultipleWrite, Other}
 use Rattle.book.specs.Book.{Party}
@@ -14,13 +15,16 @@ use Rattle.book.specs.Book.{Party}
 unfoldable pub asker : ℕ → List ℕ → Party
 asker c f = record { client = c; original = 256 * getD f 0 0 + getD f 1 0 }
 
--- 03, 04 and 16 have a start and a quantity, 06 an address, every other function nothing more
+-- 01 to 04, 15 and 16 have a start and a quantity, 05 and 06 an address and a value, every other function nothing more; 01, 02, 05 and 15 are of bits
 unfoldable pub spelled : (function first second : ℕ) → Asked
 spelled n a b =
-    cond (eqb n 3 || eqb n 4) (Read a b)
-    (cond (eqb n 6) (SingleWrite a)
-    (cond (eqb n 16) (MultipleWrite a b)
-    Other))
+    cond (eqb n 1 || eqb n 2) (Read Bits a b)
+    (cond (eqb n 3 || eqb n 4) (Read Registers a b)
+    (cond (eqb n 5) (SingleWrite Bits a b)
+    (cond (eqb n 6) (SingleWrite Registers a b)
+    (cond (eqb n 15) (MultipleWrite Bits a b)
+    (cond (eqb n 16) (MultipleWrite Registers a b)
+    Other)))))
 
 -- byte 6 is the unit, byte 7 the function; the numbers at bytes 8 and 10 are what is behind it
 unfoldable pub asking : List ℕ → What

@@ -1,6 +1,6 @@
 -- What answers a request, exactly, by what was asked; the bytes that such a reply has; and that the proxy's own exceptions answer.
 -- Assumes nothing.
-use Prim.Native.Nat.{ℕ, _+_, _*_, _≤_}
+use Prim.Native.Nat.{ℕ, _+_, _≤_}
 use mathlib.Core.Path.{_≡_, refl, sym, _∙_}
 use mathlib.Core.Logic.{_↔_, ⊎-elim, _⊎_, inl}
 use mathlib.Core.Bool.{true, false, true≢false, _&&_}
@@ -11,9 +11,10 @@ use lib.Dec.{eqb}
 use Rattle.laws.specs.Numbers.{lastFunction, shortPdu}
 use Rattle.wire.specs.Frame.{unitOf, functionOf, pduSize, exception}
 use Rattle.wire.proofs.FrameLaws.{exception-function}
-use Rattle.pdu.specs.Requests.{startOf, quantityOf}
+use Rattle.pdu.specs.Requests.{startOf, quantityOf, valueOf, bytesFor}
 use Rattle.pdu.specs.Replies.{What, replyCountOf, shaped, excepts, answering}
 use Rattle.pdu.specs.Words.{Proper}
+use Rattle.pdu.specs.declared.Table.the-variants.{Bits, Registers}
 use Rattle.pdu.specs.declared.Asked.{Asked}
 use Rattle.pdu.specs.declared.Asked.the-variants.{Read, SingleWrite, MultipleWrite, Other}
 use Rattle.laws.proofs.TestLaws.{holds-eq, holds-and, holds-or, holds-always}
@@ -25,23 +26,31 @@ Exception n f = (functionOf f ≡ n + 128) × (pduSize f ≡ 2)
 
 -- the shape of a reply of the same function
 abbrev pub Shaped : Asked → List ℕ → Type 0
-Shaped (Read s q) f = (replyCountOf f ≡ 2 * q) × (pduSize f ≡ 2 + 2 * q)
-Shaped (SingleWrite a) f = (pduSize f ≡ shortPdu) × (startOf f ≡ a)
-Shaped (MultipleWrite s q) f = (pduSize f ≡ shortPdu) × ((startOf f ≡ s) × (quantityOf f ≡ q))
+Shaped (Read t s q) f = (replyCountOf f ≡ bytesFor t q) × (pduSize f ≡ 2 + bytesFor t q)
+Shaped (SingleWrite Bits a v) f = (pduSize f ≡ shortPdu) × ((startOf f ≡ a) × (valueOf f ≡ v))
+Shaped (SingleWrite Registers a v) f = (pduSize f ≡ shortPdu) × (startOf f ≡ a)
+Shaped (MultipleWrite t s q) f = (pduSize f ≡ shortPdu) × ((startOf f ≡ s) × (quantityOf f ≡ q))
 Shaped Other f = Unit {0}
 
 -- A frame is an exception reply exactly where it is function + 128 with a PDU of 2 bytes.
 pub excepts-exact : (n : ℕ) (f : List ℕ) → (excepts n f ≡ true) ↔ Exception n f
 excepts-exact n f = holds-and (eqb (functionOf f) (n + 128)) (eqb (pduSize f) 2) (holds-eq (functionOf f) (n + 128)) (holds-eq (pduSize f) 2)
 
+-- a PDU of 5 bytes with two numbers
+short-two : (a b : ℕ) (f : List ℕ) → (eqb (pduSize f) shortPdu && (eqb (startOf f) a && eqb (quantityOf f) b) ≡ true) ↔ ((pduSize f ≡ shortPdu) × ((startOf f ≡ a) × (quantityOf f ≡ b)))
+short-two a b f =
+    holds-and (eqb (pduSize f) shortPdu) (eqb (startOf f) a && eqb (quantityOf f) b) (holds-eq (pduSize f) shortPdu)
+    (holds-and (eqb (startOf f) a) (eqb (quantityOf f) b) (holds-eq (startOf f) a) (holds-eq (quantityOf f) b))
+
 -- A reply is shaped exactly as what was asked calls for.
 pub shaped-exact : (a : Asked) (f : List ℕ) → (shaped a f ≡ true) ↔ Shaped a f
 unfolding shaped
-shaped-exact (Read s q) f = holds-and (eqb (replyCountOf f) (2 * q)) (eqb (pduSize f) (2 + 2 * q)) (holds-eq (replyCountOf f) (2 * q)) (holds-eq (pduSize f) (2 + 2 * q))
-shaped-exact (SingleWrite a) f = holds-and (eqb (pduSize f) shortPdu) (eqb (startOf f) a) (holds-eq (pduSize f) shortPdu) (holds-eq (startOf f) a)
-shaped-exact (MultipleWrite s q) f =
-    holds-and (eqb (pduSize f) shortPdu) (eqb (startOf f) s && eqb (quantityOf f) q) (holds-eq (pduSize f) shortPdu)
-    (holds-and (eqb (startOf f) s) (eqb (quantityOf f) q) (holds-eq (startOf f) s) (holds-eq (quantityOf f) q))
+shaped-exact (Read t s q) f =
+    let n = bytesFor t q in
+    holds-and (eqb (replyCountOf f) n) (eqb (pduSize f) (2 + n)) (holds-eq (replyCountOf f) n) (holds-eq (pduSize f) (2 + n))
+shaped-exact (SingleWrite Bits a v) f = short-two a v f
+shaped-exact (SingleWrite Registers a v) f = holds-and (eqb (pduSize f) shortPdu) (eqb (startOf f) a) (holds-eq (pduSize f) shortPdu) (holds-eq (startOf f) a)
+shaped-exact (MultipleWrite t s q) f = short-two s q f
 shaped-exact Other f = holds-always
 
 -- A reply answers exactly where the unit is equal, and it is an exception reply, or the function is equal and the shape is right.
@@ -54,15 +63,16 @@ answers-exact w f =
 
 -- the bytes that a reply has which is no exception
 abbrev pub ReplyRoom : Asked → List ℕ → Type 0
-ReplyRoom (Read s q) f = 9 + 2 * q ≡ length f
-ReplyRoom (SingleWrite a) f = 12 ≡ length f
-ReplyRoom (MultipleWrite s q) f = 12 ≡ length f
+ReplyRoom (Read t s q) f = 9 + bytesFor t q ≡ length f
+ReplyRoom (SingleWrite t a v) f = 12 ≡ length f
+ReplyRoom (MultipleWrite t s q) f = 12 ≡ length f
 ReplyRoom Other f = Unit {0}
 
 room-of : (a : Asked) (f : List ℕ) → Shaped a f → ReplyRoom a f
-room-of (Read s q) f h = omega (arith, h)
-room-of (SingleWrite a) f h = omega (arith, h)
-room-of (MultipleWrite s q) f h = omega (arith, h)
+room-of (Read t s q) f h = omega (arith, h)
+room-of (SingleWrite Bits a v) f h = omega (arith, h)
+room-of (SingleWrite Registers a v) f h = omega (arith, h)
+room-of (MultipleWrite t s q) f h = omega (arith, h)
 room-of Other f h = tt
 
 -- A reply that answers and is no exception has exactly the bytes that what was asked calls for.

@@ -11,21 +11,23 @@ use lib.Arith.{digits-div, digits-mod}
 use lib.ListN.{length, getD}
 use lib.Dec.{eqb, ltb}
 use borrow.Author.Tests.{ne-eqb}
-use Rattle.laws.specs.Numbers.{readHolding, readInput, writeSingle, writeMultiple, lastFunction, mostRead, mostWritten, shortPdu, multiplePdu, addresses, illegalAddress, illegalValue}
+use Rattle.laws.specs.Numbers.{lastFunction, coilOff, coilOn, shortPdu, multiplePdu, addresses, illegalAddress, illegalValue}
 use Rattle.laws.specs.Bytes.{pairAt}
 use Rattle.laws.proofs.Choice.{eq-or, lt-or}
 use Rattle.wire.specs.Frame.{unitOf, functionOf, pduSize, misframed}
 use Rattle.settings.specs.Grammar.{Value}
-use Rattle.pdu.specs.Requests.{classOf, startOf, quantityOf, byteCountOf, badFunction, badLength, badValue, badAddress, askedBy, askedOf, faultBy, faultOf, checkedBy, checkedOf, legal}
+use Rattle.pdu.specs.Requests.{classOf, startOf, quantityOf, valueOf, byteCountOf, bytesFor, mostReadOf, mostWrittenOf, badFunction, badLength, badValue, badAddress, askedBy, askedOf, faultBy, faultOf, checkedBy, checkedOf, legal}
 use Rattle.pdu.specs.Replies.{what}
 use Rattle.pdu.specs.Words.{kept, keptIn, Lawful, Proper}
+use Rattle.pdu.specs.declared.Table.{Table}
+use Rattle.pdu.specs.declared.Table.the-variants.{Bits, Registers}
 use Rattle.pdu.specs.declared.Class.{Class}
 use Rattle.pdu.specs.declared.Class.the-variants.{Reads, WritesOne, WritesMany, Others}
 use Rattle.pdu.specs.declared.Asked.{Asked}
 use Rattle.pdu.specs.declared.Asked.the-variants.{Read, SingleWrite, MultipleWrite, Other}
 use Rattle.pdu.specs.declared.Checked.{Checked}
 use Rattle.pdu.specs.declared.Checked.the-variants.{BadFunction, BadLength, Excepted, Legal}
-use Rattle.laws.proofs.TestLaws.{holds-eq, holds-not, holds-and, holds-or, fails-ne, fails-lt, fails-zero, fails-or, fails-never, fails-holds, either}
+use Rattle.laws.proofs.TestLaws.{holds-eq, holds-not, holds-and, holds-or, fails-not, fails-ne, fails-lt, fails-zero, fails-or, fails-never, fails-holds, either}
 
 -- a function that is not refused is 1 to 127
 abbrev pub Known : ℕ → Type 0
@@ -33,23 +35,24 @@ Known n = (1 ≤ n) × (n ≤ lastFunction)
 
 -- the PDU's size is right
 abbrev pub Sized : Class → List ℕ → Type 0
-Sized Reads f = pduSize f ≡ shortPdu
-Sized WritesOne f = pduSize f ≡ shortPdu
-Sized WritesMany f = (multiplePdu ≤ pduSize f) × (pduSize f ≡ multiplePdu + byteCountOf f)
+Sized (Reads t) f = pduSize f ≡ shortPdu
+Sized (WritesOne t) f = pduSize f ≡ shortPdu
+Sized (WritesMany t) f = (multiplePdu ≤ pduSize f) × (pduSize f ≡ multiplePdu + byteCountOf f)
 Sized Others f = Unit {0}
 
--- the quantity is right, and 16's byte count is twice the quantity
+-- the quantity is right, 05's value is 0x0000 or 0xFF00, and the byte count of 15 and 16 is that of the quantity
 abbrev pub Valued : Class → List ℕ → Type 0
-Valued Reads f = (1 ≤ quantityOf f) × (quantityOf f ≤ mostRead)
-Valued WritesOne f = Unit {0}
-Valued WritesMany f = (1 ≤ quantityOf f) × ((quantityOf f ≤ mostWritten) × (byteCountOf f ≡ 2 * quantityOf f))
+Valued (Reads t) f = (1 ≤ quantityOf f) × (quantityOf f ≤ mostReadOf t)
+Valued (WritesOne Bits) f = (valueOf f ≡ coilOff) ⊎ (valueOf f ≡ coilOn)
+Valued (WritesOne Registers) f = Unit {0}
+Valued (WritesMany t) f = (1 ≤ quantityOf f) × ((quantityOf f ≤ mostWrittenOf t) × (byteCountOf f ≡ bytesFor t (quantityOf f)))
 Valued Others f = Unit {0}
 
 -- the range ends within the addresses
 abbrev pub Ranged : Class → List ℕ → Type 0
-Ranged Reads f = startOf f + quantityOf f ≤ addresses
-Ranged WritesOne f = Unit {0}
-Ranged WritesMany f = startOf f + quantityOf f ≤ addresses
+Ranged (Reads t) f = startOf f + quantityOf f ≤ addresses
+Ranged (WritesOne t) f = Unit {0}
+Ranged (WritesMany t) f = startOf f + quantityOf f ≤ addresses
 Ranged Others f = Unit {0}
 
 -- what the check of a request comes to, and when
@@ -68,12 +71,24 @@ pub known : (n : ℕ) → (badFunction n ≡ false) ↔ Known n
 unfolding badFunction
 known n = fails-or (eqb n 0) (ltb lastFunction n) (fails-zero n) (fails-lt lastFunction n)
 
+-- A request may read 2,000 bits or 125 registers and write 1,968 bits or 123 registers, and a register takes two bytes.
+pub limits : (mostReadOf Bits ≡ 2000) × (mostReadOf Registers ≡ 125) × (mostWrittenOf Bits ≡ 1968) × (mostWrittenOf Registers ≡ 123)
+limits = (refl, refl, refl, refl)
+
+-- Bits take n bytes exactly where n bytes hold them all and one byte fewer would not.
+pub bits-exact : (q n : ℕ) → (bytesFor Bits q ≡ n) ↔ ((q ≤ 8 * n) × (8 * n < q + 8))
+bits-exact q n = (λ e. (omega arith, omega arith), λ w. omega (arith, w .0, w .1))
+
+-- Registers take n bytes exactly where n is twice their number.
+pub registers-exact : (q n : ℕ) → (bytesFor Registers q ≡ n) ↔ (n ≡ 2 * q)
+registers-exact q n = (sym, sym)
+
 -- Refusal 6 fails exactly where the size is right.
 pub sized : (c : Class) (f : List ℕ) → (badLength c f ≡ false) ↔ Sized c f
 unfolding badLength
-sized Reads f = fails-ne (pduSize f) shortPdu
-sized WritesOne f = fails-ne (pduSize f) shortPdu
-sized WritesMany f =
+sized (Reads t) f = fails-ne (pduSize f) shortPdu
+sized (WritesOne t) f = fails-ne (pduSize f) shortPdu
+sized (WritesMany t) f =
     fails-or (ltb (pduSize f) multiplePdu) (not (eqb (pduSize f) (multiplePdu + byteCountOf f)))
     (fails-lt (pduSize f) multiplePdu)
     (fails-ne (pduSize f) (multiplePdu + byteCountOf f))
@@ -82,20 +97,25 @@ sized Others f = fails-never
 -- Exception 03 fails exactly where the numbers are right.
 pub valued : (c : Class) (f : List ℕ) → (badValue c f ≡ false) ↔ Valued c f
 unfolding badValue
-valued Reads f = fails-or (eqb (quantityOf f) 0) (ltb mostRead (quantityOf f)) (fails-zero (quantityOf f)) (fails-lt mostRead (quantityOf f))
-valued WritesOne f = fails-never
-valued WritesMany f =
-    fails-or (eqb (quantityOf f) 0) (ltb mostWritten (quantityOf f) || not (eqb (byteCountOf f) (2 * quantityOf f)))
-    (fails-zero (quantityOf f))
-    (fails-or (ltb mostWritten (quantityOf f)) (not (eqb (byteCountOf f) (2 * quantityOf f))) (fails-lt mostWritten (quantityOf f)) (fails-ne (byteCountOf f) (2 * quantityOf f)))
+valued (Reads t) f = fails-or (eqb (quantityOf f) 0) (ltb (mostReadOf t) (quantityOf f)) (fails-zero (quantityOf f)) (fails-lt (mostReadOf t) (quantityOf f))
+valued (WritesOne Bits) f =
+    fails-not (eqb (valueOf f) coilOff || eqb (valueOf f) coilOn)
+    (holds-or (eqb (valueOf f) coilOff) (eqb (valueOf f) coilOn) (holds-eq (valueOf f) coilOff) (holds-eq (valueOf f) coilOn))
+valued (WritesOne Registers) f = fails-never
+valued (WritesMany t) f =
+    let q = quantityOf f in
+    let n = bytesFor t q in
+    fails-or (eqb q 0) (ltb (mostWrittenOf t) q || not (eqb (byteCountOf f) n))
+    (fails-zero q)
+    (fails-or (ltb (mostWrittenOf t) q) (not (eqb (byteCountOf f) n)) (fails-lt (mostWrittenOf t) q) (fails-ne (byteCountOf f) n))
 valued Others f = fails-never
 
 -- Exception 02 fails exactly where the range ends within the addresses.
 pub ranged : (c : Class) (f : List ℕ) → (badAddress c f ≡ false) ↔ Ranged c f
 unfolding badAddress
-ranged Reads f = fails-lt addresses (startOf f + quantityOf f)
-ranged WritesOne f = fails-never
-ranged WritesMany f = fails-lt addresses (startOf f + quantityOf f)
+ranged (Reads t) f = fails-lt addresses (startOf f + quantityOf f)
+ranged (WritesOne t) f = fails-never
+ranged (WritesMany t) f = fails-lt addresses (startOf f + quantityOf f)
 ranged Others f = fails-never
 
 -- Refusal 6 comes before the exceptions.
@@ -129,25 +149,29 @@ pub checked-class : (c : Class) {n : ℕ} {k : Class} (f : List ℕ) → n ≡ f
 unfolding checkedOf badFunction
 checked-class c f e t g h = rw (rw e at t) (rw (sym (rw e at g) ∙ h) refl)
 
--- 03 and 04 are reads.
-pub class-read : (n : ℕ) → (n ≡ 3) ⊎ (n ≡ 4) → classOf n ≡ Reads
+-- 01 and 02 read bits, 03 and 04 registers.
+pub class-read-bits : (n : ℕ) → (n ≡ 1) ⊎ (n ≡ 2) → classOf n ≡ Reads Bits
 unfolding classOf
-class-read n w = rw (holds-or (eqb n readHolding) (eqb n readInput) (holds-eq n readHolding) (holds-eq n readInput) .1 w)
+class-read-bits n w = ⊎-elim (λ e. rw e) (λ e. rw e) w
 
--- 06 is the single write.
-pub class-single : classOf 6 ≡ WritesOne
+pub class-read : (n : ℕ) → (n ≡ 3) ⊎ (n ≡ 4) → classOf n ≡ Reads Registers
 unfolding classOf
-class-single = refl
+class-read n w = ⊎-elim (λ e. rw e) (λ e. rw e) w
 
--- 16 is the multiple write.
-pub class-multiple : classOf 16 ≡ WritesMany
+-- 05 and 06 are the single writes.
+pub class-single : (classOf 5 ≡ WritesOne Bits) × (classOf 6 ≡ WritesOne Registers)
 unfolding classOf
-class-multiple = refl
+class-single = (refl, refl)
+
+-- 15 and 16 are the multiple writes.
+pub class-multiple : (classOf 15 ≡ WritesMany Bits) × (classOf 16 ≡ WritesMany Registers)
+unfolding classOf
+class-multiple = (refl, refl)
 
 -- Every other function is looked into no further.
-pub class-other : (n : ℕ) → (n ≡ 3 → ⊥) → (n ≡ 4 → ⊥) → (n ≡ 6 → ⊥) → (n ≡ 16 → ⊥) → classOf n ≡ Others
+pub class-other : (n : ℕ) → (n ≡ 1 → ⊥) → (n ≡ 2 → ⊥) → (n ≡ 3 → ⊥) → (n ≡ 4 → ⊥) → (n ≡ 5 → ⊥) → (n ≡ 6 → ⊥) → (n ≡ 15 → ⊥) → (n ≡ 16 → ⊥) → classOf n ≡ Others
 unfolding classOf
-class-other n a b c d = simp (ne-eqb n readHolding a, ne-eqb n readInput b, ne-eqb n writeSingle c, ne-eqb n writeMultiple d)
+class-other n a b c d e f g h = simp (ne-eqb n 1 a, ne-eqb n 2 b, ne-eqb n 3 c, ne-eqb n 4 d, ne-eqb n 5 e, ne-eqb n 6 f, ne-eqb n 15 g, ne-eqb n 16 h)
 
 -- every request has an outcome
 some-outcome : (f : List ℕ) → (x : Checked) × Outcome f x
@@ -260,16 +284,16 @@ legal-checked s f = (
 
 -- the bytes that a legal request has
 abbrev pub RequestRoom : Asked → List ℕ → Type 0
-RequestRoom (Read s q) f = 12 ≡ length f
-RequestRoom (SingleWrite a) f = 12 ≡ length f
-RequestRoom (MultipleWrite s q) f = 13 + 2 * q ≡ length f
+RequestRoom (Read t s q) f = 12 ≡ length f
+RequestRoom (SingleWrite t a v) f = 12 ≡ length f
+RequestRoom (MultipleWrite t s q) f = 13 + bytesFor t q ≡ length f
 RequestRoom Other f = Unit {0}
 
 room-by : (c : Class) (f : List ℕ) → Sized c f → Valued c f → RequestRoom (askedBy c f) f
 unfolding askedBy
-room-by Reads f h v = omega arith
-room-by WritesOne f h v = omega arith
-room-by WritesMany f h v = omega (arith, h, v)
+room-by (Reads t) f h v = omega arith
+room-by (WritesOne t) f h v = omega arith
+room-by (WritesMany t) f h v = omega (arith, h, v)
 room-by Others f h v = tt
 
 -- A legal request has exactly the bytes that what it asks calls for.
@@ -280,21 +304,23 @@ legal-room f a e = let p = legal-passed f a e in rw (p .asks) (room-by (classIn 
 pair-low : (f : List ℕ) (k : ℕ) → ((j : ℕ) → getD f j 0 < 256) → pairAt f k < 65536
 pair-low f k b = omega (arith, b k, b (k + 1))
 
-first-field : {s q : ℕ} → s < 65536 → q < 65536 → (s * 65536 + q) / 65536 % 65536 ≡ s
-first-field {s} h l = rw (digits-div s l) (mod-eq-of-lt h)
+-- two of them, one above the other, come back
+fields : {s q : ℕ} → s < 65536 → q < 65536 → ((s * 65536 + q) / 65536 % 65536 ≡ s) × ((s * 65536 + q) % 65536 ≡ q)
+fields {s} h l = (rw (digits-div s l) (mod-eq-of-lt h), digits-mod s l)
 
 kept-back : (c : Class) (f : List ℕ) → ((k : ℕ) → getD f k 0 < 256) → keptIn c (kept (askedBy c f)) ≡ askedBy c f
 unfolding keptIn kept askedBy
-kept-back Reads f b = rw (first-field (pair-low f 8 b) (pair-low f 10 b), digits-mod (startOf f) (pair-low f 10 b))
-kept-back WritesOne f b = ap SingleWrite (omega (arith, pair-low f 8 b))
-kept-back WritesMany f b = rw (first-field (pair-low f 8 b) (pair-low f 10 b), digits-mod (startOf f) (pair-low f 10 b))
+kept-back (Reads t) f b = let e = fields (pair-low f 8 b) (pair-low f 10 b) in rw (e .0, e .1)
+kept-back (WritesOne t) f b = let e = fields (pair-low f 8 b) (pair-low f 10 b) in rw (e .0, e .1)
+kept-back (WritesMany t) f b = let e = fields (pair-low f 8 b) (pair-low f 10 b) in rw (e .0, e .1)
 kept-back Others f b = refl
 
 lawful-by : (c : Class) (f : List ℕ) → ((k : ℕ) → getD f k 0 < 256) → Valued c f → Ranged c f → Lawful (askedBy c f)
 unfolding Lawful askedBy
-lawful-by Reads f b v r = (v .0, v .1, r)
-lawful-by WritesOne f b v r = pair-low f 8 b
-lawful-by WritesMany f b v r = (v .0, v .1 .0, r)
+lawful-by (Reads t) f b v r = (v .0, v .1, r)
+lawful-by (WritesOne Bits) f b v r = (pair-low f 8 b, v)
+lawful-by (WritesOne Registers) f b v r = (pair-low f 8 b, pair-low f 10 b)
+lawful-by (WritesMany t) f b v r = (v .0, v .1 .0, r)
 lawful-by Others f b v r = tt
 
 -- What a legal request of bytes asks may stand in a live entry.

@@ -1,13 +1,16 @@
 -- What was asked comes back from its word, two words tell two things apart, and a word fits 64 bits.
 -- Assumes nothing.
-use Prim.Native.Nat.{ℕ, _+_, _*_, _/_, _%_, _^_, _<_}
+use Prim.Native.Nat.{ℕ, _+_, _*_, _/_, _%_, _^_, _≤_, _<_}
 use mathlib.Core.Path.{_≡_, refl, ap, sym, _∙_}
-use mathlib.Core.Logic.{_↔_}
+use mathlib.Core.Logic.{_↔_, ⊎-elim}
 use native.Mathlib.Nat.{mod-eq-of-lt}
 use native.Mathlib.Omega.{arith}
 use lib.Arith.{digits-div, digits-mod, digits-lt}
+use Rattle.pdu.specs.Requests.{mostReadOf, mostWrittenOf}
 use Rattle.pdu.specs.Replies.{What}
 use Rattle.pdu.specs.Words.{kept, wordOf, whatOf, whatIn, entryOf, Lawful, Proper}
+use Rattle.pdu.specs.declared.Table.{Table}
+use Rattle.pdu.specs.declared.Table.the-variants.{Bits, Registers}
 use Rattle.pdu.specs.declared.Asked.{Asked}
 use Rattle.pdu.specs.declared.Asked.the-variants.{Read, SingleWrite, MultipleWrite, Other}
 use Rattle.pdu.specs.declared.ProxyId.{ProxyId}
@@ -18,12 +21,22 @@ use Rattle.pdu.proofs.RequestLaws.{known}
 two-low : {s q : ℕ} → s < 65536 → q < 65536 → s * 65536 + q < 281474976710656
 two-low h l = let t = digits-lt h l in omega arith
 
+-- no request reads or writes more than 2,000
+most-read : (t : Table) → mostReadOf t ≤ 2000
+most-read Bits = omega arith
+most-read Registers = omega arith
+
+most-written : (t : Table) → mostWrittenOf t ≤ 2000
+most-written Bits = omega arith
+most-written Registers = omega arith
+
 -- what a legal request keeps fits 48 bits
 kept-low : (a : Asked) → Lawful a → kept a < 281474976710656
 unfolding kept Lawful
-kept-low (Read s q) h = two-low (omega (arith, h)) (omega (arith, h))
-kept-low (SingleWrite a) h = omega arith
-kept-low (MultipleWrite s q) h = two-low (omega (arith, h)) (omega (arith, h))
+kept-low (Read t s q) h = two-low (omega (arith, h)) (omega (arith, h, most-read t))
+kept-low (SingleWrite Bits a v) h = two-low (h .0) (⊎-elim (λ e. omega arith) (λ e. omega arith) (h .1))
+kept-low (SingleWrite Registers a v) h = two-low (h .0) (h .1)
+kept-low (MultipleWrite t s q) h = two-low (omega (arith, h)) (omega (arith, h, most-written t))
 kept-low Other h = omega arith
 
 module _ (w : What) (p : Proper w) where

@@ -1,13 +1,14 @@
--- What answers a request: a reply frame held against what was asked.
+-- What answers a request: a reply frame held against what was asked. The replies stand in the same sections of MAP V1.1b3 as the requests.
 -- Assumes nothing.
-use Prim.Native.Nat.{ℕ, _+_, _*_}
+use Prim.Native.Nat.{ℕ, _+_}
 use mathlib.Core.Bool.{Bool, true, _&&_, _||_}
 use mathlib.Core.List.{List}
 use lib.ListN.{getD}
 use lib.Dec.{eqb}
 use Rattle.laws.specs.Numbers.{shortPdu, exceptionPdu, exceptionBit}
 use Rattle.wire.specs.Frame.{unitOf, functionOf, pduSize}
-use Rattle.pdu.specs.Requests.{startOf, quantityOf}
+use Rattle.pdu.specs.Requests.{startOf, quantityOf, valueOf, bytesFor}
+use Rattle.pdu.specs.declared.Table.the-variants.{Bits, Registers}
 use Rattle.pdu.specs.declared.Asked.{Asked}
 use Rattle.pdu.specs.declared.Asked.the-variants.{Read, SingleWrite, MultipleWrite, Other}
 
@@ -20,16 +21,17 @@ pub record What : Type 0 where
 abbrev pub what : ℕ → ℕ → Asked → What
 what u f a = record { unit = u; function = f; asked = a }
 
--- a reply's byte count to 03 and 04
+-- a reply's byte count to 01 to 04
 abbrev pub replyCountOf : List ℕ → ℕ
 replyCountOf f = getD f 8 0
 
--- the shape of a reply of the same function. 03, 04: byte count 2 × quantity, PDU 2 + 2 × quantity; 06: 5 bytes, same address; 16: 5 bytes, same start and
--- quantity; other: anything
+-- the shape of a reply of the same function. 01 to 04: byte count that of the quantity, PDU 2 + byte count; 05: 5 bytes, same address and value; 06: 5 bytes, same address; 15, 16:
+-- 5 bytes, same start and quantity; other: anything
 unfoldable pub shaped : Asked → List ℕ → Bool
-shaped (Read s q) f = eqb (replyCountOf f) (2 * q) && eqb (pduSize f) (2 + 2 * q)
-shaped (SingleWrite a) f = eqb (pduSize f) shortPdu && eqb (startOf f) a
-shaped (MultipleWrite s q) f = eqb (pduSize f) shortPdu && (eqb (startOf f) s && eqb (quantityOf f) q)
+shaped (Read t s q) f = eqb (replyCountOf f) (bytesFor t q) && eqb (pduSize f) (2 + bytesFor t q)
+shaped (SingleWrite Bits a v) f = eqb (pduSize f) shortPdu && (eqb (startOf f) a && eqb (valueOf f) v)
+shaped (SingleWrite Registers a v) f = eqb (pduSize f) shortPdu && eqb (startOf f) a
+shaped (MultipleWrite t s q) f = eqb (pduSize f) shortPdu && (eqb (startOf f) s && eqb (quantityOf f) q)
 shaped Other f = true
 
 -- an exception reply: function + 128 with a PDU of 2 bytes

@@ -1,14 +1,18 @@
--- What a request frame asks, and what is refused or excepted of it, by the class of its function.
+-- What a request frame asks, and what is refused or excepted of it, by the class of its function. MAP V1.1b3 has the functions in 6.1 Read Coils (01), 6.2 Read Discrete Inputs (02),
+-- 6.3 Read Holding Registers (03), 6.4 Read Input Registers (04), 6.5 Write Single Coil (05), 6.6 Write Single Register (06), 6.11 Write Multiple Coils (15) and 6.12 Write Multiple
+-- Registers (16).
 -- Assumes nothing.
-use Prim.Native.Nat.{ℕ, _+_, _*_}
+use Prim.Native.Nat.{ℕ, _+_, _*_, _/_}
 use mathlib.Core.Bool.{Bool, false, cond, not, _&&_, _||_}
 use mathlib.Core.List.{List}
 use lib.ListN.{getD}
 use lib.Dec.{eqb, ltb}
-use Rattle.laws.specs.Numbers.{readHolding, readInput, writeSingle, writeMultiple, lastFunction, mostRead, mostWritten, shortPdu, multiplePdu, addresses, illegalAddress, illegalValue}
+use Rattle.laws.specs.Numbers.{readCoils, readDiscrete, readHolding, readInput, writeCoil, writeSingle, writeCoils, writeMultiple, lastFunction, mostRead, mostWritten, mostBitsRead, mostBitsWritten, coilOff, coilOn, shortPdu, multiplePdu, addresses, illegalAddress, illegalValue}
 use Rattle.laws.specs.Bytes.{pairAt}
 use Rattle.wire.specs.Frame.{functionOf, pduSize, misframed}
 use Rattle.settings.specs.Grammar.{Value}
+use Rattle.pdu.specs.declared.Table.{Table}
+use Rattle.pdu.specs.declared.Table.the-variants.{Bits, Registers}
 use Rattle.pdu.specs.declared.Class.{Class}
 use Rattle.pdu.specs.declared.Class.the-variants.{Reads, WritesOne, WritesMany, Others}
 use Rattle.pdu.specs.declared.Asked.{Asked}
@@ -16,54 +20,75 @@ use Rattle.pdu.specs.declared.Asked.the-variants.{Read, SingleWrite, Mul
 use Rattle.pdu.specs.declared.Checked.{Checked}
 use Rattle.pdu.specs.declared.Checked.the-variants.{BadFunction, BadLength, Excepted, Legal}
 
--- the class of a function: 03 and 04, 06, 16, and every other
+-- the class of a function: 01 and 02, 03 and 04, 05, 06, 15, 16, and every other
 unfoldable pub classOf : ℕ → Class
 classOf n =
-    cond (eqb n readHolding || eqb n readInput) Reads
-    (cond (eqb n writeSingle) WritesOne
-    (cond (eqb n writeMultiple) WritesMany
-    Others))
+    cond (eqb n readCoils || eqb n readDiscrete) (Reads Bits)
+    (cond (eqb n readHolding || eqb n readInput) (Reads Registers)
+    (cond (eqb n writeCoil) (WritesOne Bits)
+    (cond (eqb n writeSingle) (WritesOne Registers)
+    (cond (eqb n writeCoils) (WritesMany Bits)
+    (cond (eqb n writeMultiple) (WritesMany Registers)
+    Others)))))
 
--- behind the function: the start (06: the address), the quantity (06: the value), and 16's byte count
+-- behind the function: the start (05, 06: the address), the quantity (05, 06: the value), and the byte count of 15 and 16
 abbrev pub startOf : List ℕ → ℕ
 startOf f = pairAt f 8
 
 abbrev pub quantityOf : List ℕ → ℕ
 quantityOf f = pairAt f 10
 
+abbrev pub valueOf : List ℕ → ℕ
+valueOf f = pairAt f 10
+
 abbrev pub byteCountOf : List ℕ → ℕ
 byteCountOf f = getD f 12 0
+
+-- the bytes that q bits or registers take: the quantity over eight, rounded up; two for each register
+abbrev pub bytesFor : Table → ℕ → ℕ
+bytesFor Bits q = (q + 7) / 8
+bytesFor Registers q = 2 * q
+
+-- the most that one request may read, and the most that one may write
+abbrev pub mostReadOf : Table → ℕ
+mostReadOf Bits = mostBitsRead
+mostReadOf Registers = mostRead
+
+abbrev pub mostWrittenOf : Table → ℕ
+mostWrittenOf Bits = mostBitsWritten
+mostWrittenOf Registers = mostWritten
 
 -- refusal 5: function 0 or 128 to 255
 unfoldable pub badFunction : ℕ → Bool
 badFunction n = eqb n 0 || ltb lastFunction n
 
--- refusal 6: the PDU has 5 bytes for 03, 04 and 06; for 16 at least 6 and 6 + byte count
+-- refusal 6: the PDU has 5 bytes for 01 to 06; for 15 and 16 at least 6 and 6 + byte count
 unfoldable pub badLength : Class → List ℕ → Bool
-badLength Reads f = not (eqb (pduSize f) shortPdu)
-badLength WritesOne f = not (eqb (pduSize f) shortPdu)
-badLength WritesMany f = ltb (pduSize f) multiplePdu || not (eqb (pduSize f) (multiplePdu + byteCountOf f))
+badLength (Reads t) f = not (eqb (pduSize f) shortPdu)
+badLength (WritesOne t) f = not (eqb (pduSize f) shortPdu)
+badLength (WritesMany t) f = ltb (pduSize f) multiplePdu || not (eqb (pduSize f) (multiplePdu + byteCountOf f))
 badLength Others f = false
 
--- exception 03: quantity not 1 to 125, or for 16 not 1 to 123 or the byte count not twice the quantity
+-- exception 03: the quantity is 0 or above the most; for 05 the value is neither 0x0000 nor 0xFF00; for 15 and 16 also the byte count is not that of the quantity
 unfoldable pub badValue : Class → List ℕ → Bool
-badValue Reads f = eqb (quantityOf f) 0 || ltb mostRead (quantityOf f)
-badValue WritesOne f = false
-badValue WritesMany f = eqb (quantityOf f) 0 || (ltb mostWritten (quantityOf f) || not (eqb (byteCountOf f) (2 * quantityOf f)))
+badValue (Reads t) f = eqb (quantityOf f) 0 || ltb (mostReadOf t) (quantityOf f)
+badValue (WritesOne Bits) f = not (eqb (valueOf f) coilOff || eqb (valueOf f) coilOn)
+badValue (WritesOne Registers) f = false
+badValue (WritesMany t) f = eqb (quantityOf f) 0 || (ltb (mostWrittenOf t) (quantityOf f) || not (eqb (byteCountOf f) (bytesFor t (quantityOf f))))
 badValue Others f = false
 
 -- exception 02: start + quantity above 65,536
 unfoldable pub badAddress : Class → List ℕ → Bool
-badAddress Reads f = ltb addresses (startOf f + quantityOf f)
-badAddress WritesOne f = false
-badAddress WritesMany f = ltb addresses (startOf f + quantityOf f)
+badAddress (Reads t) f = ltb addresses (startOf f + quantityOf f)
+badAddress (WritesOne t) f = false
+badAddress (WritesMany t) f = ltb addresses (startOf f + quantityOf f)
 badAddress Others f = false
 
 -- what is kept of a request
 unfoldable pub askedBy : Class → List ℕ → Asked
-askedBy Reads f = Read (startOf f) (quantityOf f)
-askedBy WritesOne f = SingleWrite (startOf f)
-askedBy WritesMany f = MultipleWrite (startOf f) (quantityOf f)
+askedBy (Reads t) f = Read t (startOf f) (quantityOf f)
+askedBy (WritesOne t) f = SingleWrite t (startOf f) (valueOf f)
+askedBy (WritesMany t) f = MultipleWrite t (startOf f) (quantityOf f)
 askedBy Others f = Other
 
 abbrev pub askedOf : List ℕ → Asked

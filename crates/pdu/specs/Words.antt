@@ -2,9 +2,11 @@
 -- Assumes nothing.
 use Prim.Native.Nat.{ℕ, _+_, _*_, _/_, _%_, _≤_, _<_}
 use mathlib.Core.Path.{_≡_}
+use mathlib.Core.Logic.{_⊎_}
 use mathlib.Core.Bool.{false}
-use Rattle.laws.specs.Numbers.{mostRead, mostWritten, addresses}
-use Rattle.pdu.specs.Requests.{classOf, badFunction}
+use Rattle.laws.specs.Numbers.{coilOff, coilOn, addresses}
+use Rattle.pdu.specs.Requests.{classOf, mostReadOf, mostWrittenOf, badFunction}
+use Rattle.pdu.specs.declared.Table.the-variants.{Bits, Registers}
 use Rattle.pdu.specs.declared.Class.{Class}
 use Rattle.pdu.specs.declared.Class.the-variants.{Reads, WritesOne, WritesMany, Others}
 use Rattle.pdu.specs.Replies.{What, what}
@@ -13,17 +15,17 @@ use Rattle.pdu.specs.declared.Asked.the-variants.{Read, SingleWrite, Mul
 use Rattle.pdu.specs.declared.ProxyId.{ProxyId}
 use Rattle.pdu.specs.declared.Entry.{Entry}
 
--- what a class keeps, in 48 bits; and back
+-- what a class keeps, in 48 bits; and back, with the table of the class
 unfoldable pub kept : Asked → ℕ
-kept (Read s q) = s * 65536 + q
-kept (SingleWrite a) = a * 65536
-kept (MultipleWrite s q) = s * 65536 + q
+kept (Read t s q) = s * 65536 + q
+kept (SingleWrite t a v) = a * 65536 + v
+kept (MultipleWrite t s q) = s * 65536 + q
 kept Other = 0
 
 unfoldable pub keptIn : Class → ℕ → Asked
-keptIn Reads n = Read (n / 65536 % 65536) (n % 65536)
-keptIn WritesOne n = SingleWrite (n / 65536 % 65536)
-keptIn WritesMany n = MultipleWrite (n / 65536 % 65536) (n % 65536)
+keptIn (Reads t) n = Read t (n / 65536 % 65536) (n % 65536)
+keptIn (WritesOne t) n = SingleWrite t (n / 65536 % 65536) (n % 65536)
+keptIn (WritesMany t) n = MultipleWrite t (n / 65536 % 65536) (n % 65536)
 keptIn Others n = Other
 
 unfoldable pub wordOf : What → ℕ
@@ -40,11 +42,12 @@ whatIn e = what (e .unit) (e .function) (e .asked)
 unfoldable pub entryOf : ProxyId → ℕ → ℕ → Entry
 entryOf id n d = record { id = id; unit = whatOf n .unit; function = whatOf n .function; asked = whatOf n .asked; deadline = d }
 
--- what a legal request asks: quantities and ranges within the bounds
+-- what a legal request asks: quantities, values and ranges within the bounds
 unfoldable pub Lawful : Asked → Type 0
-Lawful (Read s q) = (1 ≤ q) × (q ≤ mostRead) × (s + q ≤ addresses)
-Lawful (SingleWrite a) = a < addresses
-Lawful (MultipleWrite s q) = (1 ≤ q) × (q ≤ mostWritten) × (s + q ≤ addresses)
+Lawful (Read t s q) = (1 ≤ q) × (q ≤ mostReadOf t) × (s + q ≤ addresses)
+Lawful (SingleWrite Bits a v) = (a < addresses) × ((v ≡ coilOff) ⊎ (v ≡ coilOn))
+Lawful (SingleWrite Registers a v) = (a < addresses) × (v < 65536)
+Lawful (MultipleWrite t s q) = (1 ≤ q) × (q ≤ mostWrittenOf t) × (s + q ≤ addresses)
 Lawful Other = Unit {0}
 
 -- what a live entry may hold: a unit, a function that is not refused, and what that function's class keeps, within the bounds

@@ -1,34 +1,54 @@
 // What a request asks, what it may ask and what answers it: the definitions with their laws; proxy ids and clients' ids as two types.
 ghost use mathlib.Core.Path.{_≡_};
-ghost use Prim.Native.Nat.{_+_};
+ghost use Prim.Native.Nat.{_+_, _<_};
 ghost use Rattle.laws.specs.Numbers.{ids};
 ghost use Rattle.laws.specs.Circle.{turn};
 ghost use Rattle.wire.specs.Frame.{idOf};
-ghost use Rattle.pdu.specs.Requests.{classOf};
+ghost use Rattle.pdu.specs.Requests.{classOf, bytesFor, mostReadOf, mostWrittenOf};
 
-// Where the fields stand that requests and replies share: behind the function the start (06: the address) and the quantity.
+// Where the fields stand that requests and replies share: behind the function the start (05, 06: the address) and the quantity (05, 06: the value).
 pub const START_AT: usize = 8;
 
 pub const QUANTITY_AT: usize = 10;
+
+pub const VALUE_AT: usize = 10;
 
 // An id that the proxy issued, and an id that a client gave: two types that cannot be mixed.
 pub struct ProxyId(pub u16);
 
 pub struct OriginalId(pub u16);
 
-// The classes of functions: 03 and 04, 06, 16, and every other.
+// What a function reads or writes: coils and discrete inputs are single bits, holding and input registers words of 16 bits.
+pub enum Table {
+    Bits,
+    Registers,
+}
+
+// The classes of functions: 01 to 04, 05 and 06, 15 and 16, and every other.
 pub enum Class {
-    Reads,
-    WritesOne,
-    WritesMany,
+    Reads(Table),
+    WritesOne(Table),
+    WritesMany(Table),
     Others,
 }
 
-// What was asked, kept with the live entry.
+// What was asked, kept with the live entry; of a single write also the value, as the client wrote it.
 pub enum Asked {
-    Read { start: u16, quantity: u16 },
-    SingleWrite { address: u16 },
-    MultipleWrite { start: u16, quantity: u16 },
+    Read {
+        table: Table,
+        start: u16,
+        quantity: u16,
+    },
+    SingleWrite {
+        table: Table,
+        address: u16,
+        value: u16,
+    },
+    MultipleWrite {
+        table: Table,
+        start: u16,
+        quantity: u16,
+    },
     Other,
 }
 
@@ -79,14 +99,52 @@ pub fn proxy_of(frame: &[u8]) -> ProxyId
 pub fn class_of(function: u8) -> Class
     ensures { λ r. ⌜ r ≡ classOf function ⌝ }
 {
+    if (function == laws::READ_COILS) | (function == laws::READ_DISCRETE) {
+        return Class::Reads(Table::Bits);
+    }
     if (function == laws::READ_HOLDING) | (function == laws::READ_INPUT) {
-        return Class::Reads;
+        return Class::Reads(Table::Registers);
+    }
+    if function == laws::WRITE_COIL {
+        return Class::WritesOne(Table::Bits);
     }
     if function == laws::WRITE_SINGLE {
-        return Class::WritesOne;
+        return Class::WritesOne(Table::Registers);
+    }
+    if function == laws::WRITE_COILS {
+        return Class::WritesMany(Table::Bits);
     }
     if function == laws::WRITE_MULTIPLE {
-        return Class::WritesMany;
+        return Class::WritesMany(Table::Registers);
     }
     Class::Others
+}
+
+// The bytes that so many bits or registers take.
+pub fn bytes_for(table: Table, quantity: u16) -> usize
+    ensures { λ r. ⌜ (r ≡ bytesFor table quantity) × (r < 131072) ⌝ }
+{
+    match table {
+        Table::Bits => (quantity as usize + 7) / 8,
+        Table::Registers => 2 * quantity as usize,
+    }
+}
+
+// The most that one request may read, and the most that one may write.
+pub fn most_read_of(table: Table) -> u16
+    ensures { λ r. ⌜ r ≡ mostReadOf table ⌝ }
+{
+    match table {
+        Table::Bits => laws::MOST_BITS_READ,
+        Table::Registers => laws::MOST_READ,
+    }
+}
+
+pub fn most_written_of(table: Table) -> u16
+    ensures { λ r. ⌜ r ≡ mostWrittenOf table ⌝ }
+{
+    match table {
+        Table::Bits => laws::MOST_BITS_WRITTEN,
+        Table::Registers => laws::MOST_WRITTEN,
+    }
 }

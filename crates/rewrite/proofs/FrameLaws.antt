@@ -1,4 +1,5 @@
--- A frame rewritten: its length and every byte outside the registers stay, what it answers too, an exception passes unchanged, and it goes over a buffer under an id.
+-- A frame rewritten: its length and every byte outside the registers stay, what it answers too, an exception, coils and discrete inputs pass unchanged, and it goes over a buffer under
+-- an id.
 -- Assumes nothing.
 use Prim.Native.Nat.{ℕ, _+_, _*_, _≤_, _<_}
 use mathlib.Core.Path.{_≡_, refl, ap, sym, _∙_}
@@ -10,9 +11,12 @@ use lib.ListN.{length, getD, take, drop, length-drop}
 use lib.Seq.{take-append-seam, drop-append-seam, drop-append-le}
 use Rattle.laws.specs.Bytes.{over}
 use Rattle.laws.proofs.Choice.{true-or}
-use Rattle.wire.specs.Frame.{misframed, laid}
+use Rattle.wire.specs.Frame.{functionOf, misframed, laid}
 use Rattle.settings.specs.Grammar.{Tag}
+use Rattle.pdu.specs.Requests.{classOf, askedBy, askedOf}
 use Rattle.pdu.specs.Replies.{What, what, excepts, shaped, answering}
+use Rattle.pdu.specs.declared.Table.{Table}
+use Rattle.pdu.specs.declared.Table.the-variants.{Bits, Registers}
 use Rattle.pdu.specs.declared.Asked.{Asked}
 use Rattle.pdu.specs.declared.Asked.the-variants.{Read, SingleWrite, MultipleWrite, Other}
 use Rattle.rewrite.specs.declared.Way.{Way}
@@ -20,6 +24,8 @@ use Rattle.rewrite.specs.declared.Way.the-variants.{ToBinary}
 use Rattle.rewrite.specs.Registers.{registersAt}
 use Rattle.rewrite.specs.Rewriting.{rewritten, Rewritten, outcome, rewriting}
 use Rattle.rewrite.specs.Frames.{forwarded, returnedBy, returned, under}
+use Rattle.rewrite.specs.Plain.{OfBits}
+use Rattle.rewrite.specs.Plain.OfBits.{coils-read, discrete-read, coil-written, coils-written}
 use Rattle.rewrite.proofs.RegisterLaws.{length-laid, length-registers, laid-other}
 use Rattle.rewrite.proofs.RunLaws.{length-rewritten}
 
@@ -39,13 +45,31 @@ module _ (way : Way) (base start q : ℕ) (tags : List Tag) (d : List ℕ) where
 
 module _ (tags : List Tag) (f : List ℕ) where
   -- A request to read and one of any other function pass unchanged, and no tag is counted.
-  pub forwarded-read : (s q : ℕ) → forwarded tags (Read s q) f ≡ outcome 0 0 f
+  pub forwarded-read : (t : Table) (s q : ℕ) → forwarded tags (Read t s q) f ≡ outcome 0 0 f
   unfolding forwarded
-  forwarded-read s q = refl
+  forwarded-read t s q = refl
 
   pub forwarded-other : forwarded tags Other f ≡ outcome 0 0 f
   unfolding forwarded
   forwarded-other = refl
+
+  sent-by : (n : ℕ) → OfBits n → forwarded tags (askedBy (classOf n) f) f ≡ outcome 0 0 f
+  unfolding forwarded askedBy classOf
+  sent-by n coils-read = refl
+  sent-by n discrete-read = refl
+  sent-by n coil-written = refl
+  sent-by n coils-written = refl
+
+  -- A request 01, 02, 05 or 15 passes unchanged, whatever the tags, and no tag is counted.
+  pub forwarded-bits : OfBits (functionOf f) → forwarded tags (askedOf f) f ≡ outcome 0 0 f
+  forwarded-bits = sent-by (functionOf f)
+
+  brought-by : (n : ℕ) (g : List ℕ) → OfBits n → returnedBy tags (askedBy (classOf n) g) f ≡ outcome 0 0 f
+  unfolding returnedBy askedBy classOf
+  brought-by n g coils-read = refl
+  brought-by n g discrete-read = refl
+  brought-by n g coil-written = refl
+  brought-by n g coils-written = refl
 
   module _ (w : What) where
     -- An exception reply passes unchanged, and no tag is counted.
@@ -58,22 +82,26 @@ module _ (tags : List Tag) (f : List ℕ) where
     unfolding returned
     returned-other e = rw e
 
-    -- A reply that would not be rewritten passes unchanged, exception or not: to a request 16, and to one of any other function.
+    -- A reply that would not be rewritten passes unchanged, exception or not: to a request 15 or 16, to one of any other function, and to 01, 02 and 05.
     unchanged : returnedBy tags (w .asked) f ≡ outcome 0 0 f → returned tags w f ≡ outcome 0 0 f
     unchanged e = ⊎-elim returned-exception (λ x. returned-other x ∙ e) (true-or (excepts (w .function) f))
 
-    pub returned-multiple : (s q : ℕ) → w .asked ≡ MultipleWrite s q → returned tags w f ≡ outcome 0 0 f
+    pub returned-multiple : (t : Table) (s q : ℕ) → w .asked ≡ MultipleWrite t s q → returned tags w f ≡ outcome 0 0 f
     unfolding returnedBy
-    returned-multiple s q e = unchanged (rw e)
+    returned-multiple t s q e = unchanged (rw e)
 
     pub returned-any : w .asked ≡ Other → returned tags w f ≡ outcome 0 0 f
     unfolding returnedBy
     returned-any e = unchanged (rw e)
 
+    -- A reply to what a request 01, 02, 05 or 15 asked passes unchanged, whatever the tags, and no tag is counted.
+    pub returned-bits : (g : List ℕ) → OfBits (functionOf g) → w .asked ≡ askedOf g → returned tags w f ≡ outcome 0 0 f
+    returned-bits g b e = unchanged (rw e (brought-by (functionOf g) g b))
+
     -- A reply to a request 06 is rewritten to binary: the one register at byte 10, of the address asked.
-    pub returned-single : (a : ℕ) → w .asked ≡ SingleWrite a → excepts (w .function) f ≡ false → returned tags w f ≡ rewriting ToBinary 10 a 1 tags f
+    pub returned-single : (a v : ℕ) → w .asked ≡ SingleWrite Registers a v → excepts (w .function) f ≡ false → returned tags w f ≡ rewriting ToBinary 10 a 1 tags f
     unfolding returnedBy
-    returned-single a e x = returned-other x ∙ rw e
+    returned-single a v e x = returned-other x ∙ rw e
 
     returned-cases : (P : Rewritten → Type 0) → P (outcome 0 0 f) → P (returnedBy tags (w .asked) f) → P (returned tags w f)
     unfolding returned
@@ -82,35 +110,43 @@ module _ (tags : List Tag) (f : List ℕ) where
   -- A request's frame keeps its length.
   pub length-forwarded : (a : Asked) → length (forwarded tags a f .bytes) ≡ length f
   unfolding forwarded
-  length-forwarded (Read s q) = refl
-  length-forwarded (SingleWrite a) = length-rewriting _ _ a 1 tags f
-  length-forwarded (MultipleWrite s q) = length-rewriting _ _ s q tags f
+  length-forwarded (Read t s q) = refl
+  length-forwarded (SingleWrite Bits a v) = refl
+  length-forwarded (SingleWrite Registers a v) = length-rewriting _ _ a 1 tags f
+  length-forwarded (MultipleWrite Bits s q) = refl
+  length-forwarded (MultipleWrite Registers s q) = length-rewriting _ _ s q tags f
   length-forwarded Other = refl
 
   front-returned-by : (a : Asked) (i : ℕ) → i < 9 → getD (returnedBy tags a f .bytes) i 0 ≡ getD f i 0
   unfolding returnedBy
-  front-returned-by (Read s q) i h = rewriting-other _ _ s q tags f i (inl h)
-  front-returned-by (SingleWrite a) i h = rewriting-other _ _ a 1 tags f i (inl (omega arith))
-  front-returned-by (MultipleWrite s q) i h = refl
+  front-returned-by (Read Bits s q) i h = refl
+  front-returned-by (Read Registers s q) i h = rewriting-other _ _ s q tags f i (inl h)
+  front-returned-by (SingleWrite Bits a v) i h = refl
+  front-returned-by (SingleWrite Registers a v) i h = rewriting-other _ _ a 1 tags f i (inl (omega arith))
+  front-returned-by (MultipleWrite t s q) i h = refl
   front-returned-by Other i h = refl
 
   length-returned-by : (a : Asked) → length (returnedBy tags a f .bytes) ≡ length f
   unfolding returnedBy
-  length-returned-by (Read s q) = length-rewriting _ _ s q tags f
-  length-returned-by (SingleWrite a) = length-rewriting _ _ a 1 tags f
-  length-returned-by (MultipleWrite s q) = refl
+  length-returned-by (Read Bits s q) = refl
+  length-returned-by (Read Registers s q) = length-rewriting _ _ s q tags f
+  length-returned-by (SingleWrite Bits a v) = refl
+  length-returned-by (SingleWrite Registers a v) = length-rewriting _ _ a 1 tags f
+  length-returned-by (MultipleWrite t s q) = refl
   length-returned-by Other = refl
 
   -- what is held against the request stands before the registers
   answers-returned-by : (u n : ℕ) (a : Asked) → answering (what u n a) (returnedBy tags a f .bytes) ≡ answering (what u n a) f
   unfolding answering shaped returnedBy
-  answers-returned-by u n (Read s q) =
+  answers-returned-by u n (Read Bits s q) = refl
+  answers-returned-by u n (Read Registers s q) =
       let stays = rewriting-other ToBinary 9 s q tags f in
       rw (stays 6 (inl (omega arith)), stays 7 (inl (omega arith)), stays 8 (inl (omega arith)), length-rewriting ToBinary 9 s q tags f)
-  answers-returned-by u n (SingleWrite a) =
+  answers-returned-by u n (SingleWrite Bits a v) = refl
+  answers-returned-by u n (SingleWrite Registers a v) =
       let stays = rewriting-other ToBinary 10 a 1 tags f in
       rw (stays 6 (inl (omega arith)), stays 7 (inl (omega arith)), stays 8 (inl (omega arith)), stays 9 (inl (omega arith)), length-rewriting ToBinary 10 a 1 tags f)
-  answers-returned-by u n (MultipleWrite s q) = refl
+  answers-returned-by u n (MultipleWrite t s q) = refl
   answers-returned-by u n Other = refl
 
   module _ (w : What) where
@@ -118,7 +154,7 @@ module _ (tags : List Tag) (f : List ℕ) where
     pub length-returned : length (returned tags w f .bytes) ≡ length f
     length-returned = returned-cases w (λ r. length (r .bytes) ≡ length f) refl (length-returned-by (w .asked))
 
-    -- Its bytes 0 to 8 stay: the header, the function, and the byte count of 03 and 04.
+    -- Its bytes 0 to 8 stay: the header, the function, and the byte count of 01 to 04.
     pub front-returned : (i : ℕ) → i < 9 → getD (returned tags w f .bytes) i 0 ≡ getD f i 0
     front-returned i h = returned-cases w (λ r. getD (r .bytes) i 0 ≡ getD f i 0) refl (front-returned-by (w .asked) i h)
 
@@ -140,9 +176,10 @@ laid-answers id w (a ∷ []) h = absurd (omega arith)
 laid-answers id w (a ∷ b ∷ f) h = by (w .asked)
   where
     by : (x : Asked) → answering (what (w .unit) (w .function) x) (laid id (a ∷ b ∷ f)) ≡ answering (what (w .unit) (w .function) x) (a ∷ b ∷ f)
-    by (Read s q) = refl
-    by (SingleWrite x) = refl
-    by (MultipleWrite s q) = refl
+    by (Read t s q) = refl
+    by (SingleWrite Bits x v) = refl
+    by (SingleWrite Registers x v) = refl
+    by (MultipleWrite t s q) = refl
     by Other = refl
 
 -- A FRAME AT THE START OF A BUFFER

@@ -8,6 +8,7 @@ use native.Mathlib.Omega.{arith}
 use Rattle.pdu.specs.Requests.{checkedOf}
 use Rattle.pdu.specs.Replies.{What, excepts, answering}
 use Rattle.pdu.specs.Words.{Lawful}
+use Rattle.pdu.specs.declared.Table.the-variants.{Bits, Registers}
 use Rattle.pdu.specs.declared.Asked.{Asked}
 use Rattle.pdu.specs.declared.Asked.the-variants.{Read, SingleWrite, MultipleWrite, Other}
 use Rattle.pdu.specs.declared.Checked.the-variants.{Legal}
@@ -17,16 +18,20 @@ use Rattle.rewrite.specs.Lent.{Sent, Brought}
 
 sent : (a : Asked) (f : List ℕ) → RequestRoom a f → Lawful a → Sent a f
 unfolding Lawful
-sent (Read s q) f r l = tt
-sent (SingleWrite a) f r l = record { room = omega arith; low = omega arith }
-sent (MultipleWrite s q) f r l = record { room = omega arith; low = l .2 }
+sent (Read t s q) f r l = tt
+sent (SingleWrite Bits a v) f r l = tt
+sent (SingleWrite Registers a v) f r l = record { room = omega arith; low = omega (arith, l .0) }
+sent (MultipleWrite Bits s q) f r l = tt
+sent (MultipleWrite Registers s q) f r l = record { room = omega arith; low = l .2 }
 sent Other f r l = tt
 
 brought : (a : Asked) (f : List ℕ) → Lawful a → ReplyRoom a f → Brought a f
 unfolding Lawful
-brought (Read s q) f a r = record { room = omega (arith, r); low = a .2 }
-brought (SingleWrite s) f a r = record { room = omega (arith, r); low = omega (arith, a) }
-brought (MultipleWrite s q) f a r = tt
+brought (Read Bits s q) f a r = tt
+brought (Read Registers s q) f a r = record { room = omega (arith, r); low = a .2 }
+brought (SingleWrite Bits s v) f a r = tt
+brought (SingleWrite Registers s v) f a r = record { room = omega (arith, r); low = omega (arith, a .0) }
+brought (MultipleWrite t s q) f a r = tt
 brought Other f a r = tt
 
 -- The registers that a legal request carries are in its frame.

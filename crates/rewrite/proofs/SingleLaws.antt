@@ -20,6 +20,7 @@ use Rattle.bcd.proofs.OutcomeLaws.{decoded-decimal}
 use Rattle.settings.specs.Grammar.{Tag}
 use Rattle.settings.specs.TagWords.{kindOf, lastOf, Ascending}
 use Rattle.pdu.specs.Replies.{What, excepts}
+use Rattle.pdu.specs.declared.Table.the-variants.{Registers}
 use Rattle.pdu.specs.declared.Asked.the-variants.{SingleWrite}
 use Rattle.rewrite.specs.declared.Way.{Way}
 use Rattle.rewrite.specs.declared.Way.the-variants.{ToBinary}
@@ -63,15 +64,15 @@ module _ (way : Way) (base a : ℕ) (f : List ℕ) where
       (List·Memᴰ·cases-cons m)
 
 -- a reply f, of bytes, to a request 06 for the address a, that is no exception
-module _ (tags : List Tag) (asc : Ascending 0 tags) (f : List ℕ) (bytes : (k : ℕ) → getD f k 0 < 256) (w : What) (a : ℕ) (asks : w .asked ≡ SingleWrite a) (plain : excepts (w .function) f ≡ false) where
+module _ (tags : List Tag) (asc : Ascending 0 tags) (f : List ℕ) (bytes : (k : ℕ) → getD f k 0 < 256) (w : What) (a written : ℕ) (asks : w .asked ≡ SingleWrite Registers a written) (plain : excepts (w .function) f ≡ false) where
   -- Where no tag has the address the reply passes unchanged, and none is counted.
   pub single-untagged : ((t : Tag) → List·Memᴰ t tags → Has t a → ⊥) → returned tags w f ≡ outcome 0 0 f
   single-untagged n =
-      returned-single tags f w a asks plain ∙ idle-behind ToBinary 10 a 1 f [] tags (λ u m. elsewhere ToBinary 10 a f u (n u m)) ∙ idle-none ToBinary 10 a 1 f bytes
+      returned-single tags f w a written asks plain ∙ idle-behind ToBinary 10 a 1 f [] tags (λ u m. elsewhere ToBinary 10 a f u (n u m)) ∙ idle-none ToBinary 10 a 1 f bytes
 
   module _ (t : Tag) (m : List·Memᴰ t tags) (h : Has t a) where
     judged-by : (v : Verdict) → verdict ToBinary a (registersAt 10 1 f) t ≡ v → returned tags w f ≡ byVerdict ToBinary 10 a 1 t f v
-    judged-by v e = returned-single tags f w a asks plain ∙ alone ToBinary 10 a f 0 tags t asc m h ∙ by-verdict ToBinary 10 a 1 t f v e
+    judged-by v e = returned-single tags f w a written asks plain ∙ alone ToBinary 10 a f 0 tags t asc m h ∙ by-verdict ToBinary 10 a 1 t f v e
 
     -- Under a tag of width 32 it passes unchanged, and the tag is counted as raw for partial cover.
     pub single-wide : t .width ≡ 32 → returned tags w f ≡ outcome 1 0 f

@@ -1,4 +1,4 @@
--- Which registers of a frame are rewritten: those of requests 06 and 16 to BCD, those of replies 03, 04 and 06 to binary; all else passes unchanged.
+-- Which registers of a frame are rewritten: those of requests 06 and 16 to BCD, those of replies 03, 04 and 06 to binary; all else passes unchanged, coils and discrete inputs too.
 -- Assumes nothing.
 use Prim.Native.Nat.{ℕ}
 use mathlib.Core.Bool.{cond}
@@ -7,6 +7,7 @@ use Rattle.laws.specs.Bytes.{over}
 use Rattle.wire.specs.Frame.{laid}
 use Rattle.settings.specs.Grammar.{Tag}
 use Rattle.pdu.specs.Replies.{What, excepts}
+use Rattle.pdu.specs.declared.Table.the-variants.{Bits, Registers}
 use Rattle.pdu.specs.declared.Asked.{Asked}
 use Rattle.pdu.specs.declared.Asked.the-variants.{Read, SingleWrite, MultipleWrite, Other}
 use Rattle.rewrite.specs.declared.Way.the-variants.{ToBcd, ToBinary}
@@ -23,15 +24,19 @@ abbrev pub multipleBase : ℕ
 multipleBase = 13
 
 unfoldable pub forwarded : List Tag → Asked → List ℕ → Rewritten
-forwarded tags (Read s q) f = outcome 0 0 f
-forwarded tags (SingleWrite a) f = rewriting ToBcd singleBase a 1 tags f
-forwarded tags (MultipleWrite s q) f = rewriting ToBcd multipleBase s q tags f
+forwarded tags (Read t s q) f = outcome 0 0 f
+forwarded tags (SingleWrite Bits a v) f = outcome 0 0 f
+forwarded tags (SingleWrite Registers a v) f = rewriting ToBcd singleBase a 1 tags f
+forwarded tags (MultipleWrite Bits s q) f = outcome 0 0 f
+forwarded tags (MultipleWrite Registers s q) f = rewriting ToBcd multipleBase s q tags f
 forwarded tags Other f = outcome 0 0 f
 
 unfoldable pub returnedBy : List Tag → Asked → List ℕ → Rewritten
-returnedBy tags (Read s q) f = rewriting ToBinary readBase s q tags f
-returnedBy tags (SingleWrite a) f = rewriting ToBinary singleBase a 1 tags f
-returnedBy tags (MultipleWrite s q) f = outcome 0 0 f
+returnedBy tags (Read Bits s q) f = outcome 0 0 f
+returnedBy tags (Read Registers s q) f = rewriting ToBinary readBase s q tags f
+returnedBy tags (SingleWrite Bits a v) f = outcome 0 0 f
+returnedBy tags (SingleWrite Registers a v) f = rewriting ToBinary singleBase a 1 tags f
+returnedBy tags (MultipleWrite t s q) f = outcome 0 0 f
 returnedBy tags Other f = outcome 0 0 f
 
 -- an exception reply passes unchanged

@@ -10,6 +10,7 @@ use lib.Dec.{leb}
 use Rattle.laws.specs.Numbers.{mostTags, addresses, leastFrame}
 use Rattle.settings.specs.Grammar.{Tag}
 use Rattle.settings.specs.TagWords.{tagOf, lastOf, Ascending}
+use Rattle.pdu.specs.declared.Table.the-variants.{Bits, Registers}
 use Rattle.pdu.specs.declared.Asked.{Asked}
 use Rattle.pdu.specs.declared.Asked.the-variants.{Read, SingleWrite, MultipleWrite, Other}
 use Rattle.rewrite.specs.Frames.{readBase, singleBase, multipleBase}
@@ -33,15 +34,19 @@ pub record Run (base start quantity : ℕ) (d : List ℕ) : Type 0 where
 
 -- the registers that a request carries, and those that a reply carries, are in the frame
 abbrev pub Sent : Asked → List ℕ → Type 0
-Sent (Read s q) f = Unit {0}
-Sent (SingleWrite a) f = Run singleBase a 1 f
-Sent (MultipleWrite s q) f = Run multipleBase s q f
+Sent (Read t s q) f = Unit {0}
+Sent (SingleWrite Bits a v) f = Unit {0}
+Sent (SingleWrite Registers a v) f = Run singleBase a 1 f
+Sent (MultipleWrite Bits s q) f = Unit {0}
+Sent (MultipleWrite Registers s q) f = Run multipleBase s q f
 Sent Other f = Unit {0}
 
 abbrev pub Brought : Asked → List ℕ → Type 0
-Brought (Read s q) f = Run readBase s q f
-Brought (SingleWrite a) f = Run singleBase a 1 f
-Brought (MultipleWrite s q) f = Unit {0}
+Brought (Read Bits s q) f = Unit {0}
+Brought (Read Registers s q) f = Run readBase s q f
+Brought (SingleWrite Bits a v) f = Unit {0}
+Brought (SingleWrite Registers a v) f = Run singleBase a 1 f
+Brought (MultipleWrite t s q) f = Unit {0}
 Brought Other f = Unit {0}
 
 -- a frame, and a buffer that takes it

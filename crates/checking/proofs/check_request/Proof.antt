@@ -2,7 +2,7 @@
 -- Assumes nothing.
 use mathlib.Core.Path.{sym, _∙_}
 use denote.Ref.{now}
-use Rattle.pdu.specs.declared.Class.the-variants.{Reads, WritesOne, WritesMany, Others}
+use Rattle.pdu.specs.declared.Class.the-variants.{Others}
 use Rattle.pdu.proofs.RequestLaws.{checked-unknown, checked-class, checked-other}
 use borrow.Author.Needs.{needs}
 use Rattle.checking.proofs.check_request.Statement.{statement}
@@ -15,30 +15,30 @@ returns c =
 
 returns-2 : tie.Need-returns-2
 returns-2 c =
-    let arm = c .before in
+    let arm = c .before .before in
     let class = arm .before .before in
     let known = class .before in
     let function = known .before in
     let f = now (function .before .before .args .frame) in
-    c .check-read .ensures ∙ sym (checked-class Reads f (function .function-of .ensures) (known .if1 .left) (class .class-of .ensures) (arm .enum-told .given .1))
+    c .check-read .ensures ∙ sym (checked-class _ f (function .function-of .ensures) (known .if1 .left) (class .class-of .ensures) (arm .table .given .1))
 
 returns-3 : tie.Need-returns-3
 returns-3 c =
-    let arm = c .before in
+    let arm = c .before .before in
     let class = arm .before .before in
     let known = class .before in
     let function = known .before in
     let f = now (function .before .before .args .frame) in
-    c .check-single-write .ensures ∙ sym (checked-class WritesOne f (function .function-of .ensures) (known .if1 .left) (class .class-of .ensures) (arm .enum-told2 .given .1))
+    c .check-single-write .ensures ∙ sym (checked-class _ f (function .function-of .ensures) (known .if1 .left) (class .class-of .ensures) (arm .table2 .given .1))
 
 returns-4 : tie.Need-returns-4
 returns-4 c =
-    let arm = c .before in
+    let arm = c .before .before in
     let class = arm .before .before in
     let known = class .before in
     let function = known .before in
     let f = now (function .before .before .args .frame) in
-    c .check-multiple-write .ensures ∙ sym (checked-class WritesMany f (function .function-of .ensures) (known .if1 .left) (class .class-of .ensures) (arm .enum-told3 .given .1))
+    c .check-multiple-write .ensures ∙ sym (checked-class _ f (function .function-of .ensures) (known .if1 .left) (class .class-of .ensures) (arm .table3 .given .1))
 
 returns-5 : tie.Need-returns-5
 returns-5 c =
@@ -46,7 +46,7 @@ returns-5 c =
     let known = class .before in
     let function = known .before in
     let f = now (function .before .before .args .frame) in
-    sym (checked-class Others f (function .function-of .ensures) (known .if1 .left) (class .class-of .ensures) (c .enum-told4 .given .1) ∙ checked-other f)
+    sym (checked-class Others f (function .function-of .ensures) (known .if1 .left) (class .class-of .ensures) (c .enum-told .given .1) ∙ checked-other f)
 
 pub check-request-spec : {M : Type 1} → statement M
 check-request-spec =

@@ -1,7 +1,7 @@
 -- `pdu::class_of` meets its contract: each return knows the tests that led to it.
 -- Assumes nothing.
 use mathlib.Core.Path.{refl}
-use borrow.Author.Tests.{eq-eqb, ne-eqb}
+use borrow.Author.Tests.{ne-eqb}
 use Rattle.pdu.specs.Requests.{classOf}
 use Rattle.pdu.proofs.class_of.Statement.{statement}
 use Rattle.pdu.proofs.class_of.Tie as tie
@@ -12,15 +12,35 @@ returns c = rw (c .if1 .taken)
 
 returns-2 : tie.Need-returns-2
 unfolding classOf
-returns-2 c = rw (c .before .if1 .left) (rw (eq-eqb _ _ (c .if2 .taken)) refl)
+returns-2 c = rw (c .before .if1 .left) (rw (c .if2 .taken) refl)
 
 returns-3 : tie.Need-returns-3
 unfolding classOf
-returns-3 c = rw (c .before .before .if1 .left) (rw (ne-eqb _ _ (c .before .if2 .left)) (rw (eq-eqb _ _ (c .if3 .taken)) refl))
+returns-3 c = rw (c .if3 .taken)
 
 returns-4 : tie.Need-returns-4
 unfolding classOf
-returns-4 c = rw (c .before .before .if1 .left) (rw (ne-eqb _ _ (c .before .if2 .left)) (rw (ne-eqb _ _ (c .if3 .left)) refl))
+returns-4 c = rw (c .if4 .taken)
+
+returns-5 : tie.Need-returns-5
+unfolding classOf
+returns-5 c = rw (c .if5 .taken)
+
+returns-6 : tie.Need-returns-6
+unfolding classOf
+returns-6 c = rw (c .if6 .taken)
+
+returns-7 : tie.Need-returns-7
+unfolding classOf
+returns-7 c =
+    let five = c .before in
+    let four = five .before in
+    let three = four .before in
+    let two = three .before in
+    rw (two .before .if1 .left)
+    (rw (two .if2 .left)
+    (rw (ne-eqb _ _ (three .if3 .left))
+    (rw (ne-eqb _ _ (four .if4 .left)) (rw (ne-eqb _ _ (five .if5 .left)) (rw (ne-eqb _ _ (c .if6 .left)) refl)))))
 
 pub class-of-spec : {M : Type 1} → statement M
-class-of-spec = tie.close (tie.spec returns returns-2 returns-3 returns-4)
+class-of-spec = tie.close (tie.spec returns returns-2 returns-3 returns-4 returns-5 returns-6 returns-7)

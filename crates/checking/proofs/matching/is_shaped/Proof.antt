@@ -1,7 +1,5 @@
 -- `checking::matching::is_shaped` meets its contract: each arm knows what was asked.
 -- Assumes nothing.
-use mathlib.Core.Path.{sym, ap}
-use denote.Ref.{now}
 use Rattle.pdu.specs.Replies.{shaped}
 use borrow.Author.Needs.{needs}
 use Rattle.checking.proofs.matching.is_shaped.Statement.{statement}
@@ -10,35 +8,31 @@ use Rattle.checking.proofs.matching.is_shaped.Tie as tie
 returns : tie.Need-returns
 unfolding shaped
 returns c =
-    let asked = c .before .before .before in
-    let size = asked .before .before in
-    rw (c .wide .ensures .0, c .before .byte-at .ensures, size .pdu-size .ensures)
-    (sym (ap (λ a. shaped a (now (size .before .before .args .frame))) (asked .asked .given .1)))
+    let bytes = c .before .before in
+    let asked = bytes .before .before in
+    rw (asked .asked .given .1, c .wide .ensures .0, c .before .byte-at .ensures, bytes .bytes-for .ensures .0, asked .before .before .pdu-size .ensures)
 
 returns-2 : tie.Need-returns-2
 unfolding shaped
-returns-2 c =
-    let asked = c .before .before in
-    let size = asked .before .before in
-    rw (c .pair-at .ensures, size .pdu-size .ensures) (sym (ap (λ a. shaped a (now (size .before .before .args .frame))) (asked .asked2 .given .1)))
+returns-2 c = rw (c .before .before .before .before .asked2 .given .1, c .before .enum-told .given .1) (c .is-short .ensures)
 
 returns-3 : tie.Need-returns-3
 unfolding shaped
 returns-3 c =
-    let asked = c .before .before .before in
-    let size = asked .before .before in
-    rw (c .pair-at3 .ensures, c .before .pair-at2 .ensures, size .pdu-size .ensures)
-    (sym (ap (λ a. shaped a (now (size .before .before .args .frame))) (asked .asked3 .given .1)))
+    let asked = c .before .before .before .before in
+    rw (asked .asked2 .given .1, c .before .enum-told2 .given .1, c .pair-at .ensures, asked .before .before .pdu-size .ensures)
 
 returns-4 : tie.Need-returns-4
 unfolding shaped
-returns-4 c =
-    let size = c .before .before in
-    sym (ap (λ a. shaped a (now (size .before .before .args .frame))) (c .enum-told .given .1))
+returns-4 c = rw (c .before .before .asked3 .given .1) (c .is-short2 .ensures)
+
+returns-5 : tie.Need-returns-5
+unfolding shaped
+returns-5 c = rw (c .enum-told3 .given .1)
 
 pub is-shaped-spec : {M : Type 1} → statement M
 is-shaped-spec =
     tie.close
-    (tie.spec (λ c κs. search needs) (λ c. search needs) (λ c. search needs) (λ c. search needs) (λ c κs. search needs)
-    (λ c κs. search needs) (λ c. search needs) (λ c. search needs) (λ c κs. search needs) (λ c. search needs) (λ c κs. search needs)
-    (λ c κs. search needs) (λ c. search needs) returns returns-2 returns-3 returns-4)
+    (tie.spec (λ c κs. search needs) (λ c. search needs) (λ c κs. search needs) (λ c κs. search needs) (λ c κs. search needs) (λ c. search needs)
+    (λ c. search needs) (λ c. search needs) (λ c κs. search needs) (λ c. search needs) (λ c κs. search needs) (λ c. search needs) (λ c κs. search needs)
+    (λ c. search needs) returns returns-2 returns-3 returns-4 returns-5)

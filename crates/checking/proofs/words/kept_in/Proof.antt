@@ -9,30 +9,33 @@ use Rattle.checking.proofs.words.kept_in.Tie as tie
 returns : tie.Need-returns
 unfolding keptIn
 returns c =
-    let second = c .before .before in
+    let class = c .before in
+    let second = class .before .before in
     let first = second .before in
-    rw (second .low-field2 .ensures, first .low-field .ensures) (sym (ap (λ k. keptIn k (first .before .args .kept)) (c .enum-told .given .1)))
+    rw (second .low-field2 .ensures, first .low-field .ensures) (sym (ap (λ k. keptIn k (first .before .args .kept)) (class .class .given .1)))
 
 returns-2 : tie.Need-returns-2
 unfolding keptIn
 returns-2 c =
-    let second = c .before .before in
+    let class = c .before in
+    let second = class .before .before in
     let first = second .before in
-    rw (first .low-field .ensures) (sym (ap (λ k. keptIn k (first .before .args .kept)) (c .enum-told2 .given .1)))
+    rw (second .low-field2 .ensures, first .low-field .ensures) (sym (ap (λ k. keptIn k (first .before .args .kept)) (class .class2 .given .1)))
 
 returns-3 : tie.Need-returns-3
 unfolding keptIn
 returns-3 c =
-    let second = c .before .before in
+    let class = c .before in
+    let second = class .before .before in
     let first = second .before in
-    rw (second .low-field2 .ensures, first .low-field .ensures) (sym (ap (λ k. keptIn k (first .before .args .kept)) (c .enum-told3 .given .1)))
+    rw (second .low-field2 .ensures, first .low-field .ensures) (sym (ap (λ k. keptIn k (first .before .args .kept)) (class .class3 .given .1)))
 
 returns-4 : tie.Need-returns-4
 unfolding keptIn
 returns-4 c =
     let second = c .before .before in
     let first = second .before in
-    sym (ap (λ k. keptIn k (first .before .args .kept)) (c .enum-told4 .given .1))
+    sym (ap (λ k. keptIn k (first .before .args .kept)) (c .enum-told .given .1))
 
 pub kept-in-spec : {M : Type 1} → statement M
 kept-in-spec =
