@@ -13,15 +13,6 @@ use Rattle.laws.proofs.Choice.{true-or, eq-or, lt-or, and-left, and-rig
 use Rattle.laws.proofs.SearchLaws.{best-in, best-empty, best-nothing}
 
 module _ (test : ℕ → Bool) (f : ℕ → ℕ) (most : ℕ) where
-  -- a scan's turn that takes the place, and one that passes it by
-  pub least-wins : (k b : ℕ) {r : ℕ} → b ≡ least test f most k → (test k && ltb (f k) b) ≡ true → r ≡ f k → r ≡ least test f most (k + 1)
-  unfolding least
-  least-wins k b e t h = rw (add-one k, ← e, t) h
-
-  pub least-stays : (k b : ℕ) {r : ℕ} → b ≡ least test f most k → (test k && ltb (f k) b) ≡ false → r ≡ b → r ≡ least test f most (k + 1)
-  unfolding least
-  least-stays k b e t h = rw (add-one k, ← e, t) h
-
   -- no place that passes is below it, nor is `most`
   pub least-low : (n : ℕ) → (least test f most n ≤ most) × ((k : ℕ) → k < n → test k ≡ true → least test f most n ≤ f k)
   unfolding least
@@ -44,6 +35,20 @@ module _ (test : ℕ → Bool) (f : ℕ → ℕ) (most : ℕ) where
             (eq-or k n),
       ))
       (true-or (test n && ltb (f n) l))
+
+  -- a scan's turn: what a place counts for, and the lesser of that and what was found
+  pub least-turn : (k b d : ℕ) {r : ℕ} → b ≡ least test f most k → d ≡ cond (test k) (f k) most → ((d < b) × (r ≡ d)) ⊎ ((b ≤ d) × (r ≡ b)) → r ≡ least test f most (k + 1)
+  unfolding least
+  least-turn k b d e g w =
+      let m = least-low k .0 in
+      ⊎-elim
+      (λ (t : test k ≡ true).
+      let q : d ≡ f k = rw t at g in
+      rw (add-one k, t, ← e, ← q) (⊎-elim (λ (x : (d < b) × _). rw (lt-ltb d b (x .0)) (x .1)) (λ (x : (b ≤ d) × _). rw (le-ltb d b (x .0)) (x .1)) w))
+      (λ (t : test k ≡ false).
+      let q : d ≡ most = rw t at g in
+      rw (add-one k, t, ← e) (⊎-elim (λ (x : (d < b) × _). absurd (omega (arith, x .0))) (λ (x : (b ≤ d) × _). x .1) w))
+      (true-or (test k))
 
   -- it is `most`, or that of a place that passes
   pub least-taken : (n : ℕ) → (least test f most n ≡ most) ⊎ ((k : ℕ) × (k < n) × (test k ≡ true) × (f k ≡ least test f most n))

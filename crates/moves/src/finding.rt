@@ -4,7 +4,7 @@ ghost use mathlib.Core.Path.{_≡_};
 ghost use Prim.Native.Nat.{_+_, _<_, _≤_};
 ghost use mathlib.Core.Bool.{cond, false, _&&_, _||_};
 ghost use lib.ListN.{getD};
-ghost use lib.Dec.{eqb, ltb};
+ghost use lib.Dec.{eqb};
 ghost use Rattle.laws.specs.Numbers.{places};
 ghost use Rattle.laws.specs.Search.{best, least, count};
 ghost use Rattle.machine.specs.Waiting.{noDeadline};
@@ -26,16 +26,16 @@ pub fn find(ids: &[u32; laws::PLACES], top: usize, id: ProxyId) -> usize
     laws::PLACES
 }
 
-fn is_live_before(
-    ids: &[u32; laws::PLACES],
-    deadlines: &[u64; laws::PLACES],
-    deadline: u64,
-    k: usize,
-) -> bool
+// The deadline of a live place, and NO_DEADLINE of a free one.
+fn deadline_at(ids: &[u32; laws::PLACES], deadlines: &[u64; laws::PLACES], k: usize) -> u64
     requires { ⌜ k < places ⌝ }
-    ensures { λ r. ⌜ r ≡ (isTaken (now (ids .entry)) k && ltb (getD (now (deadlines .entry)) k 0) deadline) ⌝ }
+    ensures { λ r. ⌜ r ≡ cond (isTaken (now (ids .entry)) k) (getD (now (deadlines .entry)) k 0) noDeadline ⌝ }
 {
-    (ids[k] != 0) & (deadlines[k] < deadline)
+    if ids[k] == 0 {
+        machine::NO_DEADLINE
+    } else {
+        deadlines[k]
+    }
 }
 
 // The least deadline of the live places, and NO_DEADLINE where none is live.
@@ -46,8 +46,9 @@ pub fn least_deadline(ids: &[u32; laws::PLACES], deadlines: &[u64; laws::PLACES]
     let mut found = machine::NO_DEADLINE;
     let mut k: usize = 0;
     while k < top {
-        if is_live_before(ids, deadlines, found, k) {
-            found = deadlines[k];
+        let deadline = deadline_at(ids, deadlines, k);
+        if deadline < found {
+            found = deadline;
         }
         k += 1;
     }

@@ -2,11 +2,11 @@
 -- Assumes nothing.
 use Prim.Native.Nat.{_-_, _≤_}
 use mathlib.Core.Path.{_≡_, refl, sym, _∙_}
-use mathlib.Core.Logic.{⊎-elim}
+use mathlib.Core.Logic.{⊎-elim, inl, inr}
 use native.Mathlib.Omega.{arith}
 use lib.ListN.{getD}
 use Rattle.laws.specs.Search.{least}
-use Rattle.laws.proofs.LeastLaws.{least-wins, least-stays}
+use Rattle.laws.proofs.LeastLaws.{least-turn}
 use Rattle.machine.specs.Waiting.{noDeadline}
 use Rattle.table.specs.Places.{isTaken}
 use borrow.Author.Needs.{needs}
@@ -25,12 +25,11 @@ loop-holds c = (omega arith, refl)
 
 loop-again : tie.Need-loop-again Inv-loop μ-loop
 loop-again c =
-    let s = c .before .before .before .loop .inv in
-    let won = sym (c .before .is-live-before .ensures) in
-    ⊎-elim
-    (λ w. (omega arith, least-wins _ _ _ _ _ (s .1) (won ∙ w .0 .taken) (w .2)))
-    (λ w. (omega arith, least-stays _ _ _ _ _ (s .1) (won ∙ w .0 .left) (w .1)))
-    (c .if1 .came)
+    let s = c .before .before .before .loop .inv in (
+      omega arith,
+      least-turn _ _ _ _ _ _ (s .1) (c .before .deadline-at .ensures)
+          (⊎-elim (λ w. inl (w .0 .taken, w .1)) (λ w. inr (w .0 .left, w .1)) (c .if1 .came)),
+    )
 
 returns : tie.Need-returns Inv-loop μ-loop
 returns c =
@@ -41,4 +40,4 @@ returns c =
 pub least-deadline-spec : {M : Type 1} → statement M
 least-deadline-spec =
     tie.close
-    (tie.spec Inv-loop μ-loop loop-holds (λ c κs. search needs) (λ c. search needs) (λ c. search needs) (λ c. search needs) (λ c. search needs) loop-again returns)
+    (tie.spec Inv-loop μ-loop loop-holds (λ c κs. search needs) (λ c. search needs) (λ c. search needs) loop-again returns)
