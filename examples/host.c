@@ -71,6 +71,26 @@ static void deliver(zb_answer a)
     }
 }
 
+/* Sleeps until the earliest deadline has come, or for good where nothing is live, and then ticks until nothing is due.
+   Whatever comes in the meantime ends a real host's sleep: then it looks again. */
+static void slept(void)
+{
+    zb_next next = zb_next_deadline(&device);
+    printf("%u live", (unsigned)next.live);
+    if (next.live == 0) {
+        printf(": nothing to wait for\n");
+        return;
+    }
+    printf(", asleep until %llu\n", (unsigned long long)next.time);
+    for (;;) {
+        zb_answer a = zb_tick(&device, next.time, out, sizeof out, list, ZB_LIST_BUFFER);
+        told("  tick", a);
+        if (a.outcome != ZB_TIMED_OUT)
+            return;
+        deliver(a);
+    }
+}
+
 static void replied(const char *call, uint64_t now, uint32_t length)
 {
     zb_answer a = zb_reply(&device, now, frame, length, out, sizeof out, list, ZB_LIST_BUFFER);
@@ -116,17 +136,12 @@ int main(void)
     received("the same reply again", 151, reply, sizeof reply);
     told("screen 3 reads 1024 at 200", zb_request(&device, 3, 200, read_3, sizeof read_3, out, sizeof out));
     told("tick at 3199", zb_tick(&device, 3199, out, sizeof out, list, ZB_LIST_BUFFER));
-    zb_answer a;
-    for (a = zb_tick(&device, 3200, out, sizeof out, list, ZB_LIST_BUFFER); a.outcome == ZB_TIMED_OUT;
-         a = zb_tick(&device, 3200, out, sizeof out, list, ZB_LIST_BUFFER)) {
-        told("tick at 3200", a);
-        deliver(a);
-    }
-    told("tick at 3200", a);
+    slept();
+    slept();
     told("screen 5 leaves", zb_detach(&device, 5));
     if (!received("a bad header arrives", 3201, noise, sizeof noise))
         zb_stream_reset(&from_controller);
-    a = zb_link_lost(&device);
+    zb_answer a = zb_link_lost(&device);
     told("the link is lost", a);
     printf("  screens to disconnect, as bits: 0x%08X\n", (unsigned)a.set);
     return 0;

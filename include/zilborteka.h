@@ -126,6 +126,15 @@ zb_answer zb_tick(zb_state *st, uint64_t now,
                   uint8_t *out, size_t out_len,
                   uint16_t *list, size_t list_len);
 zb_answer zb_link_lost(zb_state *st);
+
+/* When to tick: how many requests are live, and the earliest deadline of them, UINT64_MAX where none is. A tick that
+   comes next reports ZB_NOTHING_DUE before that time, and ends a request at or after it. Nothing changes. */
+typedef struct {
+    uint64_t time;
+    uint32_t live;
+} zb_next;
+zb_next   zb_next_deadline(zb_state *st);
+
 zb_answer zb_split(const uint8_t *run, size_t run_len);
 
 /* One connection's received bytes, in whatever pieces they came: at most 259 bytes of an unfinished frame, and the mark

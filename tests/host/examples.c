@@ -140,6 +140,7 @@ static void sizes_and_offsets(void)
     EXPECT(offsetof(zb_answer, partial) == 20 && offsetof(zb_answer, value) == 24 && offsetof(zb_answer, set) == 28);
     EXPECT(offsetof(zb_answer, id) == 32 && offsetof(zb_answer, code) == 36);
     EXPECT(sizeof(zb_read) == 1076 && offsetof(zb_read, answer) == 0 && offsetof(zb_read, settings) == 40);
+    EXPECT(sizeof(zb_next) == 16 && offsetof(zb_next, time) == 0 && offsetof(zb_next, live) == 8);
 }
 
 /* The archive puts each field where the header has it: seen through the header after a few calls. */
@@ -405,6 +406,29 @@ static void due_is_not_joined(void)
     EXPECT(reply(3001, "00 00 00 00 00 05 01 03 02 12 34").parties == 2);
 }
 
+/* Of two requests the earlier deadline, of none 2^64 - 1; a tick ends one exactly from then on (pair.c looks at each). */
+static void next_deadline(void)
+{
+    static zb_state device;
+    static const uint8_t read[] = {0, 0, 0, 0, 0, 6, 1, 3, 4, 0, 0, 1}, other[] = {0, 0, 0, 0, 0, 2, 1, 17};
+    uint8_t out[ZB_FRAME_BUFFER];
+    uint16_t list[ZB_LIST_BUFFER];
+    zb_fresh(&device, settings_of_the_document());
+    EXPECT(zb_next_deadline(&device).time == UINT64_MAX && zb_next_deadline(&device).live == 0);
+    zb_attach(&device, 3);
+    zb_request(&device, 3, 50, read, sizeof read, out, sizeof out);
+    EXPECT(zb_next_deadline(&device).time == 3050 && zb_next_deadline(&device).live == 1);
+    zb_request(&device, 3, 60, other, sizeof other, out, sizeof out);
+    EXPECT(zb_next_deadline(&device).time == 3050 && zb_next_deadline(&device).live == 2);
+    EXPECT(zb_tick(&device, 3049, out, sizeof out, list, ZB_LIST_BUFFER).outcome == ZB_NOTHING_DUE);
+    EXPECT(zb_tick(&device, 3050, out, sizeof out, list, ZB_LIST_BUFFER).outcome == ZB_TIMED_OUT);
+    EXPECT(zb_next_deadline(&device).time == 3060 && zb_next_deadline(&device).live == 1);
+    zb_detach(&device, 3); /* an entry with no party is live */
+    EXPECT(zb_next_deadline(&device).time == 3060 && zb_next_deadline(&device).live == 1);
+    zb_link_lost(&device);
+    EXPECT(zb_next_deadline(&device).time == UINT64_MAX && zb_next_deadline(&device).live == 0);
+}
+
 static void mismatched_reply_leaves_the_entry(void)
 {
     begin();
@@ -642,7 +666,7 @@ int main(void)
         sizes_and_offsets, fields_are_where_the_header_says, device_of_zeros, p1_to_p8, p9_to_p12,
         quantities_and_starts, longest_write, full_entry_ends, struck_out_of_a_full_table, last_place_and_the_next,
         single_writes, cursor_and_clock_stay_after_a_lost_link, struck_room_and_successor, left_by_all,
-        due_is_not_joined, mismatched_reply_leaves_the_entry, refusals_of_attach_and_detach,
+        due_is_not_joined, next_deadline, mismatched_reply_leaves_the_entry, refusals_of_attach_and_detach,
         refusals_of_request_before_the_frame, refusals_of_request_by_the_frame, lowest_refusal_of_request,
         refusals_of_reply_and_tick, splitting, texts, text_of_75_bytes, longest_text, invalid_settings,
     };

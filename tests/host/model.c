@@ -601,3 +601,18 @@ zb_answer model_settings_write(zb_settings from, uint8_t *text, size_t text_len)
     a.length = (uint32_t)length;
     return a;
 }
+
+/* When to tick; document 01 does not ask for it */
+
+zb_next model_next_deadline(const model_state *st)
+{
+    zb_next next = {.time = UINT64_MAX, .live = 0};
+    for (size_t k = 0; k < MODEL_LIVE; k++) {
+        if (!st->entries[k].live)
+            continue;
+        next.live++;
+        if (st->entries[k].deadline < next.time)
+            next.time = st->entries[k].deadline;
+    }
+    return next;
+}

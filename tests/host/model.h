@@ -55,5 +55,6 @@ zb_answer model_tick(model_state *st, uint64_t now,
                      uint8_t *out, size_t out_len,
                      uint16_t *list, size_t list_len);
 zb_answer model_link_lost(model_state *st);
+zb_next   model_next_deadline(const model_state *st);
 zb_answer model_split(const uint8_t *run, size_t run_len);
 #endif

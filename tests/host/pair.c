@@ -145,6 +145,20 @@ static void compare_device(zb_answer a)
         pair_differs("a guard byte of the device changed");
 }
 
+/* The next deadline after each call: the model's, and looking at it changes nothing. */
+static void compare_next(void)
+{
+    if (!device.length)
+        return;
+    memcpy(&before, device.at, sizeof before);
+    zb_next archive = zb_next_deadline((zb_state *)(void *)device.at);
+    zb_next models = model_next_deadline(&model);
+    if (archive.time != models.time || archive.live != models.live)
+        pair_differs("the next deadline");
+    if (memcmp(&before, device.at, sizeof before) != 0)
+        pair_differs("the device changed with a look at the next deadline");
+}
+
 static zb_answer end(zb_answer archive, zb_answer models)
 {
     last.archive = archive;
@@ -158,6 +172,7 @@ static zb_answer end(zb_answer archive, zb_answer models)
     if (!lent_is_guarded(&input))
         pair_differs("a guard byte of the input changed");
     compare_device(archive);
+    compare_next();
     reached_answer(last.call, archive);
     return archive;
 }
@@ -210,9 +225,13 @@ zb_answer pair_reply(uint64_t now, const uint8_t *frame, size_t size, size_t out
 
 zb_answer pair_tick(uint64_t now, size_t out_len, size_t list_len)
 {
+    zb_next next = zb_next_deadline(state());
     begin(CALL_TICK, 0, now, out_len, list_len);
-    return end(zb_tick(state(), now, out.at, out_len, numbers(&list), list_len),
-               model_tick(&model, now, model_out.at, out_len, numbers(&model_list), list_len));
+    zb_answer a = end(zb_tick(state(), now, out.at, out_len, numbers(&list), list_len),
+                      model_tick(&model, now, model_out.at, out_len, numbers(&model_list), list_len));
+    if (!a.refusal && a.outcome != (now < next.time ? ZB_NOTHING_DUE : ZB_TIMED_OUT))
+        pair_differs("the tick is not what the next deadline said");
+    return a;
 }
 
 zb_answer pair_link_lost(void)

@@ -1,4 +1,5 @@
-// The cores of the entry points fresh, attach, detach, request and link lost: each call over the fields that a device lends, its answer in the C host's numbers.
+// The cores of the entry points fresh, attach, detach, request, link lost and next deadline: each call over the fields that a device lends, its answer in the C host's numbers.
+use machine::NextDeadline;
 use machine::Report;
 use settings::Settings;
 ghost use mathlib.Core.List.{List, []};
@@ -7,7 +8,7 @@ ghost use Rattle.laws.specs.Numbers.{places};
 ghost use Rattle.machine.specs.Calls.Call.{attach as attaches, detach as detaches, request as asks, linkLost};
 ghost use Rattle.table.specs.Changes.{Runs};
 ghost use Rattle.proxy.specs.State.{lent, Sounds};
-ghost use Rattle.proxy.specs.Calls.{Told, FreshlyTold};
+ghost use Rattle.proxy.specs.Calls.{Told, FreshlyTold, Awaits};
 
 // Makes the device fresh, whatever it was.
 pub fn fresh<'a>(
@@ -139,4 +140,22 @@ pub fn link_lost<'a>(
         (lent (now (ids .exit)) asked callers deadlines counts clients originals (now (top .exit)) cursor (now (attached .exit)) clock timeout join tagged tags) [] []) ⌝ }
 {
     machine::report_of(proxy::attaching::link_lost(ids, top, attached))
+}
+
+// When the host has to tick next: nothing changes.
+pub fn next_deadline<'a>(
+    ids: &'a mut [u32; laws::PLACES],
+    deadlines: &'a mut [u64; laws::PLACES],
+    top: &'a mut u32,
+) -> NextDeadline
+    requires { ⌜ now top ≤ places ⌝ }
+    ensures { λ r. ⌜ ((asked callers counts clients originals : List ℕ) (cursor attached clock timeout join tagged : ℕ) (tags : List ℕ)
+        → Sounds (lent (now (ids .entry)) asked callers (now (deadlines .entry)) counts clients originals (now (top .entry)) cursor attached clock timeout join tagged tags)
+        → Awaits (lent (now (ids .entry)) asked callers (now (deadlines .entry)) counts clients originals (now (top .entry)) cursor attached clock timeout join tagged tags) r
+        (lent (now (ids .exit)) asked callers (now (deadlines .exit)) counts clients originals (now (top .exit)) cursor attached clock timeout join tagged tags)) ⌝ }
+{
+    let end = *top as usize;
+    let time = moves::finding::least_deadline(ids, deadlines, end);
+    let live = moves::finding::count_live(ids, end);
+    NextDeadline { time, live }
 }

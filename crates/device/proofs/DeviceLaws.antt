@@ -1,4 +1,4 @@
--- A device that these calls made has what detach's core asks for; and a device of all zeros is such a device, with nobody attached.
+-- A device that these calls made has what the cores of detach and of the next deadline ask for; and a device of all zeros is such a device, with nobody attached.
 -- Assumes nothing.
 use prog.Memory.{size}
 use Prim.Native.Nat.{ℕ, _≤_}
@@ -16,6 +16,9 @@ use Rattle.device.proofs.Device.Laws.{mir}
 
 pub may-detach : (d : Device) → Made d → Runs (d .counts) (d .clients) (d .originals) × (d .top ≤ places)
 may-detach d made = (runs-of (stateOf d .table) (made .table), made .table .within)
+
+pub may-await : (d : Device) → Made d → d .top ≤ places
+may-await d made = made .table .within
 
 -- A host that forgets to make its device fresh has a sound one, to which nobody is attached.
 pub zeros-made : Made zeros × ((client : ℕ) → has (zeros .attached) client ≡ false)

@@ -7,3 +7,4 @@ pub mod EntryRequest
 pub mod EntryReply
 pub mod EntryTick
 pub mod EntryLinkLost
+pub mod EntryNextDeadline

@@ -7,8 +7,9 @@ use Rattle.laws.specs.Numbers.{places, partyPlaces, mostTags}
 use Rattle.settings.specs.declared.Settings.{Settings}
 use Rattle.machine.specs.Calls.{Call}
 use Rattle.machine.specs.declared.Report.{Report}
+use Rattle.machine.specs.declared.NextDeadline.{NextDeadline}
 use Rattle.proxy.specs.State.{State, lent, Sounds}
-use Rattle.proxy.specs.Calls.{Told, FreshlyTold}
+use Rattle.proxy.specs.Calls.{Told, FreshlyTold, Awaits}
 use Rattle.device.specs.declared.Device.{Device}
 
 -- a device of its fields
@@ -50,6 +51,10 @@ Served d x r d′ w l = Told (stateOf d) x r (stateOf d′) w l
 -- a fresh device: the machine that document 01 makes from the value, or from the usual one beside refusal 10
 abbrev pub Freshly : Settings → Report → Device → Type 0
 Freshly from r d = FreshlyTold from r (stateOf d)
+
+-- when the host has to tick next, as the machine has it; the device stays
+abbrev pub Awaited : Device → NextDeadline → Device → Type 0
+Awaited d n d′ = Awaits (stateOf d) n (stateOf d′)
 
 -- the device that is all zeros
 abbrev pub zeros : Device

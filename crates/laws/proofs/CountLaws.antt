@@ -40,6 +40,16 @@ count-mono test test′ (suc n) h =
     let i = count-mono test test′ n h in
     ⊎-elim (λ t. rw t (rw (h n t) (omega arith))) (λ t. rw t (omega arith)) (true-or (test n))
 
+-- places that do not pass may be left out at the end
+pub count-cut : (test : ℕ → Bool) (m n : ℕ) → m ≤ n → ((k : ℕ) → m ≤ k → k < n → test k ≡ false) → count test n ≡ count test m
+unfolding count
+count-cut test m zero l h = let e : m ≡ zero = omega arith in rw e
+count-cut test m (suc n) l h =
+    ⊎-elim
+    (λ (q : m ≡ suc n). rw q)
+    (λ (q : m ≡ suc n → ⊥). let i = count-cut test m n (omega (arith, q)) (λ k a b. h k a (omega arith)) in rw (h n (omega (arith, q)) (omega arith)) (omega arith))
+    (eq-or m (suc n))
+
 pub count-split : (test : ℕ → Bool) (a n : ℕ) → count test (a + n) ≡ count test a + count (λ j. test (a + j)) n
 unfolding count
 count-split test a zero = let e : a + 0 ≡ a = omega arith in rw e (omega arith)

@@ -4,6 +4,7 @@ pub mod ListLaws
 pub mod FilterLaws
 pub mod LastLaws
 pub mod SearchLaws
+pub mod LeastLaws
 pub mod CountLaws
 pub mod PigeonLaws
 pub mod CircleLaws

@@ -51,6 +51,7 @@ use Rattle.machine.specs.Numbers.{numbers}
 use Rattle.machine.specs.Requests.{wanted, partyOf}
 use Rattle.machine.specs.Outcomes.{granted, outcome}
 use Rattle.machine.specs.Granted.{grantedCalls, concerns}
+use Rattle.machine.specs.Waiting.{nextDeadline}
 use Rattle.machine.specs.Spelled.{asker, asking}
 use Rattle.machine.specs.Histories.{seenOf, events, told}
 use Rattle.machine.specs.declared.Answer.{Answer}
@@ -65,6 +66,7 @@ use Rattle.machine.proofs.PartyLaws.{Accepts, Stands, accepted-stands}
 use Rattle.machine.proofs.AnswerLaws.{Answers, Expires, reply-answers, tick-expires, idle-when}
 use Rattle.machine.proofs.ReadBack.{comes-back}
 use Rattle.machine.proofs.TickLaws.{Lent, tickAt, ticksAt, ticking-ends}
+use Rattle.machine.proofs.WaitingLaws.{Waits, waits, next-tick}
 use Rattle.machine.proofs.FrameOfParty.{EachItsFrame, reply-frame, always-known, timeout-frame}
 use Rattle.machine.proofs.Histories.{product, afterCalls, toldBy, ledgerOf, accounted}
 use Rattle.machine.proofs.StateLaws.{Origin, attached-exactly, clock-exactly, issue-origin}
@@ -189,6 +191,16 @@ module _ (v : Value) (xs : List Call) where
   a-timeout-goes-to-its-own t o l h n =
       let a = tick-expires (afterCalls v xs) t o l good h n in
       (a, accounted v xs .entries (a .place) (a .entry) (a .there), asked-alike (a .place) (a .entry) (a .there))
+
+  -- When to tick (ours): the time that `nextDeadline` names is the earliest deadline of the live requests, 2^64 − 1 where none is, and so many are live.
+  pub the-next-deadline-is-this : Waits (afterCalls v xs) (nextDeadline (afterCalls v xs))
+  the-next-deadline-is-this = waits (afterCalls v xs) good
+
+  -- Of a tick that comes next and is not refused, one before that time says that nothing is due, and one at or after it ends an entry.
+  pub when-the-next-tick-ends-one : (t : ℕ) (o l : List ℕ) → refusal (afterCalls v xs) (tick t o l) ≡ 0
+      → (t < nextDeadline (afterCalls v xs) .time → outcome (afterCalls v xs) (tick t o l) .says ≡ answer.NothingDue)
+      × (nextDeadline (afterCalls v xs) .time ≤ t → (i : ProxyId) × (n : ℕ) × (outcome (afterCalls v xs) (tick t o l) .says ≡ answer.TimedOut i n))
+  when-the-next-tick-ends-one t o l = next-tick (afterCalls v xs) t o l good
 
   -- Document 01: laying a party's id over bytes 0 and 1 gives its frame. Whoever waits under the id that a reply's report names gets, of as many bytes as the report says, a frame
   -- that is not refused, carries its own id, comes from the unit and is of the function that it asked, or that + 128, and answers what it asked.

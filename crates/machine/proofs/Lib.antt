@@ -13,5 +13,6 @@ pub mod ReadBack
 pub mod Histories
 pub mod StateLaws
 pub mod TickLaws
+pub mod WaitingLaws
 pub mod FrameOfParty
 pub mod Claims

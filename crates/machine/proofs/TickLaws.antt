@@ -61,7 +61,7 @@ tick-leaves m t o l h = let b = clocked m t .book in ap (λ (d : Outcome). d .af
 pub tick-same-state : (m : Machine) (t : ℕ) (o l o′ l′ : List ℕ) → refusal m (tick t o l) ≡ 0 → refusal m (tick t o′ l′) ≡ 0 → outcome m (tick t o l) .after ≡ outcome m (tick t o′ l′) .after
 tick-same-state m t o l o′ l′ h h′ = tick-leaves m t o l h ∙ sym (tick-leaves m t o′ l′ h′)
 
-nothing-found : (b : Live-book) → Good rules b → NothingDue b → at b (duePlace rules b) ≡ none
+pub nothing-found : (b : Live-book) → Good rules b → NothingDue b → at b (duePlace rules b) ≡ none
 nothing-found b g n =
     ⊎-elim
     (λ (e : (e : Live What Note) × (at b (duePlace rules b) ≡ some e)).

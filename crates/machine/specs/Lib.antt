@@ -4,6 +4,7 @@ pub mod Refusals
 pub mod Requests
 pub mod Replies
 pub mod Outcomes
+pub mod Waiting
 pub mod Granted
 pub mod Numbers
 pub mod Spelled

@@ -53,6 +53,15 @@ pub struct Report {
     pub code: u32,
 }
 
+// How many requests are live, and the earliest deadline of them, NO_DEADLINE where none is.
+#[repr(C)]
+pub struct NextDeadline {
+    pub time: u64,
+    pub live: u32,
+}
+
+pub const NO_DEADLINE: u64 = 18446744073709551615;
+
 // The outcomes' numbers: ZB_DONE and so on. Reading and writing settings are done too.
 pub const DONE: u32 = 1;
 

@@ -3,10 +3,12 @@ use pdu::ProxyId;
 ghost use mathlib.Core.Path.{_≡_};
 ghost use Prim.Native.Nat.{_+_, _<_, _≤_};
 ghost use mathlib.Core.Bool.{cond, false, _&&_, _||_};
+ghost use lib.ListN.{getD};
 ghost use lib.Dec.{eqb};
 ghost use Rattle.laws.specs.Numbers.{places};
-ghost use Rattle.laws.specs.Search.{best};
-ghost use Rattle.table.specs.Places.{isFree, holds, isOpen, isDue, isLower, isSooner, freeIdFrom, Topped};
+ghost use Rattle.laws.specs.Search.{best, least, count};
+ghost use Rattle.machine.specs.Waiting.{noDeadline};
+ghost use Rattle.table.specs.Places.{isFree, isTaken, holds, isOpen, isDue, isDueAt, isLower, isSooner, freeIdFrom, Topped};
 
 // The place that is live under that id, and PLACES where none is.
 pub fn find(ids: &[u32; laws::PLACES], top: usize, id: ProxyId) -> usize
@@ -24,39 +26,105 @@ pub fn find(ids: &[u32; laws::PLACES], top: usize, id: ProxyId) -> usize
     laws::PLACES
 }
 
-fn is_due(ids: &[u32; laws::PLACES], deadlines: &[u64; laws::PLACES], time: u64, k: usize) -> bool
+// The deadline of a live place, and NO_DEADLINE of a free one.
+fn deadline_at(ids: &[u32; laws::PLACES], deadlines: &[u64; laws::PLACES], k: usize) -> u64
     requires { ⌜ k < places ⌝ }
-    ensures { λ r. ⌜ r ≡ isDue (now (ids .entry)) (now (deadlines .entry)) time k ⌝ }
+    ensures { λ r. ⌜ r ≡ cond (isTaken (now (ids .entry)) k) (getD (now (deadlines .entry)) k 0) noDeadline ⌝ }
 {
-    (ids[k] != 0) & (deadlines[k] <= time)
+    if ids[k] == 0 {
+        machine::NO_DEADLINE
+    } else {
+        deadlines[k]
+    }
 }
 
-fn is_sooner(ids: &[u32; laws::PLACES], deadlines: &[u64; laws::PLACES], j: usize, k: usize) -> bool
-    requires { ⌜ (j < places) × (k < places) ⌝ }
-    ensures { λ r. ⌜ r ≡ isSooner (now (ids .entry)) (now (deadlines .entry)) j k ⌝ }
+// The least deadline of the live places, and NO_DEADLINE where none is live.
+pub fn least_deadline(ids: &[u32; laws::PLACES], deadlines: &[u64; laws::PLACES], top: usize) -> u64
+    requires { ⌜ top ≤ places ⌝ }
+    ensures { λ r. ⌜ r ≡ least (isTaken (now (ids .entry))) (λ k. getD (now (deadlines .entry)) k 0) noDeadline top ⌝ }
 {
-    (deadlines[j] < deadlines[k]) | ((deadlines[j] == deadlines[k]) & (ids[j] < ids[k]))
+    let mut found = machine::NO_DEADLINE;
+    let mut k: usize = 0;
+    while k < top {
+        let deadline = deadline_at(ids, deadlines, k);
+        if deadline < found {
+            found = deadline;
+        }
+        k += 1;
+    }
+    found
 }
 
-// The place is due, and before what was found so far.
-fn is_next_due(
+// How many places are live.
+pub fn count_live(ids: &[u32; laws::PLACES], top: usize) -> u32
+    requires { ⌜ top ≤ places ⌝ }
+    ensures { λ r. ⌜ r ≡ count (isTaken (now (ids .entry))) top ⌝ }
+{
+    let mut live: u32 = 0;
+    let mut k: usize = 0;
+    while k < top {
+        if ids[k] != 0 {
+            live += 1;
+        }
+        k += 1;
+    }
+    live
+}
+
+fn is_due_at(
     ids: &[u32; laws::PLACES],
     deadlines: &[u64; laws::PLACES],
-    time: u64,
+    deadline: u64,
+    k: usize,
+) -> bool
+    requires { ⌜ k < places ⌝ }
+    ensures { λ r. ⌜ r ≡ isDueAt (now (ids .entry)) (now (deadlines .entry)) deadline k ⌝ }
+{
+    (ids[k] != 0) & (deadlines[k] == deadline)
+}
+
+// The place is live with that deadline, and has a smaller id than what was found so far.
+fn is_lowest_due(
+    ids: &[u32; laws::PLACES],
+    deadlines: &[u64; laws::PLACES],
+    deadline: u64,
     k: usize,
     found: usize,
 ) -> bool
     requires { ⌜ (k < places) × (found ≤ places) ⌝ }
-    ensures { λ r. ⌜ r ≡ (isDue (now (ids .entry)) (now (deadlines .entry)) time k && (eqb found places || isSooner (now (ids .entry)) (now (deadlines .entry)) k found)) ⌝ }
+    ensures { λ r. ⌜ r ≡ (isDueAt (now (ids .entry)) (now (deadlines .entry)) deadline k && (eqb found places || isLower (now (ids .entry)) k found)) ⌝ }
 {
-    if found == laws::PLACES {
-        is_due(ids, deadlines, time, k)
-    } else {
-        is_due(ids, deadlines, time, k) & is_sooner(ids, deadlines, k, found)
+    if !is_due_at(ids, deadlines, deadline, k) {
+        return false;
     }
+    if found == laws::PLACES {
+        return true;
+    }
+    ids[k] < ids[found]
 }
 
-// Of the places that are due, the earliest, ties to the smallest id; PLACES where none is.
+// Of the live places with that deadline the one with the smallest id; PLACES where none has it.
+fn lowest_due(
+    ids: &[u32; laws::PLACES],
+    deadlines: &[u64; laws::PLACES],
+    top: usize,
+    deadline: u64,
+) -> usize
+    requires { ⌜ top ≤ places ⌝ }
+    ensures { λ r. ⌜ r ≡ best (isDueAt (now (ids .entry)) (now (deadlines .entry)) deadline) (isLower (now (ids .entry))) places top ⌝ }
+{
+    let mut found: usize = laws::PLACES;
+    let mut k: usize = 0;
+    while k < top {
+        if is_lowest_due(ids, deadlines, deadline, k, found) {
+            found = k;
+        }
+        k += 1;
+    }
+    found
+}
+
+// Of the places that are due, the earliest, ties to the smallest id; PLACES where none is. Two passes: most ticks find nothing due in the first.
 pub fn earliest(
     ids: &[u32; laws::PLACES],
     deadlines: &[u64; laws::PLACES],
@@ -66,15 +134,11 @@ pub fn earliest(
     requires { ⌜ top ≤ places ⌝ }
     ensures { λ r. ⌜ r ≡ best (isDue (now (ids .entry)) (now (deadlines .entry)) time) (isSooner (now (ids .entry)) (now (deadlines .entry))) places top ⌝ }
 {
-    let mut found: usize = laws::PLACES;
-    let mut k: usize = 0;
-    while k < top {
-        if is_next_due(ids, deadlines, time, k, found) {
-            found = k;
-        }
-        k += 1;
+    let deadline = least_deadline(ids, deadlines, top);
+    if time < deadline {
+        return laws::PLACES;
     }
-    found
+    lowest_due(ids, deadlines, top, deadline)
 }
 
 // What a request may take: the place that it joins, and the place that it would be issued into; PLACES where there is none.

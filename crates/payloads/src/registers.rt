@@ -1,8 +1,9 @@
 // A run of registers in a buffer, rewritten in place by the tag words.
 ghost use mathlib.Core.Path.{_≡_};
-ghost use Prim.Native.Nat.{_+_, _*_, _≤_};
+ghost use Prim.Native.Nat.{_+_, _*_, _≤_, _<_};
 ghost use mathlib.Core.List.{[], _∷_};
 ghost use lib.ListN.{length};
+ghost use Rattle.laws.specs.Bytes.{pairAt};
 ghost use Rattle.laws.specs.Search.{first};
 ghost use Rattle.bcd.specs.Bcd.{registers};
 ghost use Rattle.bcd.specs.Words.{wordsOf, numberOf};
@@ -51,16 +52,24 @@ fn first_tag(tags: &[u64; laws::MOST_TAGS], tagged: usize, start: usize) -> usiz
     low
 }
 
+// The register at byte k, both bytes of which are there.
+fn register_at(d: &[u8], k: usize) -> u32
+    requires { ⌜ k + 1 < length (now d) ⌝ }
+    ensures { λ r. ⌜ (r ≡ pairAt (now (d .entry)) k) × (r < 65536) ⌝ }
+{
+    (laws::wide(d[k]) * 256 + laws::wide(d[k + 1])) as u32
+}
+
 // The number that a tag's registers from byte k on are.
 fn number_at(d: &[u8], k: usize, kind: Kind) -> u32
     requires { ⌜ k + 2 * registers kind ≤ length (now d) ⌝ }
     ensures { λ r. ⌜ r ≡ numberOf (registersAt k (registers kind) (now (d .entry))) ⌝ }
 {
-    let low = wire::pair_at(d, k) as u32;
+    let low = register_at(d, k);
     if bcd::registers_of(kind) == 1 {
         return low;
     }
-    let high = wire::pair_at(d, k + 2) as u32;
+    let high = register_at(d, k + 2);
     low + WORDS * high
 }
 

@@ -1,28 +1,31 @@
 -- What the scans find is what the book chooses.
 -- Assumes nothing.
-use Prim.Native.Nat.{ℕ, _+_}
+use Prim.Native.Nat.{ℕ, _+_, _≤_, _<_}
 use mathlib.Core.Path.{_≡_, refl, ap, sym, _∙_}
 use mathlib.Core.Logic.{⊎-elim}
-use mathlib.Core.Bool.{Bool, true, false, cond, not}
+use mathlib.Core.Bool.{Bool, true, false, cond, not, Bool·not-not}
 use mathlib.Core.Option.{Option, some, none}
 use lib.ListN.{getD}
 use lib.Dec.{eqb}
 use borrow.Author.Tests.{eq-eqb, eqb-true, eqb-false, not-true}
 use Rattle.laws.specs.Numbers.{ids, places, room}
-use Rattle.laws.specs.Search.{best}
+use Rattle.laws.specs.Search.{best, least, count}
 use Rattle.laws.specs.Circle.{turn}
 use Rattle.laws.proofs.Choice.{true-or, and-left, same-test}
 use Rattle.laws.proofs.ListLaws.{length-tab}
+use Rattle.laws.proofs.LeastLaws.{least-cut, least-ext}
+use Rattle.laws.proofs.CountLaws.{count-cut, count-ext}
 use Rattle.laws.proofs.SearchLaws.{best-ext, best-nothing, best-cut, first-ext}
 use Rattle.settings.specs.Grammar.{Value}
 use Rattle.pdu.specs.Replies.{What}
 use Rattle.pdu.specs.Words.{wordOf, whatOf, Proper}
 use Rattle.book.specs.Book.{Live, at, hasId}
 use Rattle.book.specs.Desk.{isLive, lowerId, sooner, joinPlace, freePlace, duePlace, idPlace, freeId, isDue as isDueIn, isOpen as isOpenIn}
-use Rattle.machine.specs.Machine.{Note, rules}
+use Rattle.machine.specs.Machine.{Note, machine, rules}
+use Rattle.machine.specs.Waiting.{noDeadline, deadlineOf, nextDeadline}
 use Rattle.machine.specs.Requests.{joins}
 use Rattle.table.specs.Columns.{Columns, entryAt, bookOf, Sound}
-use Rattle.table.specs.Places.{isFree, holds, isOpen, isDue, isLower, isSooner, freeIdFrom}
+use Rattle.table.specs.Places.{isFree, isTaken, holds, isOpen, isDue, isLower, isSooner, freeIdFrom}
 use Rattle.pdu.proofs.WordLaws.{word-back}
 use Rattle.machine.proofs.JoinLaws.{joins-exact, joins-none}
 use Rattle.table.proofs.ViewLaws.{at-place, entry-free, free-same, holds-same, due-same, lower-same, sooner-same, live-same}
@@ -49,6 +52,26 @@ module _ (v : Value) (c : Columns) (x t : ℕ) (s : Sound c) where
   due-place =
       chosen (isDue (c .ids) (c .deadlines) t) (isSooner (c .ids) (c .deadlines)) (isDueIn t) sooner refl (due-same c t)
       (λ j k p q. sooner-same c j k (not-true _ (and-left _ _ p)) (not-true _ (and-left _ _ q)))
+
+  -- A live place is one in the book, with its deadline.
+  taken-same : (k : ℕ) → k < places → isTaken (c .ids) k ≡ isLive (at (bookOf v c x t) k)
+  taken-same k h = ap not (free-same c k) ∙ Bool·not-not (isLive (entryAt c k)) ∙ ap isLive (sym (at-place v c x t k h))
+
+  deadline-same : (k : ℕ) → k < places → isTaken (c .ids) k ≡ true → getD (c .deadlines) k 0 ≡ deadlineOf (at (bookOf v c x t) k)
+  deadline-same k h e = rw (at-place v c x t k h, not-true (eqb (getD (c .ids) k 0) 0) e)
+
+  untaken : (k : ℕ) → c .top ≤ k → isTaken (c .ids) k ≡ false
+  untaken k h = rw (s .above k h)
+
+  -- The least deadline of the live places, and how many they are, are the machine's.
+  pub next-time : (a : ℕ) → least (isTaken (c .ids)) (λ k. getD (c .deadlines) k 0) noDeadline (c .top) ≡ nextDeadline (machine (bookOf v c x t) a) .time
+  unfolding nextDeadline
+  next-time a =
+      sym (least-cut _ _ noDeadline (c .top) places (s .within) (λ k h l. untaken k h)) ∙ least-ext _ _ _ _ noDeadline places taken-same deadline-same
+
+  pub next-live : (a : ℕ) → count (isTaken (c .ids)) (c .top) ≡ nextDeadline (machine (bookOf v c x t) a) .live
+  unfolding nextDeadline
+  next-live a = sym (count-cut _ (c .top) places (s .within) (λ k h l. untaken k h)) ∙ count-ext _ _ places taken-same
 
   -- The lowest free place is the book's.
   pub free-place : best (isFree (c .ids)) (λ j k. false) places places ≡ freePlace rules (bookOf v c x t)

@@ -10,9 +10,12 @@ use Rattle.laws.specs.Numbers.{ids, places, room}
 use Rattle.laws.specs.Search.{first}
 use Rattle.laws.specs.Circle.{turn}
 
--- the place is free; it is live under that id
+-- the place is free; it is live; it is live under that id
 abbrev pub isFree : List ℕ → ℕ → Bool
 isFree is k = eqb (getD is k 0) 0
+
+abbrev pub isTaken : List ℕ → ℕ → Bool
+isTaken is k = not (eqb (getD is k 0) 0)
 
 abbrev pub holds : List ℕ → ℕ → ℕ → Bool
 holds is id k = eqb (getD is k 0) (id + 1)
@@ -25,6 +28,10 @@ isOpen is ws ds ns word time k =
 -- it is live and its deadline is at or before now
 abbrev pub isDue : (ids deadlines : List ℕ) → ℕ → ℕ → Bool
 isDue is ds time k = not (eqb (getD is k 0) 0) && leb (getD ds k 0) time
+
+-- it is live and has that deadline
+abbrev pub isDueAt : (ids deadlines : List ℕ) → ℕ → ℕ → Bool
+isDueAt is ds deadline k = not (eqb (getD is k 0) 0) && eqb (getD ds k 0) deadline
 
 -- a smaller id; an earlier deadline, and of equal deadlines a smaller id
 abbrev pub isLower : List ℕ → ℕ → ℕ → Bool

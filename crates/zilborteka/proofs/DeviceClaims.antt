@@ -36,12 +36,14 @@ use Rattle.machine.specs.Calls.Call.{attach, detach, request, reply, tick, link
 use Rattle.machine.specs.Refusals.{refusal}
 use Rattle.machine.specs.Outcomes.{outcome}
 use Rattle.machine.specs.Granted.{concerns}
-use Rattle.machine.specs.Numbers.{numbers, report, isDone, isIssued, isJoined, isException, isNothingDue}
+use Rattle.machine.specs.Numbers.{numbers, report, isDone, isIssued, isJoined, isException, isTimedOut, isNothingDue}
+use Rattle.machine.specs.Waiting.{nextDeadline}
 use Rattle.machine.specs.Spelled.{asker, asking}
 use Rattle.machine.specs.Histories.{Seen, seenOf}
 use Rattle.machine.specs.declared.Answer.{Answer}
 use Rattle.machine.specs.declared.Answer.the-variants as answer
 use Rattle.machine.specs.declared.Report.{Report}
+use Rattle.machine.specs.declared.NextDeadline.{NextDeadline}
 use Rattle.machine.proofs.RefusalLaws.{table, Applies}
 use Rattle.machine.proofs.NumberLaws.{refusal-told, refusal-exactly, exception-exactly}
 use Rattle.machine.proofs.RequestLaws.{NoneToJoin}
@@ -54,7 +56,7 @@ use Rattle.machine.proofs.Claims as claim
 use Rattle.table.specs.Columns.{partiesAt}
 use Rattle.proxy.proofs.MakingLaws.{adopted-valid}
 use Rattle.device.specs.declared.Device.{Device}
-use Rattle.device.specs.Device.{Freshly}
+use Rattle.device.specs.Device.{Freshly, Awaited}
 use Rattle.device.proofs.DeviceLaws.{same-device}
 use Rattle.zilborteka.specs.Lives.{inForce, machineIn, Called, Line, callsOf, Lived, grantedIn, toldIn, ledgerIn}
 use Rattle.zilborteka.specs.Lives.Lived.{none, then}
@@ -206,6 +208,21 @@ module _ (from : Settings) {r : Report} {d d′ : Device} (ls : List Line) (fres
       let h = passes x s z in
       let due : outcome (afterCalls v xs) x .says ≡ answer.NothingDue → ⊥ = λ e. n (ap (λ (y : Seen). y .report .outcome) (sees x s) ∙ ap (λ (a : Answer). numbers a .outcome) e) in
       rw (lived .told, sees x s) (timed-out v xs t o l h due)
+
+  -- When to tick (ours): a look at the next deadline leaves every field of the device as it was;
+  pub a-look-changes-nothing : {n : NextDeadline} {e : Device} → Awaited d′ n e → e ≡ d′
+  a-look-changes-nothing a = same-device _ _ (a .1)
+
+  -- and of a tick that comes next and is not refused, one before the time that it named reports that nothing is due, and one at or after it ends an entry.
+  pub when-the-next-tick-ends-one : {n : NextDeadline} {e : Device} → Awaited d′ n e → (t : ℕ) (o l : List ℕ) {saw : Seen} {d″ : Device} → Called d′ (tick t o l) saw d″ → saw .report .refusal ≡ 0
+      → (t < n .time → saw .report .outcome ≡ isNothingDue) × (n .time ≤ t → saw .report .outcome ≡ isTimedOut)
+  unfolding numbers machineIn
+  when-the-next-tick-ends-one {n} a t o l s z =
+      let x = tick t o l in
+      let w = claim.when-the-next-tick-ends-one v xs t o l (passes x s z) in
+      let same : n ≡ nextDeadline (afterCalls v xs) = a .0 ∙ ap nextDeadline (lived .after) in
+      let told : (b : Answer) → outcome (afterCalls v xs) x .says ≡ b → _ = λ b q. ap (λ (y : Seen). y .report .outcome) (sees x s) ∙ ap (λ (y : Answer). numbers y .outcome) q in
+      (λ early. told answer.NothingDue (w .0 (rw same at early)), λ late. let y = w .1 (rw same at late) in told (answer.TimedOut (y .0) (y .1)) (y .2))
 
   -- what the lines up to one of them and all lines tell, and what the host saw at that one, are the machine's
   parted : (ks : List Line) (x : Line) (ys : List Line) → ls ≡ ks ++ x ∷ ys

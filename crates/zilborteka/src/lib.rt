@@ -3,11 +3,12 @@ pub mod deviceless;
 pub mod streams;
 
 use device::Device;
+use machine::NextDeadline;
 use machine::Report;
 use settings::Settings;
 ghost use mathlib.Core.List.{[]};
 ghost use Rattle.machine.specs.Calls.Call.{attach as attaches, detach as detaches, request as asks, reply as replies, tick as ticks, linkLost};
-ghost use Rattle.device.specs.Device.{Made, Served, Freshly};
+ghost use Rattle.device.specs.Device.{Made, Served, Freshly, Awaited};
 
 // Makes the device fresh from a settings value, whatever it was. An invalid value is refusal 10, and the device then has the usual one.
 #[no_mangle]
@@ -164,4 +165,13 @@ pub extern "C" fn zb_link_lost(st: &mut Device) -> Report
     ensures { λ r. ⌜ Served (now (st .entry)) (linkLost) r (now (st .exit)) [] [] ⌝ }
 {
     cores::link_lost(&mut st.ids, &mut st.top, &mut st.attached)
+}
+
+// How many requests are live, and the earliest deadline of them: a host sleeps until then.
+#[no_mangle]
+pub extern "C" fn zb_next_deadline(st: &mut Device) -> NextDeadline
+    requires { ⌜ Made (now st) ⌝ }
+    ensures { λ r. ⌜ Awaited (now (st .entry)) r (now (st .exit)) ⌝ }
+{
+    cores::next_deadline(&mut st.ids, &mut st.deadlines, &mut st.top)
 }

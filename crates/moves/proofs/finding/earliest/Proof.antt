@@ -1,40 +1,30 @@
--- `moves::finding::earliest` meets its contract: the loop is a scan of the places below top.
+-- `moves::finding::earliest` meets its contract: the least deadline first, and the lowest id at it second, are one search.
 -- Assumes nothing.
-use Prim.Native.Nat.{_-_}
-use mathlib.Core.Path.{sym, _∙_}
-use mathlib.Core.Logic.{⊎-elim}
+use mathlib.Core.Path.{_≡_, sym, _∙_}
 use native.Mathlib.Omega.{arith}
-use Rattle.laws.specs.Numbers.{places}
-use Rattle.table.specs.Places.{isDue, isSooner}
-use Rattle.moves.proofs.ScanLaws.{Scan, scan-starts, scan-low, scan-takes, scan-passes, scan-ends}
+use denote.Ref.{now}
+use lib.ListN.{getD}
 use borrow.Author.Needs.{needs}
+use borrow.Author.Tests.{lt-ltb, le-ltb}
+use Rattle.laws.specs.Numbers.{places}
+use Rattle.laws.proofs.LeastLaws.{two-passes}
+use Rattle.machine.specs.Waiting.{noDeadline}
+use Rattle.table.specs.Places.{isTaken, isLower}
 use Rattle.moves.proofs.finding.earliest.Statement.{statement}
 use Rattle.moves.proofs.finding.earliest.Tie as tie
 
-abbrev Inv-loop : tie.InvT-loop
-Inv-loop ids deadlines top time found₀ k₀ found k = Scan (isDue ids deadlines time) (isSooner ids deadlines) places top k found
+returns : tie.Need-returns
+returns c =
+    let a = c .before .before .args in
+    sym (two-passes (isTaken (now (a .ids))) (λ k. getD (now (a .deadlines)) k 0) (isLower (now (a .ids))) noDeadline (a .time) places (omega arith) (a .top) (c .before .before .pre)
+    ∙ rw (← c .before .least-deadline .ensures, lt-ltb (a .time) (c .before .least-deadline .result) (c .if1 .taken)))
 
-abbrev μ-loop : tie.MeasureT-loop
-μ-loop ids deadlines top time found₀ k₀ found k = top - k
-
-loop-holds : tie.Need-loop-holds Inv-loop μ-loop
-loop-holds c = scan-starts
-
-is-next-due-requires : tie.Need-is-next-due-requires Inv-loop μ-loop
-is-next-due-requires c κs = (omega arith, scan-low (c .before .before .pre) (c .before .loop .inv))
-
-loop-again : tie.Need-loop-again Inv-loop μ-loop
-loop-again c =
-    let s = c .before .before .before .loop .inv in
-    let won = sym (c .before .is-next-due .ensures) in
-    ⊎-elim
-    (λ w. scan-takes s (c .before .before .loop-test .taken) (won ∙ w .0 .taken) (w .1))
-    (λ w. scan-passes s (c .before .before .loop-test .taken) (won ∙ w .0 .left) (w .1))
-    (c .if1 .came)
-
-returns : tie.Need-returns Inv-loop μ-loop
-returns c = scan-ends (c .before .loop .inv) (c .loop-test .left)
+returns-2 : tie.Need-returns-2
+returns-2 c =
+    let a = c .before .before .before .args in
+    c .lowest-due .ensures
+    ∙ sym (two-passes (isTaken (now (a .ids))) (λ k. getD (now (a .deadlines)) k 0) (isLower (now (a .ids))) noDeadline (a .time) places (omega arith) (a .top) (c .before .before .before .pre)
+    ∙ rw (← c .before .before .least-deadline .ensures, le-ltb (a .time) (c .before .before .least-deadline .result) (c .before .if1 .left)))
 
 pub earliest-spec : {M : Type 1} → statement M
-earliest-spec =
-    tie.close (tie.spec Inv-loop μ-loop loop-holds is-next-due-requires (λ c. search needs) (λ c. search needs) loop-again returns)
+earliest-spec = tie.close (tie.spec (λ c κs. search needs) returns (λ c κs. search needs) returns-2)

@@ -10,19 +10,28 @@ use Rattle.rewrite.proofs.TagLaws.{number-one, number-two}
 use Rattle.payloads.proofs.registers.number_at.Statement.{statement}
 use Rattle.payloads.proofs.registers.number_at.Tie as tie
 
+register-at-requires : tie.Need-register-at-requires
+register-at-requires c κs = omega (arith, registers-least (c .before .args .kind))
+
 returns : tie.Need-returns
 returns c =
     let a = c .before .before .before .before .args in
-    c .before .before .pair-at .ensures ∙ number-one (a .kind) (a .k) (now (a .d)) (sym (c .before .registers-of .ensures) ∙ c .if1 .taken)
+    c .before .before .register-at .ensures .0 ∙ number-one (a .kind) (a .k) (now (a .d)) (sym (c .before .registers-of .ensures) ∙ c .if1 .taken)
+
+two : (c : tie.Else1) → registers (c .before .before .before .before .args .kind) ≡ 2
+two c =
+    let k = c .before .before .before .before .args .kind in
+    omega (arith, c .before .registers-of .ensures, c .if1 .left, registers-least k, registers-most k)
+
+register-at-requires-2 : tie.Need-register-at-requires-2
+register-at-requires-2 c κs = omega (arith, two c)
 
 returns-2 : tie.Need-returns-2
 returns-2 c =
     let a = c .before .before .before .before .before .args in
-    let two : registers (a .kind) ≡ 2 = omega (arith, c .before .before .registers-of .ensures, c .before .if1 .left, registers-least (a .kind), registers-most (a .kind)) in
-    rw (c .before .before .before .pair-at .ensures, c .pair-at2 .ensures) (number-two (a .kind) (a .k) (now (a .d)) two)
+    rw (c .before .before .before .register-at .ensures .0, c .register-at2 .ensures .0) (number-two (a .kind) (a .k) (now (a .d)) (two (c .before)))
 
 pub number-at-spec : {M : Type 1} → statement M
 number-at-spec =
     tie.close
-    (tie.spec (λ c κs. search needs) (λ c. search needs) (λ c κs. search needs) returns (λ c. search needs) (λ c κs. search needs)
-    (λ c. search needs) (λ c. search needs) (λ c. search needs) returns-2)
+    (tie.spec register-at-requires (λ c κs. search needs) returns (λ c. search needs) register-at-requires-2 (λ c. search needs) (λ c. search needs) returns-2)

@@ -1,0 +1,98 @@
+-- What the next deadline is, in plain words, and what the next tick does before and after it.
+-- Assumes nothing.
+use Prim.Native.Nat.{ℕ, _≤_, _<_}
+use mathlib.Core.Path.{_≡_, refl, ap, sym, _∙_}
+use mathlib.Core.Logic.{⊎-elim, _⊎_, inl, inr, _↔_}
+use mathlib.Core.Bool.{Bool, true, false}
+use mathlib.Core.Option.{Option, some, none}
+use mathlib.Core.List.{List}
+use native.Mathlib.Omega.{arith}
+use lib.ListN.{length}
+use lib.Dec.{ltb}
+use borrow.Author.Tests.{ltb-false}
+use Rattle.laws.specs.Numbers.{places, latestTime}
+use Rattle.laws.specs.Search.{count}
+use Rattle.laws.proofs.LeastLaws.{least-low, least-taken}
+use Rattle.laws.proofs.Choice.{or-left}
+use Rattle.pdu.specs.Replies.{What}
+use Rattle.pdu.specs.declared.ProxyId.{ProxyId}
+use Rattle.book.specs.Book.{Live, Good, NothingDue, at}
+use Rattle.book.specs.Book.Move.{pass}
+use Rattle.book.specs.Desk.{duePlace, isLive}
+use Rattle.book.proofs.GoodLaws.{good-move}
+use Rattle.book.proofs.PlaceLaws.{at-low}
+use Rattle.machine.specs.Machine.{Machine, Note, rules, clocked}
+use Rattle.machine.specs.Calls.{Outcome}
+use Rattle.machine.specs.Calls.Call.{tick}
+use Rattle.machine.specs.Refusals.{rows, refusal, isUntimely}
+use Rattle.machine.specs.Replies.{expiredTo}
+use Rattle.machine.specs.Outcomes.{outcome}
+use Rattle.machine.specs.Waiting.{noDeadline, deadlineOf, nextDeadline}
+use Rattle.machine.specs.declared.Answer.the-variants as answer
+use Rattle.machine.specs.declared.NextDeadline.{NextDeadline}
+use Rattle.machine.proofs.LowestLaws.{none-applies}
+use Rattle.machine.proofs.OutcomeLaws.{clocked-at}
+use Rattle.machine.proofs.AnswerLaws.{ticked-is, idle-says, idle-when, spot, tick-expires}
+use Rattle.machine.proofs.TickLaws.{nothing-found}
+
+-- the numbers of a next deadline, in plain words
+pub record Waits (m : Machine) (n : NextDeadline) : Type 0 where
+  -- no live request is due before it
+  pub first : (k : ℕ) (e : Live What Note) → at (m .book) k ≡ some e → n .time ≤ e .deadline
+  -- it is the deadline of a live request, or 2^64 − 1
+  pub taken : (n .time ≡ noDeadline) ⊎ ((k : ℕ) × (e : Live What Note) × (at (m .book) k ≡ some e) × (e .deadline ≡ n .time))
+  -- so many places are live
+  pub many : n .live ≡ count (λ k. isLive (at (m .book) k)) places
+
+live-entry : (o : Option (Live What Note)) → isLive o ≡ true → (e : Live What Note) × (o ≡ some e)
+live-entry none t = absurd (let z : _≡_ {A = ℕ} 0 1 = cc in omega arith)
+live-entry (some e) t = (e, refl)
+
+pub waits : (m : Machine) → Good rules (m .book) → Waits m (nextDeadline m)
+unfolding nextDeadline
+waits m g =
+    let live : ℕ → Bool = λ k. isLive (at (m .book) k) in
+    let due : ℕ → ℕ = λ k. deadlineOf (at (m .book) k) in
+    record {
+      first = λ k e h.
+          let w = least-low live due noDeadline places .1 k (rw (g .long) at (at-low (m .book .places) k e h)) (ap isLive h) in
+          let d : due k ≡ e .deadline = ap deadlineOf h in
+          omega arith;
+      taken = ⊎-elim inl
+          (λ (w : (k : ℕ) × (k < places) × (live k ≡ true) × (due k ≡ nextDeadline m .time)).
+          let e = live-entry (at (m .book) (w .0)) (w .2) in
+          inr (w .0, e .0, e .1, sym (ap deadlineOf (e .1)) ∙ w .3))
+          (least-taken live due noDeadline places);
+      many = refl;
+    }
+
+-- a tick that is not refused carries a time up to 2^63 − 1
+tick-time : (m : Machine) (t : ℕ) (o l : List ℕ) → refusal m (tick t o l) ≡ 0 → t ≤ latestTime
+unfolding rows
+tick-time m t o l h =
+    let a = none-applies _ 1 _ (λ z. omega arith) h in
+    let b = none-applies (isUntimely m t) 3 _ (λ z. omega arith) (a .1) in
+    ltb-false latestTime t (or-left (ltb latestTime t) _ (b .0))
+
+-- Of a tick that comes next and is not refused: before the next deadline it says that nothing is due, and from then on it ends an entry.
+pub next-tick : (m : Machine) (t : ℕ) (o l : List ℕ) → Good rules (m .book) → refusal m (tick t o l) ≡ 0
+    → (t < nextDeadline m .time → outcome m (tick t o l) .says ≡ answer.NothingDue)
+    × (nextDeadline m .time ≤ t → (i : ProxyId) × (n : ℕ) × (outcome m (tick t o l) .says ≡ answer.TimedOut i n))
+next-tick m t o l g h =
+    let w = waits m g in
+    let b = clocked m t .book in
+    let c : b .clock ≡ t = clocked-at m (tick t o l) t h refl in
+    let gb = good-move rules (m .book) (pass t) g tt in (
+      λ early.
+          ap (λ (x : Outcome). x .says)
+          (ticked-is m t o l h
+          ∙ ap (expiredTo (clocked m t) (duePlace rules b) o l) (nothing-found b gb (λ k e z. let y = w .first k e z in omega arith))
+          ∙ idle-says (clocked m t) (duePlace rules b) o l),
+      λ late.
+          let x = tick-expires m t o l g h (λ idle. ⊎-elim
+          (λ (z : nextDeadline m .time ≡ noDeadline). let y = tick-time m t o l h in omega arith)
+          (λ (z : (k : ℕ) × (e : Live What Note) × (at (m .book) k ≡ some e) × (e .deadline ≡ nextDeadline m .time)).
+          let y = idle-when m t o l g idle .1 (z .0) (z .1) (z .2) in let d = z .3 in omega arith)
+          (w .taken)) in
+          (_, _, x .says),
+    )
