@@ -9,4 +9,5 @@ pub mod FrameLaws
 pub mod ReencodedLaws
 pub mod SingleLaws
 pub mod EchoLaws
+pub mod LaidLaws
 pub mod RoomLaws
