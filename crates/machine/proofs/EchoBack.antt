@@ -1,12 +1,13 @@
 -- Demand 2's addition over calls: a controller that echoes the frame of a request 06 gives the client back the very frame that it wrote.
 -- Assumes nothing.
-use Prim.Native.Nat.{ℕ, _+_, _*_, _≤_, _<_}
+use Prim.Native.Nat.{ℕ, _+_, _*_, _/_, _%_, _≤_, _<_}
 use mathlib.Core.Path.{_≡_, refl, ap, sym, _∙_}
 use mathlib.Core.Logic.{inl}
 use mathlib.Core.Bool.{true, false}
-use mathlib.Core.List.{List, []}
+use mathlib.Core.List.{List, [], _∷_}
 use native.Mathlib.Omega.{arith}
 use lib.ListN.{length, getD, take}
+use lib.Seq.{getD-take}
 use Rattle.laws.specs.Bytes.{over, pairAt}
 use Rattle.wire.specs.Frame.{functionOf, idOf, laid}
 use Rattle.wire.proofs.FrameLaws.{length-laid}
@@ -23,7 +24,9 @@ use Rattle.rewrite.specs.Frames.{forwarded, returned}
 use Rattle.rewrite.proofs.FrameLaws.{front, length-forwarded, rewriting-other}
 use Rattle.rewrite.proofs.EchoLaws.{echo-back}
 use Rattle.rewrite.proofs.LaidLaws.{laidOver, returned-laid}
-use Rattle.machine.specs.Machine.{Machine, settings}
+use Rattle.book.specs.Book.{Good}
+use Rattle.machine.specs.Machine.{Machine, rules, settings}
+use Rattle.machine.specs.Calls.{Outcome}
 use Rattle.machine.specs.Calls.Call.{request, reply}
 use Rattle.machine.specs.Outcomes.{outcome}
 use Rattle.machine.specs.Spelled.{asking}
@@ -70,3 +73,23 @@ echo-comes-back tags asc m same c t f o bytes room six x m′ same′ t′ g o�
       a .says ∙ rw (r, n),
       a .frame ∙ ap (λ (y : Rewritten). over (laid 0 (y .bytes)) o′) r,
     )
+
+-- A frame's own id laid over it is the frame.
+pub own-id : (f : List ℕ) → ((k : ℕ) → getD f k 0 < 256) → 2 ≤ length f → laid (idOf f) f ≡ f
+own-id [] bytes h = absurd (omega arith)
+own-id (a ∷ []) bytes h = absurd (omega arith)
+own-id (a ∷ b ∷ f) bytes h =
+    let l : b < 256 = bytes 1 in
+    let p : (a * 256 + b) / 256 ≡ a = omega arith in
+    let q : (a * 256 + b) % 256 ≡ b = omega arith in
+    rw (p, q)
+
+-- A frame under id 0 at the start of a buffer, with its own id laid over it.
+pub own-frame : (f o w : List ℕ) (n : ℕ) → ((k : ℕ) → getD f k 0 < 256) → 2 ≤ length f → n ≡ length f → w ≡ over (laid 0 f) o → laid (idOf f) (take n w) ≡ f
+own-frame f o w n bytes h size e =
+    let k : take n w ≡ laid 0 f = rw (e, size, ← length-laid 0 f h) (front (laid 0 f) o) in
+    rw k (own-id f bytes h)
+
+-- The frame that is sent carries the id that is told.
+pub sent-id : (m : Machine) (c t : ℕ) (f o : List ℕ) {d : Outcome} → Good rules (m .book) → (x : Issues m c t f o d) (n : ℕ) → 2 ≤ n → idOf (take n (d .written)) ≡ x .id
+sent-id m c t f o {d} g x n h = rw (getD-take n (d .written) 0 0 (omega arith), getD-take n (d .written) 1 0 (omega arith), x .high, x .low) (omega arith)
