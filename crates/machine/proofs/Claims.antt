@@ -245,8 +245,7 @@ module _ (v : Value) (xs : List Call) where
       let i = last-of-exactly (touches (e .id)) (toldBy v xs) _ .0 (u .2) in
       let g = what-an-issue-is (e .id) (e .what) (e .deadline) (u .0) (rw (i .2) (Memᴰ·append-right (i .0) (List·Memᴰ·head refl))) in
       let same = g .spells .0 in
-      let r = returned-bits (settings (afterCalls v xs) .tags) f (e .what) (g .frame) (rw same at b) (ap (λ (w : What). w .asked) same ∙ sym (asked-spelled (g .frame))) in
-      (
+      let r = returned-bits (settings (afterCalls v xs) .tags) f (e .what) (g .frame) (rw same at b) (ap (λ (w : What). w .asked) same ∙ sym (asked-spelled (g .frame))) in (
         a .frame ∙ ap (λ (y : Rewritten). over (laid 0 (y .bytes)) o) r,
         a .says ∙ ap (λ (y : Rewritten). answer.Answered (record { 0 = e .id }) (length f) (length (e .parties)) (y .partial) (y .value)) r,
       )
