@@ -360,7 +360,11 @@ module _ (from : Settings) {r r′ : Report} {d d′ e e′ : Device} (ls ks : L
       let g = take (saw .report .length) (saw .frame) in
       let x = reply t′ g o′ l in
       let frame = ap (λ (y : Seen). y .frame) (sees from ls fresh life (request c t f o) called) in
-      let shown = sees from ks fresh′ life′ x called′ in
+      let shown = sees from ks fresh′ life′ x called′ ∙ ap (λ (y : List ℕ). seenOf (outcome (afterCalls (inForce from) (callsOf ks)) (reply t′ (take (saw .report .length) y) o′ l))) frame in
       let r = claim.an-echo-comes-back (inForce from) (adopted-valid (valueOf from)) (callsOf ls) c t f o bytes six _ _ _ _ (rw (lived from ls fresh life .after) at (report-tells (request c t f o) called .issued issue))
       (callsOf ks) t′ o′ l (rw (← frame) (passes from ks fresh′ life′ x called′ z)) client due (rw (lived from ks fresh′ life′ .told) at out) in
-      ?
+      let told : (q : Report → ℕ) → _ = λ q. ap (λ (y : Seen). q (y .report)) shown ∙ ap (λ (y : Answer). q (numbers y)) (r .1) in (
+        told (λ y. y .partial),
+        told (λ y. y .value),
+        rw (told (λ y. y .length), ap (λ (y : Seen). y .frame) shown) (r .2),
+      )
