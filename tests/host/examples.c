@@ -333,19 +333,19 @@ static void last_place_and_the_next(void)
     EXPECT(is_issued(pair_request(5, 3000, write, 12, ZB_FRAME_BUFFER), ZB_PLACES));
 }
 
-/* 10,000 written by 06 goes out raw; its echo is digits and comes back as 2,710. A width-32 tag is partial for 06. */
+/* 10,000 written by 06 goes out raw, and its echo comes back as it is. A width-32 tag is partial for 06, and not for its echo. */
 static void single_writes(void)
 {
     begin();
     request(3, 0, "00 01 00 00 00 06 01 06 04 00 27 10");
     zb_answer a = reply(0, "00 00 00 00 00 06 01 06 04 00 27 10");
-    EXPECT(wrote(a, "00 00 00 00 00 06 01 06 04 00 0A 96") && raw(a, 0, 0));
+    EXPECT(wrote(a, "00 00 00 00 00 06 01 06 04 00 27 10") && raw(a, 0, 0));
     a = request(3, 0, "00 01 00 00 00 06 01 06 04 02 27 10");
     EXPECT(wrote(a, "00 01 00 00 00 06 01 06 04 02 27 10") && raw(a, 1, 0));
     a = request(3, 0, "00 01 00 00 00 06 01 06 04 03 27 10");
     EXPECT(wrote(a, "00 02 00 00 00 06 01 06 04 03 27 10") && raw(a, 1, 0));
     a = reply(0, "00 02 00 00 00 06 01 06 04 03 27 10");
-    EXPECT(wrote(a, "00 00 00 00 00 06 01 06 04 03 27 10") && raw(a, 1, 0));
+    EXPECT(wrote(a, "00 00 00 00 00 06 01 06 04 03 27 10") && raw(a, 0, 0));
     a = request(3, 0, "00 01 00 00 00 0D 01 10 04 00 00 03 06 27 10 00 00 00 01");
     EXPECT(wrote(a, "00 03 00 00 00 0D 01 10 04 00 00 03 06 27 10 00 00 00 01") && raw(a, 1, 1));
 }

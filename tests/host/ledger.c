@@ -190,6 +190,10 @@ static void issued(uint32_t client, uint64_t now, const uint8_t *frame, size_t s
     e->quantity = (uint16_t)(size < 12 ? 0 : frame[10] << 8 | frame[11]);
     e->issued_at = now;
     e->issue = ledger.issues;
+    if (e->function == 6) {
+        memcpy(e->written, frame, sizeof e->written);
+        memcpy(e->sent, pair_out(), sizeof e->sent);
+    }
     accept(e, client, now, frame);
     if (ledger.lives == ZB_PLACES)
         reached(REACHED_LAST_PLACE);
@@ -341,12 +345,33 @@ static void end_entry(ledger_entry *e, zb_answer a, enum group to)
 
 static void raw_counts_of_reply(uint8_t function, zb_answer a)
 {
+    if (function == 6)
+        return;
     if (a.partial)
-        reached(function == 6 ? REACHED_PARTIAL_ECHO : REACHED_PARTIAL_READ);
+        reached(REACHED_PARTIAL_READ);
     if (a.value)
-        reached(function == 6 ? REACHED_VALUE_ECHO : REACHED_VALUE_READ);
+        reached(REACHED_VALUE_READ);
     if (a.partial && a.value)
         reached(REACHED_BOTH_RAW);
+}
+
+/* A controller that echoes what it was sent gives the client back what it wrote; an echo that is not decoded counts nothing. */
+static void echo_comes_back(const ledger_entry *e, const uint8_t *frame, zb_answer a)
+{
+    bool raw = memcmp(e->sent + 10, e->written + 10, 2) == 0 && e->quantity > 9999;
+    if (a.partial)
+        pair_differs("ledger: an echo counts partial cover");
+    if (memcmp(frame, e->sent, sizeof e->sent) != 0) {
+        if (a.value)
+            reached(REACHED_VALUE_ECHO);
+        return;
+    }
+    if (a.length != sizeof e->written || memcmp(pair_out() + 2, e->written + 2, sizeof e->written - 2) != 0 || a.value)
+        pair_differs("ledger: the echo of what was sent is not what the client wrote");
+    if (raw)
+        reached(REACHED_RAW_ECHO);
+    else if (memcmp(e->sent + 10, e->written + 10, 2) != 0)
+        reached(REACHED_DECODED_ECHO);
 }
 
 /* An echo of 05 that differs from the request in nothing but the value. */
@@ -378,6 +403,8 @@ void ledger_reply(uint64_t now, const uint8_t *frame, zb_answer a)
     if (frame[7] < 3 && e->quantity == 2000)
         reached(REACHED_MOST_BITS);
     raw_counts_of_reply(frame[7], a);
+    if (frame[7] == 6)
+        echo_comes_back(e, frame, a);
     end_entry(e, a, BY_REPLY);
 }
 

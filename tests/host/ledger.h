@@ -15,6 +15,7 @@ typedef struct {
     uint16_t id;
     uint8_t unit, function;
     uint16_t start, quantity; /* bytes 8 to 11 of the request, 0 where it is shorter */
+    uint8_t written[12], sent[12]; /* a 06 as its client wrote it, and as it was sent */
     uint64_t issued_at;
     uint32_t issue; /* its number among the issues */
     uint32_t ever;  /* parties that it ever had */

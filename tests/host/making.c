@@ -388,7 +388,9 @@ static size_t make_right_reply(uint8_t *frame, const ledger_entry *e)
     }
     if (e->function == 5 || e->function == 6 || e->function == 15 || e->function == 16) {
         put_word(frame + 8, e->start);
-        put_word(frame + 10, e->function != 6 || one_in(2) ? e->quantity : some_word());
+        put_word(frame + 10, e->function != 6 || one_in(4) ? e->quantity : some_word());
+        if (e->function == 6 && one_in(2))
+            memcpy(frame, e->sent, sizeof e->sent);
         return finish(frame, e->id, e->unit, 5);
     }
     size_t size = make_other(frame);

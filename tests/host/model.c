@@ -143,6 +143,14 @@ static void rewrite(const zb_settings *settings, rewriting *turn, uint32_t start
     }
 }
 
+static bool is_tagged(const zb_settings *settings, uint32_t address)
+{
+    for (uint32_t t = 0; t < settings->tags; t++)
+        if (settings->addr[t] <= address && address < settings->addr[t] + settings->width[t] / 16u)
+            return true;
+    return false;
+}
+
 /* A request */
 
 static bool is_read_of_bits(uint8_t function)
@@ -285,8 +293,10 @@ static zb_answer issue(model_state *st, model_entry *e, uint64_t now, const uint
     a.length = (uint32_t)size;
     memcpy(out, frame, size);
     put_word(out, id);
-    if (!e->bits && e->asked == ASKED_SINGLE_WRITE)
+    if (!e->bits && e->asked == ASKED_SINGLE_WRITE) {
         rewrite(&st->settings, tag_to_bcd, e->start, 1, out + HEADER + 3, &a);
+        e->reencoded = is_tagged(&st->settings, e->start) && a.partial == 0 && a.value == 0;
+    }
     if (!e->bits && e->asked == ASKED_MULTIPLE_WRITE)
         rewrite(&st->settings, tag_to_bcd, e->start, e->quantity, out + HEADER + 6, &a);
     return a;
@@ -405,7 +415,7 @@ zb_answer model_reply(model_state *st, uint64_t now,
     bool has_registers = frame[HEADER] < EXCEPTION && !e->bits;
     if (has_registers && e->asked == ASKED_READ)
         rewrite(&st->settings, tag_to_binary, e->start, e->quantity, out + HEADER + 2, &a);
-    if (has_registers && e->asked == ASKED_SINGLE_WRITE)
+    if (has_registers && e->asked == ASKED_SINGLE_WRITE && e->reencoded)
         rewrite(&st->settings, tag_to_binary, e->start, 1, out + HEADER + 3, &a);
     end_entry(e, list, &a);
     return a;

@@ -34,7 +34,8 @@ extern const char *const call_names[CALLS];
     X(VALUE_MULTIPLE, "value raw in request 16") \
     X(PARTIAL_READ, "partial raw in reply 03 or 04") \
     X(VALUE_READ, "value raw in reply 03 or 04") \
-    X(PARTIAL_ECHO, "partial raw in reply 06") \
+    X(DECODED_ECHO, "an echo 06 of what was re-encoded is what was written") \
+    X(RAW_ECHO, "an echo 06 of what went out raw is what was written") \
     X(VALUE_ECHO, "value raw in reply 06") \
     X(BOTH_RAW, "both counts nonzero in one frame") \
     X(BITS_02, "exception 02 to 01, 02 or 15") \

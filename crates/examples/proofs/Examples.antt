@@ -18,7 +18,7 @@ use Rattle.pdu.specs.Requests.{classOf, badFunction, badLength, badValue, badAd
 use Rattle.pdu.specs.Replies.{shaped, answering}
 use Rattle.rewrite.specs.Registers.{registersAt, laidAt}
 use Rattle.rewrite.specs.Rewriting.{turned, verdict, laidBy, rewrittenFrom, partials, values, rewriting}
-use Rattle.rewrite.specs.Frames.{forwarded, returnedBy, returned}
+use Rattle.rewrite.specs.Frames.{forwarded, reencoded, returnedBy, returned}
 use Rattle.book.specs.Book.{liveIn}
 use Rattle.machine.specs.Machine.{Machine, made}
 use Rattle.machine.specs.Calls.{Call, Outcome, outOf, listOf}
@@ -81,7 +81,7 @@ whole e =
 -- what it comes to by the definitions, all of which are computed with where this one is
 unfoldable pub shown : Example → Given
 unfolding played outcome granted rows lowest admitted served exhausted excepted joinedTo issuedTo sameTable sameRead joins answered answeredTo ticked expiredTo outOf listOf
-    forwarded returned returnedBy rewriting partials values rewrittenFrom laidBy verdict turned registersAt laidAt filter tab best first with
+    forwarded reencoded returned returnedBy rewriting partials values rewrittenFrom laidBy verdict turned registersAt laidAt filter tab best first with
     digits value below packed unpacked decimal encodedDigits decodedDigits registers encoded decoded wordsOf numberOf kindOf
     classOf badFunction badLength badValue badAddress askedBy faultOf shaped answering misframed exception liveIn flatMap
 shown e =

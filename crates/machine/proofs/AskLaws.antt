@@ -107,6 +107,8 @@ pub record Issues (m : Machine) (c t : ℕ) (f o : List ℕ) (d : Outcome) : Typ
       → ((k : ℕ) → 2 ≤ k → k < length f → getD (d .written) k 0 ≡ getD f k 0) × (partial ≡ 0) × (value ≡ 0)
   pub behind : (k : ℕ) → length f ≤ k → getD (d .written) k 0 ≡ getD o k 0
   pub size : length (d .written) ≡ length o
+  -- all of it at once, by the definition of what is forwarded
+  pub frame : d .written ≡ over (laid id (forwarded (settings m .tags) (asking f .asked) f .bytes)) o
   pub listed : d .listed ≡ []
   -- the machine: a place that was free holds the request, and the cursor stands behind the id
   pub place : ℕ
@@ -251,6 +253,7 @@ module _ (m : Machine) (c t : ℕ) (f o : List ℕ) (g : Good rules (m .book)) (
             (λ k a b. stands k a b ∙ ap (λ (x : List ℕ). getD x k 0) (p .0), p .1, p .2);
         behind = λ k b. over-behind (laid id (sent .bytes)) o k (omega arith);
         size = over-size (laid id (sent .bytes)) o (omega arith);
+        frame = ap (λ (a : Asked). over (laid id (forwarded (settings m .tags) a f .bytes)) o) (asked-spelled f);
         listed = refl;
         place = place;
         free = free-found rules (m .book) l .0;

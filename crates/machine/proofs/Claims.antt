@@ -2,14 +2,14 @@
 -- `afterCalls v xs` is the machine after the calls xs, `ledgerOf v xs` the ledger kept from the calls and what the host saw of them: the C answer's numbers, the bytes and the list.
 -- `toldBy v xs` is the lines of that ledger, `grantedCalls v xs` those of the calls that were not refused; what `lastOf` and `lastGiven` are is said in plain words in LastLaws of `laws`.
 -- Assumes nothing.
-use Prim.Native.Nat.{ℕ, suc, _+_, _-_, _≤_, _<_}
+use Prim.Native.Nat.{ℕ, suc, _+_, _*_, _-_, _≤_, _<_}
 use mathlib.Core.Path.{_≡_, refl, ap, sym, _∙_}
 use mathlib.Core.Logic.{_⊎_, _↔_}
 use mathlib.Core.Bool.{true, false}
 use mathlib.Core.Option.{some, Option·getD}
 use mathlib.Core.List.{List, [], _∷_, _++_, List·Memᴰ, List·Memᴰ·head, Memᴰ·append-right}
 use native.Mathlib.Omega.{arith}
-use lib.ListN.{length, getD}
+use lib.ListN.{length, getD, take}
 use borrow.Author.Tests.{eqb-true}
 use Rattle.laws.specs.Numbers.{places, ids, distance, latestTime}
 use Rattle.laws.specs.Lists.{filter, lastGiven, lastOf}
@@ -19,6 +19,7 @@ use Rattle.laws.proofs.BitLaws.{has-none}
 use Rattle.laws.proofs.FilterLaws.{filter-in}
 use Rattle.laws.proofs.LastLaws.{last-of-exactly}
 use Rattle.wire.specs.Frame.{laid}
+use Rattle.wire.specs.Frame.{idOf, laid}
 use Rattle.bcd.specs.Bcd.{inRange}
 use Rattle.bcd.specs.Words.{numberOf}
 use Rattle.settings.specs.Grammar.{Value, Tag, valid}
@@ -59,12 +60,15 @@ use Rattle.machine.specs.declared.Answer.the-variants as answer
 use Rattle.machine.proofs.RefusalLaws.{table, Applies, refused-exactly}
 use Rattle.machine.proofs.OutcomeLaws.{clocked-at, says-refusal, refused-is, granted-is}
 use Rattle.machine.proofs.NumberLaws.{Tells, numbers-tell}
-use Rattle.machine.proofs.SpelledLaws.{AskedBy, asked-spelled, kept-as-asked}
+use Rattle.machine.proofs.SpelledLaws.{AskedBy, asked-spelled, kept-as-asked, asking-says}
 use Rattle.machine.proofs.RequestLaws.{NoneToJoin, codeOf, no-other-exception, exception-04 as said-exactly}
+use Rattle.machine.proofs.AskLaws.Carries.{single}
+use Rattle.machine.proofs.Follows.{same-entry}
 use Rattle.machine.proofs.AskLaws.{Carries, bits-carry-none, Issues, Joins, Excepts, request-comes-to, issue-is, join-is, exception-is}
 use Rattle.machine.proofs.PartyLaws.{Accepts, Stands, accepted-stands}
 use Rattle.machine.proofs.AnswerLaws.{Answers, Expires, reply-answers, tick-expires, idle-when}
 use Rattle.machine.proofs.ReadBack.{comes-back}
+use Rattle.machine.proofs.EchoBack.{echo-comes-back, own-frame, sent-id}
 use Rattle.machine.proofs.TickLaws.{Lent, tickAt, ticksAt, ticking-ends}
 use Rattle.machine.proofs.WaitingLaws.{Waits, waits, next-tick}
 use Rattle.machine.proofs.FrameOfParty.{EachItsFrame, reply-frame, always-known, timeout-frame}
@@ -316,6 +320,36 @@ pub a-value-comes-back : (v : Value) → valid v ≡ true → (tag : Tag) → Li
 a-value-comes-back v right tag m xs c t f o bytes i n p w e base s q carries whole range ys =
     comes-back (v .tags) (valid-ascends v right) tag m (afterCalls v xs) (ap (λ (x : Value). x .tags) (same-settings v xs)) c t f o bytes (an-issue-is-this v xs c t f o i n p w e) base s q
     carries whole range (afterCalls v ys) (ap (λ (x : Value). x .tags) (same-settings v ys))
+
+-- Demand 2's addition (#106): a device that echoes what it was sent gives the client back the very frame that the client wrote. A 06 was issued; whatever calls came before the reply,
+-- while what the request asked is outstanding under its id: the reply that is the frame which was sent, byte for byte, is handed on as the client's own frame, once its id is laid over
+-- it, and no tag is counted. Whether its value was re-encoded or went out raw.
+pub an-echo-comes-back : (v : Value) → valid v ≡ true → (xs : List Call) (c t : ℕ) (f o : List ℕ) → ((k : ℕ) → getD f k 0 < 256) → getD f 7 0 ≡ 6
+    → (i : ProxyId) (n p w : ℕ) → outcome (afterCalls v xs) (request c t f o) .says ≡ answer.Issued i n p w
+    → (ys : List Call) (t′ : ℕ) (o′ l : List ℕ) → (let g = take n (outcome (afterCalls v xs) (request c t f o) .written) in refusal (afterCalls v ys) (reply t′ g o′ l) ≡ 0
+    → (client due : ℕ) → Outstanding (toldBy v ys) (i .0) (asking f) client due
+    → (k : ℕ) × (outcome (afterCalls v ys) (reply t′ g o′ l) .says ≡ answer.Answered i n k 0 0)
+    × (laid (idOf f) (take n (outcome (afterCalls v ys) (reply t′ g o′ l) .written)) ≡ f))
+an-echo-comes-back v right xs c t f o bytes six i n p w e ys t′ o′ l h client due out =
+    let m = afterCalls v xs in
+    let x = an-issue-is-this v xs c t f o i n p w e in
+    let says : answer.Issued i n p w ≡ answer.Issued (record { 0 = x .id }) (length f) (x .partial) (x .value) = sym e ∙ x .says in
+    let size : n ≡ length f = cc in
+    let own : i ≡ record { 0 = x .id } = cc in
+    let carries : Carries (asking f .asked) 10 (256 * getD f 8 0 + getD f 9 0) 1 = rw (asking-says c f .writes-one six) single in
+    let long : 12 ≤ length f = omega (arith, x .rewritten 10 _ 1 carries .inside) in
+    let g = take n (outcome m (request c t f o) .written) in
+    let a = reply-answers (afterCalls v ys) t′ g o′ l (good v ys) h in
+    let held = which-ids-are-live v ys (i .0) (asking f) client due .1 out in
+    let named : a .entry .id ≡ i .0 = a .same ∙ sent-id m c t f o (good v xs) x n (omega arith) ∙ ap (λ (j : ProxyId). j .0) (sym own) in
+    let place : a .place ≡ held .0 = live-ids-differ v ys (a .place) (held .0) (a .entry) (held .1) (a .there) (held .2) (named ∙ sym (held .3)) in
+    let same : a .entry ≡ held .1 = same-entry (sym (a .there) ∙ ap (λ (k : ℕ). at (afterCalls v ys .book) k) place ∙ held .2) in
+    let r = echo-comes-back (v .tags) (valid-ascends v right) m (ap (λ (y : Value). y .tags) (same-settings v xs)) c t f o bytes long six x (afterCalls v ys) (ap (λ (y : Value). y .tags) (same-settings v ys)) t′ g o′ l
+    (ap (λ (k : ℕ). take k (outcome m (request c t f o) .written)) size) a (ap (λ (y : Live What Note). y .what) same ∙ held .4) in (
+      length (a .entry .parties),
+      r .0 ∙ ap (λ (j : ProxyId). answer.Answered j (length f) (length (a .entry .parties)) 0 0) (ap (λ (k : ℕ). record { 0 = k }) named) ∙ ap (λ (k : ℕ). answer.Answered i k (length (a .entry .parties)) 0 0) (sym size),
+      own-frame f o′ _ n bytes (omega arith) size (r .1),
+    )
 
 -- a leaving and a lost link tell just that
 leaving-told : (v : Value) (m : Machine) (c : ℕ) (ys : List Call) → refusal m (detach c) ≡ 0

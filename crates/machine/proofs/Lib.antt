@@ -10,6 +10,7 @@ pub mod Follows
 pub mod PartyLaws
 pub mod AnswerLaws
 pub mod ReadBack
+pub mod EchoBack
 pub mod Histories
 pub mod StateLaws
 pub mod TickLaws

@@ -6,8 +6,8 @@ ghost use mathlib.Core.Bool.{false};
 ghost use Prim.Native.Nat.{ℕ};
 ghost use Rattle.pdu.specs.Replies.{what, excepts};
 ghost use Rattle.rewrite.specs.Rewriting.{outcome};
-ghost use Rattle.rewrite.specs.Frames.{forwarded, returned, under};
-ghost use Rattle.rewrite.specs.Lent.{tagsOf, TagWords, Sent, Brought, Framed};
+ghost use Rattle.rewrite.specs.Frames.{singleBase, forwarded, returnedBy, returned, under};
+ghost use Rattle.rewrite.specs.Lent.{tagsOf, TagWords, Run, Sent, Brought, Framed};
 use pdu::Asked;
 use pdu::ProxyId;
 use pdu::Table;
@@ -65,6 +65,24 @@ fn send(frame: &mut [u8], asked: Asked, tags: &[u64; laws::MOST_TAGS], tagged: u
     }
 }
 
+// The echo of a request 06 that wrote the value to the address: to binary where the request was re-encoded, else as it came.
+fn bring_echo(
+    frame: &mut [u8],
+    address: u16,
+    value: u16,
+    tags: &[u64; laws::MOST_TAGS],
+    tagged: usize,
+) -> Raw
+    requires { ⌜ Run singleBase address 1 (now frame) ⌝ }
+    requires { ⌜ TagWords tagged (now tags) ⌝ }
+    ensures { λ r. ⌜ outcome (r .partial) (r .value) (now (frame .exit)) ≡ returnedBy (tagsOf tagged (now (tags .entry))) (Asked.SingleWrite Table.Registers address value) (now (frame .entry)) ⌝ }
+{
+    if registers::is_reencoded(tags, tagged, address, value) {
+        return registers::rewrite(frame, SINGLE_BASE, address, 1, Way::ToBinary, tags, tagged);
+    }
+    rewrite::NOT_RAW
+}
+
 // A reply's registers to binary, in its own frame; an exception has none.
 fn bring(
     frame: &mut [u8],
@@ -102,12 +120,10 @@ fn bring(
         Asked::SingleWrite {
             table,
             address,
-            value: _,
+            value,
         } => match table {
             Table::Bits => rewrite::NOT_RAW,
-            Table::Registers => {
-                registers::rewrite(frame, SINGLE_BASE, address, 1, Way::ToBinary, tags, tagged)
-            }
+            Table::Registers => bring_echo(frame, address, value, tags, tagged),
         },
         Asked::MultipleWrite {
             table: _,

@@ -10,6 +10,7 @@ ghost use Rattle.bcd.specs.Words.{wordsOf, numberOf};
 ghost use Rattle.settings.specs.TagWords.{tagOf};
 ghost use Rattle.rewrite.specs.Registers.{registersAt, laidAt};
 ghost use Rattle.rewrite.specs.Rewriting.{turned, outcome, rewriting};
+ghost use Rattle.rewrite.specs.Frames.{reencoded};
 ghost use Rattle.rewrite.specs.Lent.{tagsOf, TagWords, Run, reaches, numberIn};
 use bcd::Decoded;
 use bcd::Encoded;
@@ -58,6 +59,26 @@ fn register_at(d: &[u8], k: usize) -> u32
     ensures { λ r. ⌜ (r ≡ pairAt (now (d .entry)) k) × (r < 65536) ⌝ }
 {
     (laws::wide(d[k]) * 256 + laws::wide(d[k + 1])) as u32
+}
+
+// Whether a request 06 that writes the value to the address is re-encoded: its register is a whole tag, whose range has the value.
+pub fn is_reencoded(tags: &[u64; laws::MOST_TAGS], tagged: usize, address: u16, value: u16) -> bool
+    requires { ⌜ TagWords tagged (now tags) ⌝ }
+    ensures { λ r. ⌜ r ≡ reencoded (tagsOf tagged (now (tags .entry))) address value ⌝ }
+{
+    let at = address as usize;
+    let i = first_tag(tags, tagged, at);
+    if tagged <= i {
+        return false;
+    }
+    let word = tags[i];
+    if (tag_address(word) as usize != at) | (rewrite::last_of(word) != at) {
+        return false;
+    }
+    match bcd::encode(tag_kind(word), value as u32) {
+        Encoded::Bcd(_) => true,
+        Encoded::OutOfRange => false,
+    }
 }
 
 // The number that a tag's registers from byte k on are.

@@ -23,7 +23,7 @@ use Rattle.rewrite.specs.declared.Way.{Way}
 use Rattle.rewrite.specs.declared.Way.the-variants.{ToBinary}
 use Rattle.rewrite.specs.Registers.{registersAt}
 use Rattle.rewrite.specs.Rewriting.{rewritten, Rewritten, outcome, rewriting}
-use Rattle.rewrite.specs.Frames.{forwarded, returnedBy, returned, under}
+use Rattle.rewrite.specs.Frames.{forwarded, reencoded, returnedBy, returned, under}
 use Rattle.rewrite.specs.Plain.{OfBits}
 use Rattle.rewrite.specs.Plain.OfBits.{coils-read, discrete-read, coil-written, coils-written}
 use Rattle.rewrite.proofs.RegisterLaws.{length-laid, length-registers, laid-other}
@@ -98,14 +98,23 @@ module _ (tags : List Tag) (f : List ℕ) where
     pub returned-bits : (g : List ℕ) → OfBits (functionOf g) → w .asked ≡ askedOf g → returned tags w f ≡ outcome 0 0 f
     returned-bits g b e = unchanged (rw e (brought-by (functionOf g) g b))
 
-    -- A reply to a request 06 is rewritten to binary: the one register at byte 10, of the address asked.
-    pub returned-single : (a v : ℕ) → w .asked ≡ SingleWrite Registers a v → excepts (w .function) f ≡ false → returned tags w f ≡ rewriting ToBinary 10 a 1 tags f
+    -- A reply to a request 06 that was re-encoded is rewritten to binary: the one register at byte 10, of the address asked. To one that was not it passes unchanged.
+    pub returned-single : (a v : ℕ) → w .asked ≡ SingleWrite Registers a v → reencoded tags a v ≡ true → excepts (w .function) f ≡ false → returned tags w f ≡ rewriting ToBinary 10 a 1 tags f
     unfolding returnedBy
-    returned-single a v e x = returned-other x ∙ rw e
+    returned-single a v e r x = returned-other x ∙ rw (e, r)
+
+    pub returned-raw : (a v : ℕ) → w .asked ≡ SingleWrite Registers a v → reencoded tags a v ≡ false → returned tags w f ≡ outcome 0 0 f
+    unfolding returnedBy
+    returned-raw a v e r = unchanged (rw (e, r))
 
     returned-cases : (P : Rewritten → Type 0) → P (outcome 0 0 f) → P (returnedBy tags (w .asked) f) → P (returned tags w f)
     unfolding returned
     returned-cases P x y = ⊎-elim (λ e. rw e x) (λ e. rw e y) (true-or (excepts (w .function) f))
+
+  -- what holds of a frame that passes and of one whose register is rewritten holds of an echo
+  echo-cases : (P : Rewritten → Type 0) (a v : ℕ) → P (outcome 0 0 f) → P (rewriting ToBinary 10 a 1 tags f) → P (returnedBy tags (SingleWrite Registers a v) f)
+  unfolding returnedBy
+  echo-cases P a v x y = ⊎-elim (λ e. rw e y) (λ e. rw e x) (true-or (reencoded tags a v))
 
   -- A request's frame keeps its length.
   pub length-forwarded : (a : Asked) → length (forwarded tags a f .bytes) ≡ length f
@@ -122,7 +131,7 @@ module _ (tags : List Tag) (f : List ℕ) where
   front-returned-by (Read Bits s q) i h = refl
   front-returned-by (Read Registers s q) i h = rewriting-other _ _ s q tags f i (inl h)
   front-returned-by (SingleWrite Bits a v) i h = refl
-  front-returned-by (SingleWrite Registers a v) i h = rewriting-other _ _ a 1 tags f i (inl (omega arith))
+  front-returned-by (SingleWrite Registers a v) i h = echo-cases (λ r. getD (r .bytes) i 0 ≡ getD f i 0) a v refl (rewriting-other _ _ a 1 tags f i (inl (omega arith)))
   front-returned-by (MultipleWrite t s q) i h = refl
   front-returned-by Other i h = refl
 
@@ -131,7 +140,7 @@ module _ (tags : List Tag) (f : List ℕ) where
   length-returned-by (Read Bits s q) = refl
   length-returned-by (Read Registers s q) = length-rewriting _ _ s q tags f
   length-returned-by (SingleWrite Bits a v) = refl
-  length-returned-by (SingleWrite Registers a v) = length-rewriting _ _ a 1 tags f
+  length-returned-by (SingleWrite Registers a v) = echo-cases (λ r. length (r .bytes) ≡ length f) a v refl (length-rewriting _ _ a 1 tags f)
   length-returned-by (MultipleWrite t s q) = refl
   length-returned-by Other = refl
 
@@ -145,7 +154,8 @@ module _ (tags : List Tag) (f : List ℕ) where
   answers-returned-by u n (SingleWrite Bits a v) = refl
   answers-returned-by u n (SingleWrite Registers a v) =
       let stays = rewriting-other ToBinary 10 a 1 tags f in
-      rw (stays 6 (inl (omega arith)), stays 7 (inl (omega arith)), stays 8 (inl (omega arith)), stays 9 (inl (omega arith)), length-rewriting ToBinary 10 a 1 tags f)
+      echo-cases (λ r. answering (what u n (SingleWrite Registers a v)) (r .bytes) ≡ answering (what u n (SingleWrite Registers a v)) f) a v refl
+      (rw (stays 6 (inl (omega arith)), stays 7 (inl (omega arith)), stays 8 (inl (omega arith)), stays 9 (inl (omega arith)), length-rewriting ToBinary 10 a 1 tags f))
   answers-returned-by u n (MultipleWrite t s q) = refl
   answers-returned-by u n Other = refl
 

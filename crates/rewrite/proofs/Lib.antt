@@ -6,5 +6,8 @@ pub mod TagLaws
 pub mod TableLaws
 pub mod ReadBack
 pub mod FrameLaws
+pub mod ReencodedLaws
 pub mod SingleLaws
+pub mod EchoLaws
+pub mod LaidLaws
 pub mod RoomLaws

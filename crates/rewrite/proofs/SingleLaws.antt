@@ -1,20 +1,20 @@
 -- What becomes of the one register of a reply 06, by the tag at its address, in plain words.
 -- Assumes nothing.
 use Prim.Native.Nat.{ℕ, _+_, _*_, _-_, _/_, _%_, _≤_, _<_}
-use mathlib.Core.Path.{_≡_, refl, ap, _∙_}
+use mathlib.Core.Path.{_≡_, refl, ap, sym, _∙_}
 use mathlib.Core.Logic.{⊎-elim}
-use mathlib.Core.Bool.{false}
+use mathlib.Core.Bool.{true, false, true≢false}
 use mathlib.Core.List.{List, [], _∷_, List·Memᴰ, List·Memᴰ·not-nil, List·Memᴰ·cases-cons}
 use native.Mathlib.Omega.{arith}
 use lib.ListN.{length, getD, set}
 use borrow.Author.Tests.{lt-ltb}
 use Rattle.laws.specs.Bytes.{pairAt}
 use Rattle.laws.specs.Digits.{digits, value as valueOf, below}
-use Rattle.laws.proofs.Choice.{lt-or}
+use Rattle.laws.proofs.Choice.{true-or}
 use Rattle.laws.proofs.DigitLaws.{digits-value}
-use Rattle.bcd.specs.declared.Kind.the-variants.{Width16, Width32}
+use Rattle.bcd.specs.declared.Kind.the-variants.{Width16}
 use Rattle.bcd.specs.declared.Decoded.the-variants.{Binary}
-use Rattle.bcd.specs.Bcd.{unpacked, decimal, registers, decoded, nibble}
+use Rattle.bcd.specs.Bcd.{unpacked, decimal, registers, inRange, decoded, nibble}
 use Rattle.bcd.specs.Words.{wordsOf, numberOf}
 use Rattle.bcd.proofs.OutcomeLaws.{decoded-decimal}
 use Rattle.settings.specs.Grammar.{Tag}
@@ -27,14 +27,15 @@ use Rattle.rewrite.specs.declared.Way.the-variants.{ToBinary}
 use Rattle.rewrite.specs.Registers.{registersAt, laidAt}
 use Rattle.rewrite.specs.Rewriting.{turned, Verdict, ownIn, verdict, laidBy, outcome, rewriting}
 use Rattle.rewrite.specs.Rewriting.Verdict.{outside, partial, value, done}
-use Rattle.rewrite.specs.Frames.{returned}
+use Rattle.rewrite.specs.Frames.{reencoded, returned}
 use Rattle.rewrite.specs.Plain.{Has, InRun, Whole}
 use Rattle.rewrite.proofs.RegisterLaws.{laid-registers}
-use Rattle.rewrite.proofs.OrderLaws.{ascending-in}
+use Rattle.rewrite.proofs.OrderLaws.{ascending-in, one-owner}
 use Rattle.rewrite.proofs.VerdictLaws.{outside-exactly, partial-exactly, value-exactly, done-exactly, turned-decoded, raw-decoded}
 use Rattle.rewrite.proofs.TagLaws.{byVerdict, by-verdict}
 use Rattle.rewrite.proofs.TableLaws.{idle-before, idle-behind, idle-none}
-use Rattle.rewrite.proofs.FrameLaws.{returned-single}
+use Rattle.rewrite.proofs.FrameLaws.{returned-single, returned-raw}
+use Rattle.rewrite.proofs.ReencodedLaws.{reencoded-exactly}
 
 -- four nibbles of at most 9 are the number with those digits
 four-digits : (p q r s : ℕ) → p ≤ 9 → q ≤ 9 → r ≤ 9 → s ≤ 9 → decoded Width16 (4096 * p + 256 * q + 16 * r + s) ≡ Binary (1000 * p + 100 * q + 10 * r + s)
@@ -53,7 +54,7 @@ module _ (way : Way) (base a : ℕ) (f : List ℕ) where
   elsewhere u n = outside-exactly way a (registersAt base 1 f) u (omega arith) .1 (λ x h r. n (omega (arith, h .0, r .1), omega (arith, h .1, r .0)))
 
   -- of ascending tags only the one that has the address matters
-  alone : (from : ℕ) (tags : List Tag) (t : Tag) → Ascending from tags → List·Memᴰ t tags → Has t a → rewriting way base a 1 tags f ≡ rewriting way base a 1 (t ∷ []) f
+  pub alone : (from : ℕ) (tags : List Tag) (t : Tag) → Ascending from tags → List·Memᴰ t tags → Has t a → rewriting way base a 1 tags f ≡ rewriting way base a 1 (t ∷ []) f
   unfolding Ascending
   alone from [] t asc m h = absurd (List·Memᴰ·not-nil m)
   alone from (y ∷ ts) t asc m h =
@@ -63,39 +64,52 @@ module _ (way : Way) (base a : ℕ) (f : List ℕ) where
       idle-before way base a 1 f y ts (elsewhere y (λ g. omega (arith, ascending-in (lastOf y + 1) ts t (asc .2) n .0, g .1, h .0))) ∙ alone (lastOf y + 1) ts t (asc .2) n h)
       (List·Memᴰ·cases-cons m)
 
--- a reply f, of bytes, to a request 06 for the address a, that is no exception
-module _ (tags : List Tag) (asc : Ascending 0 tags) (f : List ℕ) (bytes : (k : ℕ) → getD f k 0 < 256) (w : What) (a written : ℕ) (asks : w .asked ≡ SingleWrite Registers a written) (plain : excepts (w .function) f ≡ false) where
+-- a reply f, of bytes, to a request 06 that wrote a value to the address a
+module _ (tags : List Tag) (asc : Ascending 0 tags) (f : List ℕ) (bytes : (k : ℕ) → getD f k 0 < 256) (w : What) (a written : ℕ) (asks : w .asked ≡ SingleWrite Registers a written) where
+  -- what the request would have needed to be re-encoded is not so: the reply passes unchanged, and none is counted
+  untouched : ((t : Tag) → List·Memᴰ t tags → t .address ≡ a → registers (kindOf t) ≡ 1 → inRange (kindOf t) written ≡ true → ⊥) → returned tags w f ≡ outcome 0 0 f
+  untouched n =
+      returned-raw tags f w a written asks
+      (⊎-elim (λ e. absurd (let r = reencoded-exactly tags a written .0 e in n (r .0) (r .1) (r .2) (r .3) (r .4))) (λ e. e) (true-or (reencoded tags a written)))
+
   -- Where no tag has the address the reply passes unchanged, and none is counted.
   pub single-untagged : ((t : Tag) → List·Memᴰ t tags → Has t a → ⊥) → returned tags w f ≡ outcome 0 0 f
-  single-untagged n =
-      returned-single tags f w a written asks plain ∙ idle-behind ToBinary 10 a 1 f [] tags (λ u m. elsewhere ToBinary 10 a f u (n u m)) ∙ idle-none ToBinary 10 a 1 f bytes
+  single-untagged n = untouched (λ t m e one r. n t m (omega arith, omega arith))
 
   module _ (t : Tag) (m : List·Memᴰ t tags) (h : Has t a) where
-    judged-by : (v : Verdict) → verdict ToBinary a (registersAt 10 1 f) t ≡ v → returned tags w f ≡ byVerdict ToBinary 10 a 1 t f v
-    judged-by v e = returned-single tags f w a written asks plain ∙ alone ToBinary 10 a f 0 tags t asc m h ∙ by-verdict ToBinary 10 a 1 t f v e
+    -- Under a tag of two registers the same.
+    pub single-wide : registers (kindOf t) ≡ 2 → returned tags w f ≡ outcome 0 0 f
+    single-wide two =
+        untouched (λ u n e one r.
+        let same : t ≡ u = one-owner 0 tags t u a asc m n h (omega arith, omega arith) in
+        let other : registers (kindOf t) ≡ 1 = rw same one in
+        omega arith)
 
-    -- Under a tag of width 32 it passes unchanged, and the tag is counted as raw for partial cover.
-    pub single-wide : t .width ≡ 32 → returned tags w f ≡ outcome 1 0 f
-    unfolding kindOf registers registersAt laidBy
-    single-wide e =
-        let k : kindOf t ≡ Width32 = rw e in
-        let n : lastOf t ≡ t .address + 1 = rw k (omega arith) in
-        let other : (x : ℕ) × Has t x × (InRun a 1 x → ⊥) =
-        ⊎-elim
-        (λ (z : t .address < a). (t .address, (omega arith, omega arith), λ i. omega (arith, i .0)))
-        (λ (z : a ≤ t .address). (lastOf t, (omega arith, omega arith), λ i. omega (arith, i .1)))
-        (lt-or (t .address) a) in
-        judged-by partial (partial-exactly ToBinary a (registersAt 10 1 f) t (omega arith) .1 ((a, h, (omega arith, omega arith)), other))
-        ∙ ap (outcome 1 0) (laid-registers 10 1 f bytes)
+    -- And under one of one register, where the value that the client wrote was outside its range.
+    pub single-unencoded : inRange (kindOf t) written ≡ false → returned tags w f ≡ outcome 0 0 f
+    single-unencoded out =
+        untouched (λ u n e one r.
+        let same : t ≡ u = one-owner 0 tags t u a asc m n h (omega arith, omega arith) in
+        true≢false (sym r ∙ rw same at out))
 
-    module _ (e : t .width ≡ 16) where
+    module _ (e : t .width ≡ 16) (range : inRange (kindOf t) written ≡ true) (plain : excepts (w .function) f ≡ false) where
       narrow : kindOf t ≡ Width16
       unfolding kindOf
       narrow = rw e
 
+      single : registers (kindOf t) ≡ 1
+      unfolding registers
+      single = rw narrow
+
       here : (t .address ≡ a) × Whole a (length (registersAt 10 1 f)) t
-      unfolding registers registersAt
-      here = let n : lastOf t ≡ t .address = rw narrow (omega arith) in (omega (arith, h .0, h .1), (omega (arith, h .1), omega (arith, h .0)))
+      unfolding registersAt
+      here = let one = single in (omega (arith, h .0, h .1), (omega (arith, h .1), omega (arith, h .0)))
+
+      -- the request was re-encoded, so that the tag's verdict over the reply decides
+      judged-by : (v : Verdict) → verdict ToBinary a (registersAt 10 1 f) t ≡ v → returned tags w f ≡ byVerdict ToBinary 10 a 1 t f v
+      judged-by v q =
+          returned-single tags f w a written asks (reencoded-exactly tags a written .1 (t, m, here .0, single, range)) plain ∙ alone ToBinary 10 a f 0 tags t asc m h
+          ∙ by-verdict ToBinary 10 a 1 t f v q
 
       -- the tag's number is the word
       number : turned ToBinary (kindOf t) (numberOf (ownIn a (registersAt 10 1 f) t)) ≡ turned ToBinary Width16 (pairAt f 10)

@@ -24,7 +24,7 @@ use Rattle.rewrite.specs.Registers.{registersAt}
 use Rattle.rewrite.specs.Rewriting.{Verdict, isRawPartial, isRawValue, verdict, laidBy, rewrittenFrom, rewritten, partials, values, Rewritten, outcome, rewriting}
 use Rattle.rewrite.specs.Rewriting.Verdict.{outside}
 use Rattle.rewrite.specs.Lent.{tagsOf, TagWords, reaches}
-use Rattle.laws.proofs.MemberLaws.{mem-place}
+use Rattle.laws.proofs.MemberLaws.{mem-place, place-mem}
 use Rattle.rewrite.proofs.RegisterLaws.{length-registers, registers-below, registers-laid, laid-registers, laid-laid}
 use Rattle.rewrite.proofs.OrderLaws.{first-last, ascending-front, ascending-across, ascending-at}
 use Rattle.rewrite.proofs.VerdictLaws.{verdict-outside, verdict-own}
@@ -147,7 +147,7 @@ tags-split words i m = rw (take-add i m words) (map-append tagOf (take i words) 
 tag-at : (words : List ℕ) (n i : ℕ) → i < n → getD (tagsOf n words) i (tagOf 0) ≡ tagOf (getD words i 0)
 tag-at words n i h = List·getD-map tagOf (take n words) i 0 ∙ ap tagOf (getD-take n words i 0 h)
 
-tag-place : (words : List ℕ) (i m : ℕ) (t : Tag) → List·Memᴰ t (map tagOf (take m (drop i words))) → (k : ℕ) × (k < m) × (t ≡ tagOf (getD words (i + k) 0))
+pub tag-place : (words : List ℕ) (i m : ℕ) (t : Tag) → List·Memᴰ t (map tagOf (take m (drop i words))) → (k : ℕ) × (k < m) × (t ≡ tagOf (getD words (i + k) 0))
 tag-place words i m t e =
     let s = mem-place t (tagOf 0) (map tagOf (take m (drop i words))) e in
     let k = s .0 in
@@ -159,10 +159,14 @@ module _ (n : ℕ) (words : List ℕ) (w : TagWords n words) where
   length-tags i h = length-map (take i words) tagOf ∙ length-take-le i words (omega (arith, w .places, w .few))
 
   -- a tag ends before every tag at a later place
-  tag-order : (i j : ℕ) → i < j → j < n → lastOf (tagOf (getD words i 0)) < tagOf (getD words j 0) .address
+  pub tag-order : (i j : ℕ) → i < j → j < n → lastOf (tagOf (getD words i 0)) < tagOf (getD words j 0) .address
   tag-order i j h l =
       let o = ascending-at 0 (tagsOf n words) (tagOf 0) i j (w .ascending) h (omega (arith, length-tags n (omega arith))) in
       rw (tag-at words n i (omega arith), tag-at words n j l) at o
+
+  -- the tag at a place is one of the tags
+  pub tag-in : (i : ℕ) → i < n → List·Memᴰ (tagOf (getD words i 0)) (tagsOf n words)
+  tag-in i h = rw (tag-at words n i h) at (place-mem (tagsOf n words) i (tagOf 0) (omega (arith, length-tags n (omega arith))))
 
   -- a search for the first tag that reaches start: what lies below a tag that does not reach it, does not
   pub search-low : (start m : ℕ) → m < n → lastOf (tagOf (getD words m 0)) < start → (k : ℕ) → k < m + 1 → reaches words start k ≡ false

@@ -1,8 +1,8 @@
--- Which registers of a frame are rewritten: those of requests 06 and 16 to BCD, those of replies 03, 04 and 06 to binary; all else passes unchanged, coils and discrete inputs too.
+-- Which registers of a frame are rewritten: those of requests 06 and 16 to BCD, those of replies 03 and 04, and of 06 where its request was re-encoded, to binary; all else passes unchanged, coils and discrete inputs too.
 -- Assumes nothing.
 use Prim.Native.Nat.{ℕ}
-use mathlib.Core.Bool.{cond}
-use mathlib.Core.List.{List}
+use mathlib.Core.Bool.{Bool, false, cond, _||_}
+use mathlib.Core.List.{List, [], _∷_}
 use Rattle.laws.specs.Bytes.{over}
 use Rattle.wire.specs.Frame.{laid}
 use Rattle.settings.specs.Grammar.{Tag}
@@ -11,7 +11,7 @@ use Rattle.pdu.specs.declared.Table.the-variants.{Bits, Registers}
 use Rattle.pdu.specs.declared.Asked.{Asked}
 use Rattle.pdu.specs.declared.Asked.the-variants.{Read, SingleWrite, MultipleWrite, Other}
 use Rattle.rewrite.specs.declared.Way.the-variants.{ToBcd, ToBinary}
-use Rattle.rewrite.specs.Rewriting.{Rewritten, outcome, rewriting}
+use Rattle.rewrite.specs.Rewriting.{verdict, isRewritten, Rewritten, outcome, rewriting}
 
 -- the bytes at which registers begin: behind the byte count of reply 03 and 04, behind the address of 06, behind the byte count of request 16
 abbrev pub readBase : ℕ
@@ -31,11 +31,17 @@ forwarded tags (MultipleWrite Bits s q) f = outcome 0 0 f
 forwarded tags (MultipleWrite Registers s q) f = rewriting ToBcd multipleBase s q tags f
 forwarded tags Other f = outcome 0 0 f
 
+-- the request 06 that wrote the value v to the address a was re-encoded: a tag's verdict over that one register is that it is rewritten
+unfoldable pub reencoded : List Tag → (address value : ℕ) → Bool
+reencoded [] a v = false
+reencoded (t ∷ ts) a v = isRewritten (verdict ToBcd a (v ∷ []) t) || reencoded ts a v
+
+-- the echo of 06 is decoded where the request was re-encoded, and passes unchanged where it was not
 unfoldable pub returnedBy : List Tag → Asked → List ℕ → Rewritten
 returnedBy tags (Read Bits s q) f = outcome 0 0 f
 returnedBy tags (Read Registers s q) f = rewriting ToBinary readBase s q tags f
 returnedBy tags (SingleWrite Bits a v) f = outcome 0 0 f
-returnedBy tags (SingleWrite Registers a v) f = rewriting ToBinary singleBase a 1 tags f
+returnedBy tags (SingleWrite Registers a v) f = cond (reencoded tags a v) (rewriting ToBinary singleBase a 1 tags f) (outcome 0 0 f)
 returnedBy tags (MultipleWrite t s q) f = outcome 0 0 f
 returnedBy tags Other f = outcome 0 0 f
 

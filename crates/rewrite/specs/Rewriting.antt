@@ -76,6 +76,13 @@ isRawValue partial = false
 isRawValue value = true
 isRawValue (done ws) = false
 
+-- and a tag that is rewritten
+abbrev pub isRewritten : Verdict → Bool
+isRewritten outside = false
+isRewritten partial = false
+isRewritten value = false
+isRewritten (done ws) = true
+
 unfoldable pub partials : Way → ℕ → List Tag → List ℕ → ℕ
 partials way start tags rs = length (filter (λ t. isRawPartial (verdict way start rs t)) tags)
 

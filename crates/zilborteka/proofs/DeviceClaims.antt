@@ -7,10 +7,11 @@ use mathlib.Core.Bool.{true, false}
 use mathlib.Core.Option.{some, Option·getD}
 use mathlib.Core.List.{List, [], _∷_, _++_, map-append, append-assoc, List·Memᴰ}
 use native.Mathlib.Omega.{arith}
-use lib.ListN.{length, getD}
+use lib.ListN.{length, getD, take}
 use Rattle.laws.specs.Numbers.{ids, places, distance, latestTime, exceptionFrame}
 use Rattle.laws.specs.Lists.{lastGiven, lastOf}
 use Rattle.laws.specs.Bits.{has}
+use Rattle.wire.specs.Frame.{idOf, laid}
 use Rattle.bcd.specs.Bcd.{inRange}
 use Rattle.bcd.specs.Words.{numberOf}
 use Rattle.settings.specs.declared.Settings.{Settings}
@@ -364,3 +365,23 @@ module _ (from : Settings) {r r′ : Report} {d d′ e e′ : Device} (ls ks : L
       (claim.a-value-comes-back (inForce from) (adopted-valid (valueOf from)) tag mem (callsOf ls) c t f o bytes _ _ _ _ (rw (lived from ls fresh life .after) at (report-tells (request c t f o) called .issued issue))
       base s q carries whole range ys t′ g o′ l bytes′ (claim.a-reply-goes-to-its-own (inForce from) ys t′ g o′ l h .0) (rw same plain) s′ q′ (ap (λ (y : What). y .asked) same ∙ reads) whole′
       (rw (sees from ls fresh life (request c t f o) called) at stored))
+
+  -- Demand 2's addition (#106), of such lives: a controller that echoes the frame of a 06 gives the client back the very frame that it wrote. While what the request asked is
+  -- outstanding under its id, the reply that is the frame which was sent is handed on as the client's own frame, once its id is laid over it, and both counts are 0.
+  pub an-echo-comes-back : (c t : ℕ) (f o : List ℕ) → ((k : ℕ) → getD f k 0 < 256) → getD f 7 0 ≡ 6 → {saw : Seen} {d″ : Device} → Called d′ (request c t f o) saw d″ → saw .report .outcome ≡ isIssued
+      → (t′ : ℕ) (o′ l : List ℕ) {saw′ : Seen} {e″ : Device} → Called e′ (reply t′ (take (saw .report .length) (saw .frame)) o′ l) saw′ e″ → saw′ .report .refusal ≡ 0
+      → (client due : ℕ) → Outstanding (toldIn (inForce from) ks) (saw .report .id) (asking f) client due
+      → (saw′ .report .partial ≡ 0) × (saw′ .report .value ≡ 0) × (laid (idOf f) (take (saw′ .report .length) (saw′ .frame)) ≡ f)
+  unfolding numbers
+  an-echo-comes-back c t f o bytes six {saw} called issue t′ o′ l called′ z client due out =
+      let g = take (saw .report .length) (saw .frame) in
+      let x = reply t′ g o′ l in
+      let frame = ap (λ (y : Seen). y .frame) (sees from ls fresh life (request c t f o) called) in
+      let shown = sees from ks fresh′ life′ x called′ ∙ ap (λ (y : List ℕ). seenOf (outcome (afterCalls (inForce from) (callsOf ks)) (reply t′ (take (saw .report .length) y) o′ l))) frame in
+      let r = claim.an-echo-comes-back (inForce from) (adopted-valid (valueOf from)) (callsOf ls) c t f o bytes six _ _ _ _ (rw (lived from ls fresh life .after) at (report-tells (request c t f o) called .issued issue))
+      (callsOf ks) t′ o′ l (rw (← frame) (passes from ks fresh′ life′ x called′ z)) client due (rw (lived from ks fresh′ life′ .told) at out) in
+      let told : (q : Report → ℕ) → _ = λ q. ap (λ (y : Seen). q (y .report)) shown ∙ ap (λ (y : Answer). q (numbers y)) (r .1) in (
+        told (λ y. y .partial),
+        told (λ y. y .value),
+        rw (told (λ y. y .length), ap (λ (y : Seen). y .frame) shown) (r .2),
+      )

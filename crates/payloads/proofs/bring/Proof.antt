@@ -34,8 +34,8 @@ rewrite-requires c κs =
     let p = left .before .before .before .before .pre in
     (rw (asked .asked .given .1, table .enum-told2 .given .1) at (p .0 (plain left)), p .1)
 
-rewrite-requires-2 : tie.Need-rewrite-requires-2
-rewrite-requires-2 c κs =
+bring-echo-requires : tie.Need-bring-echo-requires
+bring-echo-requires c κs =
     let table = c .before in
     let asked = table .before .before .before in
     let left = asked .before .before in
@@ -63,12 +63,11 @@ returns-4 c unit =
     rw (by-asked (asked .before .before) unit, asked .asked2 .given .1, c .enum-told3 .given .1)
 
 returns-5 : tie.Need-returns-5
-unfolding returnedBy
 returns-5 c unit =
     let run = c .before .before in
     let table = run .before .before in
     let asked = table .before .before .before in
-    rw (by-asked (asked .before .before) unit, asked .asked2 .given .1, table .enum-told4 .given .1) (run .rewrite2 .ensures)
+    rw (by-asked (asked .before .before) unit, asked .asked2 .given .1, table .enum-told4 .given .1) (run .bring-echo .ensures)
 
 returns-6 : tie.Need-returns-6
 unfolding returnedBy
@@ -82,6 +81,6 @@ pub bring-spec : {M : Type 1} → statement M
 bring-spec =
     tie.close
     (tie.spec (λ c κs. search needs) (λ c. search needs) returns (λ c. search needs) (λ c. search needs) (λ c. search needs) rewrite-requires
-    (λ c. search needs) (λ c. search needs) (λ c. search needs) rewrite-requires-2 (λ c. search needs) (λ c. search needs) (λ c. search needs) returns-2
+    (λ c. search needs) (λ c. search needs) (λ c. search needs) bring-echo-requires (λ c. search needs) (λ c. search needs) (λ c. search needs) returns-2
     (λ c. search needs) returns-3 (λ c. search needs) returns-4 (λ c. search needs) returns-5 (λ c. search needs) returns-6 (λ c. search needs)
     returns-7)
