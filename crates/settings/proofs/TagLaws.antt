@@ -21,7 +21,7 @@ use Rattle.bcd.specs.declared.Kind.the-variants.{Width16, Width32}
 use Rattle.bcd.specs.Bcd.{registers}
 use Rattle.settings.specs.declared.Settings.{Settings}
 use Rattle.settings.specs.Grammar.{Tag, Value, newest, tagNumbers, lastRegister, ascends, rightTimeout, rightJoin, rightTags, rightWidth, allRight, tagsRight, valid}
-use Rattle.settings.specs.Values.{valueOf, padded, settingsOf}
+use Rattle.settings.specs.Values.{settings, valueOf, padded, settingsOf}
 use Rattle.settings.specs.TagWords.{kindOf, widthOf, kindNumber, kindFrom, wordOf, tagOf, lastOf, Ascending}
 use Rattle.settings.proofs.ValueLaws.{tagAt, tag-ext, fromOf, tag-right, valid-parts, valid-few}
 
@@ -213,9 +213,9 @@ pub record Worded (s : Settings) (words : List ℕ) (k : ℕ) : Type 0 where
   pub few : s .tags ≤ mostTags
   pub filled : words ≡ padded (map wordOf (tab k (tagAt s)))
 
-pub worded-none : (s : Settings) → valid (valueOf s) ≡ true → Worded s (replicate mostTags 0) 0
+pub worded-none : (s : Settings) → s .tags ≤ mostTags → Worded s (replicate mostTags 0) 0
 unfolding tab
-worded-none s h = record { within = omega arith; few = valid-few s h; filled = refl }
+worded-none s h = record { within = omega arith; few = h; filled = refl }
 
 pub worded-more : {s : Settings} {words : List ℕ} {k v : ℕ} → k < s .tags → Worded s words k → v ≡ wordOf (tagAt s k) → Worded s (set words k v) (k + 1)
 worded-more {s} {k = k} {v = v} h w e =
@@ -262,9 +262,6 @@ taken-more {words} {k = k} {a = a} {w = w} h t p q =
 
     more : tagsOf words (k + 1) ≡ tagsOf words k ++ (tagOf (getD words k 0) ∷ [])
     more = rw (add-one k, take-suc words k 0 (omega (arith, t .few, t .long))) (map-append tagOf (take k words) (getD words k 0 ∷ []))
-
-abbrev pub settings : ℕ → ℕ → ℕ → List ℕ → List ℕ → Settings
-settings timeout join tags addr width = record { timeout = timeout; join = join; tags = tags; addr = addr; width = width }
 
 pub taken-all : (timeout join : ℕ) {words : List ℕ} {tagged : ℕ} {addr width : List ℕ} {k : ℕ} → tagged ≤ k → Taken words tagged addr width k
     → settings timeout join tagged addr width ≡ settingsOf (record { timeout = timeout; join = join; tags = tagsOf words tagged })
