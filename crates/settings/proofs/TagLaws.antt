@@ -225,8 +225,7 @@ worded-more {s} {k = k} {v = v} h w e =
       filled = rw (w .filled, tab-more k (tagAt s)) (filled-more wordOf (tab k (tagAt s)) (tagAt s k) k v (length-tab k (tagAt s)) (omega (arith, w .few)) e);
     }
 
-pub worded-all : {s : Settings} {words : List ℕ} {k : ℕ} → s .tags ≤ k → Worded s words k → words ≡ padded (map wordOf (valueOf s .tags))
-unfolding valueOf
+pub worded-all : {s : Settings} {words : List ℕ} {k : ℕ} → s .tags ≤ k → Worded s words k → words ≡ padded (map wordOf (tab (s .tags) (tagAt s)))
 worded-all {s} {k = k} h w = let e : k ≡ s .tags = omega (arith, w .within) in w .filled ∙ rw e
 
 -- the tags of the first k words

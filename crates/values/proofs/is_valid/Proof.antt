@@ -18,26 +18,23 @@ abbrev μ-loop : tie.MeasureT-loop
 μ-loop timeout join tags addr width right₀ from₀ k₀ right from k = tags - k
 
 returns : tie.Need-returns Inv-loop μ-loop
-returns c = let a = c .before .before .args in refused (settings (a .timeout) (a .join) (a .tags) (now (a .addr)) (now (a .width))) (c .before .head-right .ensures) (not-true _ (c .if1 .taken))
+returns c = refused _ (c .before .head-right .ensures) (not-true _ (c .if1 .taken))
 
 loop-holds : tie.Need-loop-holds Inv-loop μ-loop
 loop-holds c =
     let a = c .before .before .args in
-    let s = settings (a .timeout) (a .join) (a .tags) (now (a .addr)) (now (a .width)) in
-    (search needs, few s (c .before .head-right .ensures) (not-false _ (c .if1 .left)), checked-none (tagAt s))
+    (search needs, few (settings (a .timeout) (a .join) (a .tags) (now (a .addr)) (now (a .width))) (c .before .head-right .ensures) (not-false _ (c .if1 .left)), checked-none _)
 
 loop-again : tie.Need-loop-again Inv-loop μ-loop
 loop-again c =
     let b = c .before .before .before in
     let l = b .before .before .before .before .loop in
-    let a = b .before .before .before .before .before .before .before .args in
-    (search needs, search needs, checked-more (tagAt (settings (a .timeout) (a .join) (a .tags) (now (a .addr)) (now (a .width)))) (c .above .ensures .1) (l .inv .2) (b .tag-right .ensures) (c .above .ensures .0))
+    (search needs, search needs, checked-more _ (c .above .ensures .1) (l .inv .2) (b .tag-right .ensures) (c .above .ensures .0))
 
 returns-2 : tie.Need-returns-2 Inv-loop μ-loop
 returns-2 c =
     let head = c .before .before in
-    let a = head .before .before .args in
-    checked-all (settings (a .timeout) (a .join) (a .tags) (now (a .addr)) (now (a .width))) (head .before .head-right .ensures) (not-false _ (head .if1 .left)) (omega arith) (c .before .loop .inv .2)
+    checked-all _ (head .before .head-right .ensures) (not-false _ (head .if1 .left)) (omega arith) (c .before .loop .inv .2)
 
 pub is-valid-spec : {M : Type 1} → statement M
 is-valid-spec =

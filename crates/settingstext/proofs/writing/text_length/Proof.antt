@@ -2,7 +2,6 @@
 -- Assumes nothing.
 use Prim.Native.Nat.{_-_}
 use native.Mathlib.Omega.{arith}
-use denote.Ref.{now}
 use Rattle.settings.specs.Values.{settings}
 use Rattle.settingstext.proofs.WritingLaws.{Measured, measured-none, measured-more, measured-all}
 use borrow.Author.Needs.{needs}
@@ -16,7 +15,7 @@ abbrev μ-loop : tie.MeasureT-loop
 μ-loop timeout join tags addr width size₀ k₀ size k = tags - k
 
 loop-holds : tie.Need-loop-holds Inv-loop μ-loop
-loop-holds c = let a = c .before .args in measured-none (settings (a .timeout) (a .join) (a .tags) (now (a .addr)) (now (a .width))) _ (c .head-length .ensures)
+loop-holds c = measured-none _ _ (c .head-length .ensures)
 
 add-size : tie.Need-add-size Inv-loop μ-loop
 add-size c = let m = measured-more (omega arith) (c .before .before .before .before .loop .inv) (c .tag-length .ensures) in omega (arith, m .most)

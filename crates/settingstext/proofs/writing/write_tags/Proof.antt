@@ -2,9 +2,8 @@
 -- Assumes nothing.
 use Prim.Native.Nat.{_≤_, _-_}
 use native.Mathlib.Omega.{arith}
-use denote.Ref.{now}
 use Rattle.laws.specs.Numbers.{mostTags}
-use Rattle.settings.specs.Values.{settings, valueOf}
+use Rattle.settings.specs.Values.{settings}
 use Rattle.settingstext.proofs.WritingLaws.{Written, written-none, written-more, written-all, tag-room}
 use borrow.Author.Needs.{needs}
 use Rattle.settingstext.proofs.writing.write_tags.Statement.{statement}
@@ -17,8 +16,7 @@ abbrev μ-loop : tie.MeasureT-loop
 μ-loop tags addr width at text₀ next₀ k₀ text next k = tags - k
 
 loop-holds : tie.Need-loop-holds Inv-loop μ-loop
-unfolding valueOf
-loop-holds c = let a = c .before .args in (search needs, written-none (settings 0 0 (a .tags) (now (a .addr)) (now (a .width))) (a .at) (now (a .text)) (c .before .pre .1))
+loop-holds c = (search needs, written-none _ _ _ (c .before .pre .1))
 
 write-tag-requires : tie.Need-write-tag-requires Inv-loop μ-loop
 write-tag-requires c κs = tag-room (omega arith) (c .before .before .before .before .loop .inv .1)
@@ -30,7 +28,6 @@ same-length : tie.Need-same-length Inv-loop μ-loop
 same-length c = c .before .loop .inv .1 .long
 
 returns : tie.Need-returns Inv-loop μ-loop
-unfolding valueOf
 returns c = written-all (omega arith) (c .before .loop .inv .1)
 
 pub write-tags-spec : {M : Type 1} → statement M

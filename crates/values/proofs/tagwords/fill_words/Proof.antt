@@ -2,8 +2,7 @@
 -- Assumes nothing.
 use Prim.Native.Nat.{_-_}
 use native.Mathlib.Omega.{arith}
-use denote.Ref.{now}
-use Rattle.settings.specs.Values.{settings, valueOf}
+use Rattle.settings.specs.Values.{settings}
 use Rattle.settings.proofs.TagLaws.{Worded, worded-none, worded-more, worded-all}
 use borrow.Author.Needs.{needs}
 use Rattle.values.proofs.tagwords.fill_words.Statement.{statement}
@@ -16,13 +15,12 @@ abbrev μ-loop : tie.MeasureT-loop
 μ-loop tags addr width words₀ k₀ words k = tags - k
 
 loop-holds : tie.Need-loop-holds Inv-loop μ-loop
-loop-holds c = let a = c .before .args in worded-none (settings 0 0 (a .tags) (now (a .addr)) (now (a .width))) (c .before .pre)
+loop-holds c = worded-none _ (c .before .pre)
 
 loop-again : tie.Need-loop-again Inv-loop μ-loop
 loop-again c = worded-more (omega arith) (c .before .before .before .before .loop .inv) (c .tag-word .ensures)
 
 returns : tie.Need-returns Inv-loop μ-loop
-unfolding valueOf
 returns c = worded-all (omega arith) (c .before .loop .inv)
 
 pub fill-words-spec : {M : Type 1} → statement M
