@@ -7,3 +7,5 @@ pub mod EntryRequest
 pub mod EntryReply
 pub mod EntryTick
 pub mod EntryLinkLost
+pub mod SettingsFields
+pub mod EntryWrite
