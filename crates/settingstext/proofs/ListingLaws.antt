@@ -3,24 +3,27 @@
 use Prim.Native.Nat.{ℕ, suc, _+_, _*_, _-_, _/_, _≤_, _<_}
 use mathlib.Core.Path.{_≡_, refl, ap, sym, _∙_}
 use mathlib.Core.Logic.{⊎-elim}
-use mathlib.Core.Bool.{false}
+use mathlib.Core.Bool.{Bool, false}
 use mathlib.Core.List.{List, [], _∷_, _++_, map, map-append, append-nil}
 use native.Mathlib.Omega.{arith}
 use lib.ListN.{length, drop, set, length-map, length-append, length-drop}
 use lib.Seq.{drop-length}
 use lib.Dec.{eqb}
-use borrow.Author.Tests.{ne-eqb}
+use borrow.Author.Tests.{eq-eqb, ne-eqb}
 use Rattle.laws.specs.Numbers.{mostTags}
-use Rattle.settings.specs.Grammar.{Tag, Value, Read, newest, readLines, readTags, readBehind}
+use Rattle.settings.specs.Grammar.{Tag, Value, Read, newest, readLines, readTags, readBehind, readText}
 use Rattle.settings.specs.Grammar.Read.{got, wrong}
 use Rattle.settings.specs.Values.{padded, settingsOf}
 use Rattle.settingstext.specs.TextRead.{reported}
-use Rattle.settingstext.specs.Reading.{lowest, placedTag}
+use Rattle.settingstext.specs.Reading.{lowest, placedTag, Headed, wrongLine}
+use Rattle.settingstext.specs.declared.reading.Head.{Head}
 use Rattle.settings.specs.declared.Settings.{Settings}
 use Rattle.settingstext.specs.declared.reading.ReadText.{ReadText}
 use Rattle.settingstext.specs.declared.reading.TagRead.the-variants.{Tagged, WrongAt}
+use Rattle.laws.proofs.Choice.{eq-or}
 use Rattle.laws.proofs.ListLaws.{set-padded}
 use Rattle.settings.proofs.RowLaws.{onto, onto-onto, tag-wrong, tag-right}
+use Rattle.settings.proofs.GrammarLaws.{wrong-lines}
 use Rattle.settings.proofs.VersionLaws.{text-tags}
 use Rattle.settingstext.proofs.AnswerLaws.{untagged, tagged}
 
@@ -130,3 +133,36 @@ module _ (text rest : List ℕ) (timeout join count k at number least : ℕ) (s 
         let e : eqb (length (drop at text)) 0 ≡ false = ne-eqb (length (drop at text)) 0 (λ z. omega (arith, length-drop at text, l .inside, d)) in
         let n : 5 + 2 * length (l .tags) ≡ number = omega (arith, l .size, l .line) in
         rw (listed-all, readBehind) (rw e (ap wrong n))
+
+-- what was found: no wrong line, and the value stands in the settings; or the first wrong line
+abbrev pub Found : List ℕ → ℕ → Settings → Type 0
+Found text w s = (w ≡ 0 → right s ≡ reported (readText text)) × ((w ≡ 0 → ⊥) → readText text ≡ wrong w)
+
+found-wrong : (text : List ℕ) (s : Settings) (k w : ℕ) → readText text ≡ wrong k → w ≡ k → Found text w s
+found-wrong text s k w e q = (λ z. let l = wrong-lines text k e in absurd (omega (arith, l .0)), λ n. rw q e)
+
+module _ (text : List ℕ) (h : Head) (headed : Headed (readText text) text h) {k at number least : ℕ} {s : Settings} (l : Listed text (drop (h .next) text) (h .timeout) (h .join) (h .tags) k at number least s) (w : ℕ) where
+  pub found-all : h .tags ≤ k → w ≡ wrongLine (h .wrong) number (eqb at (length text)) → Found text w s
+  unfolding wrongLine
+  found-all all q =
+      ⊎-elim
+      (λ (z : h .wrong ≡ 0).
+      ⊎-elim
+      (λ (e : at ≡ length text).
+      let none : w ≡ 0 = q ∙ rw (z, eq-eqb at (length text) e) in
+      (λ _. listed-done _ _ _ _ _ _ _ _ _ _ l all e ∙ ap reported (sym (headed .right z)), λ n. absurd (n none)))
+      (λ (d : at ≡ length text → ⊥). found-wrong text s number w (headed .right z ∙ listed-extra _ _ _ _ _ _ _ _ _ _ l all d) (q ∙ rw (z, ne-eqb at (length text) d)))
+      (eq-or at (length text)))
+      (λ (n : h .wrong ≡ 0 → ⊥). found-wrong text s (h .wrong) w (headed .stop n .0) (q ∙ rw (ne-eqb (h .wrong) 0 n)))
+      (eq-or (h .wrong) 0)
+
+  pub found-stop : k < h .tags → (j : ℕ) (ended : Bool) → WrongAt j ≡ placedTag text (readLines number (newest .tag) (l .prior) [] (drop at text)) → w ≡ wrongLine j number ended → Found text w s
+  unfolding wrongLine
+  found-stop more j ended e q =
+      ⊎-elim
+      (λ (z : h .wrong ≡ 0).
+      let read = headed .right z ∙ listed-stop _ _ _ _ _ _ _ _ _ _ l more j e in
+      let some = wrong-lines text j read in
+      found-wrong text s j w read (q ∙ rw (ne-eqb j 0 (λ none. omega (arith, some .0)))))
+      (λ (n : h .wrong ≡ 0 → ⊥). absurd (omega (arith, headed .stop n .1)))
+      (eq-or (h .wrong) 0)

@@ -1,15 +1,13 @@
 // From a settings text to the value: forward, each byte once.
 ghost use mathlib.Core.Path.{_≡_};
-ghost use mathlib.Core.List.{List, [], _∷_};
+ghost use mathlib.Core.List.{List, []};
 ghost use Prim.Native.Nat.{ℕ, _+_, _*_, _-_, _≤_, _<_, min};
 ghost use lib.ListN.{length, drop};
-ghost use Rattle.laws.specs.Numbers.{mostTags};
 ghost use Rattle.settings.specs.Lines.{behind, numberIn};
-ghost use Rattle.settings.specs.Grammar.{newest, readLines, readBehind, readIn, readText};
-ghost use Rattle.settings.specs.Grammar.Read.{wrong};
+ghost use Rattle.settings.specs.Grammar.{newest, readLines, readIn, readText};
 ghost use Rattle.settingstext.specs.TextRead.{reported};
 ghost use Rattle.settings.specs.Grammar.{kept};
-ghost use Rattle.settingstext.specs.Reading.{ceiling, found, capped, placed, within, lineBehind, lowest, placedTag, blankOf};
+ghost use Rattle.settingstext.specs.Reading.{ceiling, found, capped, placed, within, lineBehind, lowest, placedTag, blankOf, stoppedAt, Headed, wrongLine};
 use settings::Settings;
 
 // What reading a text comes to: line 0 and the value, or the first wrong line and the usual value.
@@ -137,29 +135,102 @@ fn blank(timeout: u32, join: u32, tags: u32) -> Settings
     }
 }
 
-// A wrong line, with the usual value.
-fn wrong_at(line: u32) -> ReadText
-    ensures { λ r. ⌜ r ≡ reported (wrong line) ⌝ }
-{
-    let settings = blank(laws::USUAL_TIMEOUT, 1, 0);
-    ReadText { line, settings }
+// The numbers of the lines before the tags and the place behind them; or the first wrong line of these, and no tags.
+struct Head {
+    wrong: u32,
+    timeout: u32,
+    join: u32,
+    tags: u32,
+    next: usize,
 }
 
-// The tags behind the four lines before them, and the end of the text.
-fn read_behind(text: &[u8], start: usize, timeout: u32, join: u32, tags: u32) -> ReadText
-    requires { ⌜ (start ≤ length (now text)) × (tags ≤ mostTags) ⌝ }
-    ensures { λ r. ⌜ r ≡ reported (readBehind newest (timeout ∷ join ∷ tags ∷ []) (drop start (now (text .entry)))) ⌝ }
+// A wrong line before the tags.
+fn stopped_at(line: u32) -> Head
+    ensures { λ r. ⌜ r ≡ stoppedAt line ⌝ }
 {
-    let mut settings = blank(timeout, join, tags);
-    let count = tags as usize;
-    let mut at = start;
+    Head {
+        wrong: line,
+        timeout: 0,
+        join: 0,
+        tags: 0,
+        next: 0,
+    }
+}
+
+// The lines behind the version line and before the tags.
+fn read_in(text: &[u8], start: usize) -> Head
+    requires { ⌜ start ≤ length (now text) ⌝ }
+    ensures { λ r. ⌜ Headed (readIn newest (drop start (now (text .entry)))) (now (text .entry)) r ⌝ }
+{
+    let LineRead::Numbered(timeout, third) = line_at(
+        text,
+        start,
+        b"timeout=",
+        laws::LEAST_TIMEOUT,
+        laws::MOST_TIMEOUT,
+    ) else {
+        return stopped_at(2);
+    };
+    let LineRead::Numbered(join, fourth) = line_at(text, third, b"join=", 0, 1) else {
+        return stopped_at(3);
+    };
+    let LineRead::Numbered(tags, next) = line_at(text, fourth, b"tags=", 0, laws::MOST_TAGS as u32)
+    else {
+        return stopped_at(4);
+    };
+    Head {
+        wrong: 0,
+        timeout,
+        join,
+        tags,
+        next,
+    }
+}
+
+// The lines before the tags.
+fn read_head(text: &[u8]) -> Head
+    ensures { λ r. ⌜ Headed (readText (now (text .entry))) (now (text .entry)) r ⌝ }
+{
+    let LineRead::Numbered(_, next) = line_at(
+        text,
+        0,
+        b"version=",
+        laws::NEWEST_VERSION,
+        laws::NEWEST_VERSION,
+    ) else {
+        return stopped_at(1);
+    };
+    read_in(text, next)
+}
+
+// The first wrong line, if any: the one that stopped the reader, or the next one where the text does not end.
+fn first_wrong(stopped: u32, line: u32, ended: bool) -> u32
+    ensures { λ r. ⌜ r ≡ wrongLine stopped line ended ⌝ }
+{
+    if (stopped == 0) & !ended {
+        line
+    } else {
+        stopped
+    }
+}
+
+// The value that a text is, or its first wrong line with the usual value. There is one value, which is changed in place, and one way out.
+pub fn read_text(text: &[u8]) -> ReadText
+    ensures { λ r. ⌜ r ≡ reported (readText (now (text .entry))) ⌝ }
+{
+    let head = read_head(text);
+    let count = head.tags as usize;
+    let mut settings = blank(head.timeout, head.join, head.tags);
+    let mut stopped = head.wrong;
+    let mut at = head.next;
     let mut line: u32 = 5;
     let mut least: u32 = 0;
     let mut k = 0;
     while k < count {
         match tag_at(text, at, line, least) {
             TagRead::WrongAt(first) => {
-                return wrong_at(first);
+                stopped = first;
+                break;
             }
             TagRead::Tagged(address, width, next) => {
                 settings.addr[k] = address as u16;
@@ -172,49 +243,12 @@ fn read_behind(text: &[u8], start: usize, timeout: u32, join: u32, tags: u32) ->
         line += 2;
         k += 1;
     }
-    if at == text.len() {
-        ReadText { line: 0, settings }
-    } else {
-        wrong_at(line)
+    let wrong = first_wrong(stopped, line, at == text.len());
+    if wrong != 0 {
+        settings = blank(laws::USUAL_TIMEOUT, 1, 0);
     }
-}
-
-// The lines behind the version line.
-fn read_in(text: &[u8], start: usize) -> ReadText
-    requires { ⌜ start ≤ length (now text) ⌝ }
-    ensures { λ r. ⌜ r ≡ reported (readIn newest (drop start (now (text .entry)))) ⌝ }
-{
-    let LineRead::Numbered(timeout, third) = line_at(
-        text,
-        start,
-        b"timeout=",
-        laws::LEAST_TIMEOUT,
-        laws::MOST_TIMEOUT,
-    ) else {
-        return wrong_at(2);
-    };
-    let LineRead::Numbered(join, fourth) = line_at(text, third, b"join=", 0, 1) else {
-        return wrong_at(3);
-    };
-    let LineRead::Numbered(tags, next) = line_at(text, fourth, b"tags=", 0, laws::MOST_TAGS as u32)
-    else {
-        return wrong_at(4);
-    };
-    read_behind(text, next, timeout, join, tags)
-}
-
-// The value that a text is, or its first wrong line with the usual value.
-pub fn read_text(text: &[u8]) -> ReadText
-    ensures { λ r. ⌜ r ≡ reported (readText (now (text .entry))) ⌝ }
-{
-    let LineRead::Numbered(_, next) = line_at(
-        text,
-        0,
-        b"version=",
-        laws::NEWEST_VERSION,
-        laws::NEWEST_VERSION,
-    ) else {
-        return wrong_at(1);
-    };
-    read_in(text, next)
+    ReadText {
+        line: wrong,
+        settings,
+    }
 }
