@@ -10,7 +10,7 @@ ghost use Rattle.wire.specs.Splitting.{standingOf, firstFrame};
 ghost use Rattle.settings.specs.Grammar.{readText};
 ghost use Rattle.settings.specs.Values.{settings, valueOf};
 ghost use Rattle.settingstext.specs.TextWritten.{writtenTo};
-ghost use Rattle.reports.specs.Reports.{told, splitTold, readTold, textSeen, writeTold};
+ghost use Rattle.reports.specs.Reports.{told, splitTold, lineTold, readTold, textSeen, writeTold};
 
 // The outcomes' numbers beside the machine's: ZB_FRAME and ZB_MORE.
 const FRAME: u32 = 8;
@@ -56,18 +56,24 @@ pub fn split(run: &[u8]) -> Report
     }
 }
 
+// A text with this first wrong line, or with none.
+fn read_as(line: u32) -> Report
+    ensures { λ r. ⌜ r ≡ lineTold line ⌝ }
+{
+    if line == 0 {
+        said(0, 0, DONE, 0)
+    } else {
+        said(10, line, 0, 0)
+    }
+}
+
 // Reads a settings text: the value, or refusal 10 with the first wrong line and the usual value.
 pub fn read(text: &[u8]) -> SettingsRead
     ensures { λ r. ⌜ r ≡ readTold (readText (now (text .entry))) ⌝ }
 {
     let read = settingstext::reading::read_text(text);
-    let line = read.line;
+    let answer = read_as(read.line);
     let settings = read.settings;
-    if line == 0 {
-        let answer = said(0, 0, DONE, 0);
-        return SettingsRead { answer, settings };
-    }
-    let answer = said(10, line, 0, 0);
     SettingsRead { answer, settings }
 }
 
