@@ -7,7 +7,7 @@ ghost use Rattle.settings.specs.Lines.{behind, numberIn};
 ghost use Rattle.settings.specs.Grammar.{newest, readLines, readIn, readText};
 ghost use Rattle.settingstext.specs.TextRead.{reported};
 ghost use Rattle.settings.specs.Grammar.{kept};
-ghost use Rattle.settingstext.specs.Reading.{ceiling, found, capped, placed, within, lineBehind, lowest, placedTag, blankOf, stoppedAt, Headed, wrongLine};
+ghost use Rattle.settingstext.specs.Reading.{ceiling, found, capped, placed, within, lineBehind, lowest, placedTag, stoppedAt, Headed, wrongLine};
 use settings::Settings;
 
 // What reading a text comes to: line 0 and the value, or the first wrong line and the usual value.
@@ -122,20 +122,7 @@ fn tag_at(text: &[u8], at: usize, line: u32, least: u32) -> TagRead
     }
 }
 
-// Settings whose tag places are all 0.
-fn blank(timeout: u32, join: u32, tags: u32) -> Settings
-    ensures { λ r. ⌜ r ≡ blankOf timeout join tags ⌝ }
-{
-    Settings {
-        timeout,
-        join,
-        tags,
-        addr: [0; laws::MOST_TAGS],
-        width: [0; laws::MOST_TAGS],
-    }
-}
-
-// The numbers of the lines before the tags and the place behind them; or the first wrong line of these, and no tags.
+// The numbers of the lines before the tags and the place behind them; or a wrong line, and the usual numbers.
 struct Head {
     wrong: u32,
     timeout: u32,
@@ -144,14 +131,14 @@ struct Head {
     next: usize,
 }
 
-// A wrong line before the tags.
+// A wrong line, with the usual numbers.
 fn stopped_at(line: u32) -> Head
     ensures { λ r. ⌜ r ≡ stoppedAt line ⌝ }
 {
     Head {
         wrong: line,
-        timeout: 0,
-        join: 0,
+        timeout: laws::USUAL_TIMEOUT,
+        join: 1,
         tags: 0,
         next: 0,
     }
@@ -214,13 +201,14 @@ fn first_wrong(stopped: u32, line: u32, ended: bool) -> u32
     }
 }
 
-// The value that a text is, or its first wrong line with the usual value. There is one value, which is changed in place, and one way out.
+// The value that a text is, or its first wrong line with the usual value. Each column is there once, is changed in place and leaves by one way, so that it is copied once.
 pub fn read_text(text: &[u8]) -> ReadText
     ensures { λ r. ⌜ r ≡ reported (readText (now (text .entry))) ⌝ }
 {
-    let head = read_head(text);
+    let mut head = read_head(text);
     let count = head.tags as usize;
-    let mut settings = blank(head.timeout, head.join, head.tags);
+    let mut addr = [0u16; laws::MOST_TAGS];
+    let mut width = [0u16; laws::MOST_TAGS];
     let mut stopped = head.wrong;
     let mut at = head.next;
     let mut line: u32 = 5;
@@ -232,11 +220,11 @@ pub fn read_text(text: &[u8]) -> ReadText
                 stopped = first;
                 break;
             }
-            TagRead::Tagged(address, width, next) => {
-                settings.addr[k] = address as u16;
-                settings.width[k] = width as u16;
+            TagRead::Tagged(address, bits, next) => {
+                addr[k] = address as u16;
+                width[k] = bits as u16;
                 // One register for each 16 bits.
-                least = address + width / 16;
+                least = address + bits / 16;
                 at = next;
             }
         }
@@ -245,8 +233,17 @@ pub fn read_text(text: &[u8]) -> ReadText
     }
     let wrong = first_wrong(stopped, line, at == text.len());
     if wrong != 0 {
-        settings = blank(laws::USUAL_TIMEOUT, 1, 0);
+        head = stopped_at(wrong);
+        addr = [0u16; laws::MOST_TAGS];
+        width = [0u16; laws::MOST_TAGS];
     }
+    let settings = Settings {
+        timeout: head.timeout,
+        join: head.join,
+        tags: head.tags,
+        addr,
+        width,
+    };
     ReadText {
         line: wrong,
         settings,
