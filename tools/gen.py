@@ -296,7 +296,6 @@ def shape(name, lent, ps, res, req, creq):
     κs = nest([f'κ{j}' for j in range(nlife)])
     qs = nest([f'q{j}' for j in range(nlife)])
     toks = seqofT([f'‵ (flft κ{j} q{j})' for j in range(1, nlife)] + ['‵ ftrue'])
-    later_toks = seqofT([f'‵ (flft κ{j} q{j})' for j in range(2, nlife)] + ['‵ ftrue'])
     rowp = lambda i: prow(i) if ps[i][1] == 'val' else f'ShrRef (named {life[i]}) κ{life[i]} {prow(i)}' if ps[i][1] == 'ref' else f"{'ShrSlice' if ps[i][1] == 'shr' else 'MutSlice'} (named {life[i]}) κ{life[i]} {ps[i][2]}"
     pvals = [f'{pval(i)} ∷ []' if ps[i][1] == 'val' else f'ptr-vals p{i}' if ps[i][1] == 'ref' else f'slice-vals p{i}' for i in us]
     mach = seqof(['vptr b o'] * one + [pval(i) if ps[i][1] == 'val' else f'vptr (p{i} .ptr .0) (p{i} .ptr .1)' if ps[i][1] == 'ref' else f'sliceVal (p{i} .ptr) (length (p{i} .now))' for i in us])
@@ -432,7 +431,6 @@ def shape(name, lent, ps, res, req, creq):
     body = ', '.join(['&mut st.' + y for y in lent] + [f'&{ps[0][0]}.{y}' for y, _, _ in sf] + [ps[i][0] for i in rest]) + ('' if ps else ', ')
     words = f'{ST} and parameters at entry, result, {ST} and slices at exit' if lent else 'parameters at entry, result, slices at exit'
     stay_words = ' The fields that are not lent are as they were' * one
-    shrs = ', RefOf' * sh
     # the entry point's arguments: the lent struct, and the other parameters
     mod = ' (b o : ℕ) (γ : GName) (h : ' + ST + ')' if lent else ''
     aT, aV = (f'RefT {ST} × Denots Tail', '(record { ptr = (b, o); name = γ; now = h }, tail)') if lent else ('Denots Tail', 'tail')
@@ -474,6 +472,10 @@ def shape(name, lent, ps, res, req, creq):
 
   abbrev to-core : {margs} → {core} .Ghost
   {to_core} = (({κs}, {qs}, tt, {passed}, tail-vals′), tt)'''
+    uses = ([f'use {SS}.declared.{ST}.{{{ST}}}'] if lent else []) + (structs or ['-- no struct but the lent one'])
+    if lent: uses += [f'use {SP}.{ST} as T', f'use {SP}.{ST}.Laws as T′', f"use {SP}.Fields.{{ms, {', '.join(mn(y) for y in names)}, tuple, takes, gives}}",
+        'use Rattle.lending.proofs.Lend.{Use, lend, stay, Names, after, kept, refs, refsAt, ptrsAt, lents, finals, lend-all, back-all}']
+    if sh: uses += ['use Rattle.lending.proofs.Share.{Marks, shares, sharesAt, sharePtrs, share-all}']
     h1T = f'(h′ : {ST}) ' * one
     h1V = 'h′ ' * one
     mine = f'MutRef (named 0) κ0 T.the-row ∷ Tail' if lent else 'Tail'
@@ -521,13 +523,7 @@ use denote.Triple.Call.{{calls-at}}
 use denote.Triple.Clauses.{{Ended, Clauses, ensured, closing}}
 use denote.Triple.Walked.{{says, needs, Stays, stay-ref, stay-dropped, gave-slice, walkOf, AllGo, goes-ref, goes-dropped, goes-gave-slice, Walks, ends-at, walked, walk-meets}}
 use denote.Exit.{{yes}}
-{f'use {SS}.declared.{ST}.{{{ST}}}' if lent else '-- no struct is lent by &mut'}
-{nl(structs) if structs else '-- no struct but the lent one'}
-{f"""use {SP}.{ST} as T
-use {SP}.{ST}.Laws as T′
-use {SP}.Fields.{{ms, {', '.join(mn(y) for y in names)}, tuple, takes, gives}}
-use Rattle.lending.proofs.Lend.{{Use, lend, stay, Names, after, kept, refs, refsAt, ptrsAt, lents, finals, lend-all, back-all}}""" if lent else '-- nothing comes back'}{f"""
-use Rattle.lending.proofs.Share.{{Marks, shares, sharesAt, sharePtrs, share-all}}""" if sh else ''}
+{nl(uses)}
 
 abbrev pub Rel : Type 1
 Rel = {RelT}
@@ -697,8 +693,7 @@ use mathlib.Core.List.{{List, []}}
 use contract.Running.{{givenOf, tables, tablesOf}}
 use denote.Triple.Spec.{{tripleOf}}
 use denote.Triple.Table.{{entered, cited}}
-{f'use Rattle.{SC}.specs.declared.{ST}.{{{ST}}}' if lent else '-- no struct is lent by &mut'}
-{nl(USES)}
+{nl(([f'use Rattle.{SC}.specs.declared.{ST}.{{{ST}}}'] if lent else []) + USES)}
 use Rattle.{SC}.proofs.{sh}.{{{', '.join(kinds)}}}
 use {cpath}.Symbol as g
 use {cpath}.Met as g-thm

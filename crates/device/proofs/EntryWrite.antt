@@ -37,7 +37,6 @@ use denote.Triple.Call.{calls-at}
 use denote.Triple.Clauses.{Ended, Clauses, ensured, closing}
 use denote.Triple.Walked.{says, Stays, stay-dropped, gave-slice, walkOf, AllGo, goes-dropped, goes-gave-slice, Walks, ends-at, walked, walk-meets}
 use denote.Exit.{yes}
--- no struct is lent by &mut
 use Rattle.machine.specs.declared.Report.{Report}
 use Rattle.machine.proofs.Report as Res
 use Rattle.machine.proofs.Report.Laws as Res′
@@ -45,7 +44,6 @@ use Rattle.settings.specs.declared.Settings.{Settings}
 use Rattle.settings.proofs.Settings as P0
 use Rattle.settings.proofs.Settings.Laws as P0′
 use Rattle.device.proofs.SettingsFields as F0
--- nothing comes back
 use Rattle.lending.proofs.Share.{Marks, shares, sharesAt, sharePtrs, share-all}
 
 abbrev pub Rel : Type 1

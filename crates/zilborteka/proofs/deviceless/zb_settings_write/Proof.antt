@@ -4,7 +4,6 @@ use mathlib.Core.List.{[]}
 use contract.Running.{givenOf, tables, tablesOf}
 use denote.Triple.Spec.{tripleOf}
 use denote.Triple.Table.{entered, cited}
--- no struct is lent by &mut
 use mathlib.Core.Path.{_≡_}
 use Rattle.settings.specs.Values.{settings, valueOf}
 use Rattle.settingstext.specs.TextWritten.{writtenTo}
