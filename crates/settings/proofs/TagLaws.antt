@@ -21,9 +21,9 @@ use Rattle.bcd.specs.declared.Kind.the-variants.{Width16, Width32}
 use Rattle.bcd.specs.Bcd.{registers}
 use Rattle.settings.specs.declared.Settings.{Settings}
 use Rattle.settings.specs.Grammar.{Tag, Value, newest, tagNumbers, lastRegister, ascends, rightTimeout, rightJoin, rightTags, rightWidth, allRight, tagsRight, valid}
-use Rattle.settings.specs.Values.{settings, valueOf, padded, settingsOf}
+use Rattle.settings.specs.Values.{settings, padded, settingsOf}
 use Rattle.settings.specs.TagWords.{kindOf, widthOf, kindNumber, kindFrom, wordOf, tagOf, lastOf, Ascending}
-use Rattle.settings.proofs.ValueLaws.{tagAt, tag-ext, fromOf, tag-right, valid-parts, valid-few}
+use Rattle.settings.proofs.ValueLaws.{tagAt, tag-ext, fromOf, tag-right, valid-parts}
 
 -- a tag has one of the two widths
 abbrev pub Wide : Tag → Type 0
@@ -202,7 +202,7 @@ valid-bounds v h =
     }
 
 -- places filled one after the other, and 0 beyond
-filled-more : {A : Type 0} (f : A → ℕ) (xs : List A) (x : A) (k v : ℕ) → length xs ≡ k → k < mostTags → v ≡ f x → set (padded (map f xs)) k v ≡ padded (map f (xs ++ (x ∷ [])))
+pub filled-more : {A : Type 0} (f : A → ℕ) (xs : List A) (x : A) (k v : ℕ) → length xs ≡ k → k < mostTags → v ≡ f x → set (padded (map f xs)) k v ≡ padded (map f (xs ++ (x ∷ [])))
 filled-more f xs x k v e h q =
     let n : length (map f xs) ≡ k = length-map xs f ∙ e in
     rw (q, map-append f xs (x ∷ []), ← n) (set-padded 0 (f x) (map f xs) mostTags (omega arith))

@@ -4,9 +4,9 @@ use Prim.Native.Nat.{ℕ, suc, _+_, _*_, _-_, _/_, _≤_, _<_}
 use mathlib.Core.Path.{_≡_, refl, ap, sym, _∙_}
 use mathlib.Core.Logic.{⊎-elim}
 use mathlib.Core.Bool.{Bool, false}
-use mathlib.Core.List.{List, [], _∷_, _++_, map, map-append, append-nil}
+use mathlib.Core.List.{List, [], _∷_, _++_, map, append-nil}
 use native.Mathlib.Omega.{arith}
-use lib.ListN.{length, drop, set, replicate, length-map, length-append, length-drop}
+use lib.ListN.{length, drop, set, replicate, length-append, length-drop}
 use lib.Seq.{drop-length}
 use lib.Dec.{eqb}
 use borrow.Author.Tests.{eq-eqb, ne-eqb}
@@ -21,7 +21,7 @@ use Rattle.settings.specs.declared.Settings.{Settings}
 use Rattle.settingstext.specs.declared.reading.ReadText.{ReadText}
 use Rattle.settingstext.specs.declared.reading.TagRead.the-variants.{Tagged, WrongAt}
 use Rattle.laws.proofs.Choice.{eq-or}
-use Rattle.laws.proofs.ListLaws.{set-padded}
+use Rattle.settings.proofs.TagLaws.{filled-more}
 use Rattle.settings.proofs.RowLaws.{onto, onto-onto, tag-wrong, tag-right}
 use Rattle.settings.proofs.GrammarLaws.{wrong-lines}
 use Rattle.settings.proofs.VersionLaws.{text-tags}
@@ -49,11 +49,6 @@ unfolding lowest
 listed-none text start count h =
     let e : count - 0 ≡ count = omega arith in
     record { tags = []; prior = []; size = refl; few = omega arith; inside = h; line = refl; low = refl; left = rw e (sym (onto-none _)); addrs = refl; widths = refl }
-
-column-more : (f : Tag → ℕ) (ts : List Tag) (t : Tag) (k : ℕ) {column : List ℕ} → length ts ≡ k → k < mostTags → column ≡ padded (map f ts) → set column k (f t) ≡ padded (map f (ts ++ (t ∷ [])))
-column-more f ts t k e h q =
-    let n : length (map f ts) ≡ k = length-map ts f ∙ e in
-    rw (q, map-append f ts (t ∷ []), ← n) (set-padded 0 (f t) (map f ts) mostTags (omega arith))
 
 abbrev pub right : Settings → ReadText
 right s = record { line = 0; settings = s }
@@ -92,8 +87,8 @@ module _ (text rest : List ℕ) (timeout join count k at number least : ℕ) (ad
               l .left
               ∙ ap (onto (l .tags)) (rw one-left (tag-right (count - (k + 1)) number (newest .tag) (l .prior) (drop at text) (address ∷ bits ∷ []) (drop next text) (t .read)))
               ∙ onto-onto (l .tags) (tag ∷ []) _;
-          addrs = column-more (λ (u : Tag). u .address) (l .tags) tag k (l .size) (omega arith) (l .addrs);
-          widths = column-more (λ (u : Tag). u .width) (l .tags) tag k (l .size) (omega arith) (l .widths);
+          addrs = rw (l .addrs) (filled-more (λ (u : Tag). u .address) (l .tags) tag k address (l .size) (omega arith) refl);
+          widths = rw (l .widths) (filled-more (λ (u : Tag). u .width) (l .tags) tag k bits (l .size) (omega arith) refl);
         }
 
   module _ (all : count ≤ k) where
