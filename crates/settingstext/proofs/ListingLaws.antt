@@ -1,4 +1,4 @@
--- The turns of the loop over the tags: what has been read stands in the settings, and what is left is read from the place on.
+-- The turns of the loop over the tags: what has been read stands in the columns, and what is left is read from the place on.
 -- Assumes nothing.
 use Prim.Native.Nat.{ℕ, suc, _+_, _*_, _-_, _/_, _≤_, _<_}
 use mathlib.Core.Path.{_≡_, refl, ap, sym, _∙_}

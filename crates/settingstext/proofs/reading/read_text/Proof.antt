@@ -1,4 +1,4 @@
--- `settingstext::reading::read_text` meets its contract: the tags so far stand in the settings. The measure is how many are left.
+-- `settingstext::reading::read_text` meets its contract: the tags so far stand in the columns. The measure is how many are left.
 -- Assumes nothing.
 use Prim.Native.Nat.{_-_, _<_, _≤_}
 use mathlib.Core.Path.{_≡_, refl, sym, _∙_}
