@@ -108,7 +108,11 @@ static void start_device(void)
         s.addr[k] = (uint16_t)(FIRST + k / 2 * 3 + k % 2);
         s.width[k] = k % 2 ? 32 : 16;
     }
+#ifdef SETTINGS_BY_VALUE
     unsigned refused = zb_fresh(&device, s).refusal;
+#else
+    unsigned refused = zb_fresh(&device, &s).refusal;
+#endif
     for (unsigned c = 0; c < CLIENTS; c++)
         refused |= zb_attach(&device, c).refusal;
     if (refused)

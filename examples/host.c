@@ -125,7 +125,7 @@ int main(void)
 
     zb_read settings = zb_settings_read((const uint8_t *)text, strlen(text));
     told("settings text read", settings.answer);
-    told("fresh", zb_fresh(&device, settings.settings));
+    told("fresh", zb_fresh(&device, &settings.settings));
     told("screen 3 attaches", zb_attach(&device, 3));
     told("screen 5 attaches", zb_attach(&device, 5));
     told("screen 3 reads 1024 at 100", zb_request(&device, 3, 100, read_3, sizeof read_3, out, sizeof out));

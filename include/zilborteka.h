@@ -1,10 +1,10 @@
 /* The C boundary of the register proxy.
    Every call may be given any bytes, any client number and any time, and a state that these calls made.
    No pointer is NULL, even with length 0, and no length is longer than the memory behind its pointer. State, frame, out
-   and list do not overlap. The state is aligned to 8 bytes, a list to 2. One state is used by one thread at a time.
-   zb_fresh comes first. Of the two archives that have these functions libzilborteka.a uses SSE registers and the red zone
-   of the System V x86-64 convention; libzilborteka-kernel.a uses neither: it is for code that is built with -mno-sse
-   -mno-red-zone. */
+   and list do not overlap, nor do settings and state, nor settings and text. The state is aligned to 8 bytes, settings
+   to 4, a list to 2. One state is used by one thread at a time. zb_fresh comes first. Of the two archives that have these
+   functions libzilborteka.a uses SSE registers and the red zone of the System V x86-64 convention;
+   libzilborteka-kernel.a uses neither: it is for code that is built with -mno-sse -mno-red-zone. */
 #ifndef ZILBORTEKA_H
 #define ZILBORTEKA_H
 #include <stddef.h>
@@ -108,11 +108,12 @@ typedef struct { zb_answer answer; zb_settings settings; } zb_read;
    and numbers beyond those written stay. */
 
 zb_read   zb_settings_read(const uint8_t *text, size_t text_len);
-zb_answer zb_settings_write(zb_settings from, uint8_t *text, size_t text_len);
+/* Settings are lent for the call alone and never written; they are aligned to 4 bytes. */
+zb_answer zb_settings_write(const zb_settings *from, uint8_t *text, size_t text_len);
 /* An invalid value: ZB_REFUSED_SETTINGS, and the state is made nevertheless, for timeout 3000, join 1 and no tags.
    Whatever the value, nobody is attached afterwards, nothing is live, and ids are issued from 0 on: the old link's
    replies must not be given to it. */
-zb_answer zb_fresh(zb_state *st, zb_settings from);
+zb_answer zb_fresh(zb_state *st, const zb_settings *from);
 zb_answer zb_attach(zb_state *st, uint32_t client);
 zb_answer zb_detach(zb_state *st, uint32_t client);
 zb_answer zb_request(zb_state *st, uint32_t client, uint64_t now,

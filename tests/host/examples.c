@@ -148,9 +148,10 @@ static void fields_are_where_the_header_says(void)
 {
     static zb_state device;
     static const uint8_t read[] = {0x12, 0x34, 0, 0, 0, 6, 1, 3, 4, 0, 0, 1};
+    const zb_settings settings = settings_of_the_document();
     uint8_t out[ZB_FRAME_BUFFER];
     memset(&device, 0xA5, sizeof device);
-    zb_fresh(&device, settings_of_the_document());
+    zb_fresh(&device, &settings);
     EXPECT(device.timeout == 3000 && device.join == 1 && device.tagged == 2);
     EXPECT((device.tags[0] & 0xFFFF) == 1024 && (device.tags[1] & 0xFFFF) == 1026);
     EXPECT(device.attached == 0 && device.clock == 0 && device.cursor == 0 && device.top == 0);
@@ -413,7 +414,8 @@ static void next_deadline(void)
     static const uint8_t read[] = {0, 0, 0, 0, 0, 6, 1, 3, 4, 0, 0, 1}, other[] = {0, 0, 0, 0, 0, 2, 1, 17};
     uint8_t out[ZB_FRAME_BUFFER];
     uint16_t list[ZB_LIST_BUFFER];
-    zb_fresh(&device, settings_of_the_document());
+    zb_settings settings = settings_of_the_document();
+    zb_fresh(&device, &settings);
     EXPECT(zb_next_deadline(&device).time == UINT64_MAX && zb_next_deadline(&device).live == 0);
     zb_attach(&device, 3);
     zb_request(&device, 3, 50, read, sizeof read, out, sizeof out);
@@ -606,7 +608,7 @@ static void text_of_75_bytes(void)
     EXPECT(r.settings.addr[1] == 1026 && r.settings.width[1] == 32 && r.settings.addr[2] == 0);
     EXPECT(pair_settings_write(&r.settings, 75).length == 75);
     EXPECT_REFUSED(pair_settings_write(&r.settings, 74), ZB_REFUSED_BUFFER);
-    EXPECT(zb_settings_write(r.settings, written, 75).length == 75 && memcmp(written, text, 76) == 0);
+    EXPECT(zb_settings_write(&r.settings, written, 75).length == 75 && memcmp(written, text, 76) == 0);
     r = zb_settings_read(text, 74);
     EXPECT(is_wrong_at(r.answer, 8) && r.settings.timeout == 3000 && r.settings.join == 1 && r.settings.tags == 0);
 }
@@ -622,7 +624,7 @@ static void longest_text(void)
     }
     EXPECT(pair_settings_write(&s, 5160).length == 5160);
     EXPECT_REFUSED(pair_settings_write(&s, 5159), ZB_REFUSED_BUFFER);
-    EXPECT(zb_settings_write(s, text, 5160).length == 5160);
+    EXPECT(zb_settings_write(&s, text, 5160).length == 5160);
     EXPECT(pair_settings_read(text, 5160).outcome == ZB_DONE);
     EXPECT(is_wrong_at(pair_settings_read(text, 5161), 517));
     EXPECT(is_wrong_at(pair_settings_read(text, 5159), 516));

@@ -46,3 +46,21 @@ bool lent_is_guarded(const lent *l)
 {
     return all_are(l->base, l->at, l->fill) && all_are(l->at + l->length, l->end, l->fill);
 }
+
+static void protect(const lent *l, int as)
+{
+    if (mprotect(l->end - PAGE, PAGE, as) != 0) {
+        printf("no memory that can only be read\n");
+        exit(1);
+    }
+}
+
+void lent_shut(const lent *l)
+{
+    protect(l, PROT_READ);
+}
+
+void lent_open(const lent *l)
+{
+    protect(l, PROT_READ | PROT_WRITE);
+}

@@ -19,4 +19,7 @@ lent lent_make(size_t most);
 /* Lends `length` bytes that end `gap` bytes before the untouchable memory; they and the guard bytes are `fill`. */
 void lent_place(lent *l, size_t length, size_t gap, uint8_t fill);
 bool lent_is_guarded(const lent *l);
+/* From here on a write to it or to its guard bytes ends the program; and again it does not. */
+void lent_shut(const lent *l);
+void lent_open(const lent *l);
 #endif

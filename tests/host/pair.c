@@ -1,6 +1,6 @@
 /* Gives one call to the archive and to the model, and compares everything that a call reports or may touch:
    all ten fields of the answer, every byte of out, every number of the list, the guard bytes around each lent buffer
-   and around the device, the lent input, and after a refusal the whole device. */
+   and around the device, the lent input and the lent settings, and after a refusal the whole device. */
 #include "pair.h"
 #include "dice.h"
 #include "lent.h"
@@ -11,7 +11,7 @@
 #include <string.h>
 
 static uint64_t seed, calls;
-static lent device, input, out, list, text, model_out, model_list, model_text;
+static lent device, input, settings, out, list, text, model_out, model_list, model_text;
 static model_state model;
 static zb_state before;
 static const uint8_t *given; /* the caller's own copy of the input */
@@ -30,6 +30,7 @@ void pair_open(uint64_t with_seed)
     seed = with_seed;
     device = lent_make(sizeof(zb_state));
     input = lent_make(MOST_TEXT);
+    settings = lent_make(sizeof(zb_settings));
     out = lent_make(MOST_FRAME);
     model_out = lent_make(MOST_FRAME);
     list = lent_make(MOST_LIST * sizeof(uint16_t));
@@ -96,6 +97,27 @@ static void lend_input(const uint8_t *bytes, size_t size)
     memcpy(input.at, bytes, size);
     given = bytes;
     last.size = size;
+}
+
+/* Settings that the archive can only read, at a place that is aligned to 4 bytes. */
+static const zb_settings *lend_settings(const zb_settings *from)
+{
+    uint8_t fill = (uint8_t)dice();
+    lent_place(&settings, sizeof *from, 4 * below(GUARD / 4 + 1), fill);
+    memcpy(settings.at, from, sizeof *from);
+    lent_shut(&settings);
+    return (const zb_settings *)(const void *)settings.at;
+}
+
+/* After the call they are as they were; what is made of them does not need them any more. */
+static void take_settings_back(const zb_settings *from)
+{
+    if (memcmp(settings.at, from, sizeof *from) != 0)
+        pair_differs("the lent settings changed");
+    if (!lent_is_guarded(&settings))
+        pair_differs("a guard byte of the settings changed");
+    lent_open(&settings);
+    memset(settings.at, settings.fill, settings.length);
 }
 
 /* The same bytes to both, the archive's at a place of its own. */
@@ -192,7 +214,9 @@ zb_answer pair_fresh(const zb_settings *from)
     uint8_t fill = (uint8_t)dice();
     lent_place(&device, sizeof(zb_state), 8 * below(GUARD / 8 + 1), fill);
     begin(CALL_FRESH, 0, 0, 0, 0);
-    return end(zb_fresh(state(), *from), model_fresh(&model, *from));
+    zb_answer archive = zb_fresh(state(), lend_settings(from));
+    take_settings_back(from);
+    return end(archive, model_fresh(&model, *from));
 }
 
 zb_answer pair_attach(uint32_t client)
@@ -263,8 +287,9 @@ zb_answer pair_settings_write(const zb_settings *from, size_t text_len)
 {
     begin(CALL_WRITE, 0, 0, 0, 0);
     lend_twice(&text, &model_text, text_len);
-    zb_answer a = end(zb_settings_write(*from, text.at, text_len),
-                      model_settings_write(*from, model_text.at, text_len));
+    zb_answer archive = zb_settings_write(lend_settings(from), text.at, text_len);
+    take_settings_back(from);
+    zb_answer a = end(archive, model_settings_write(*from, model_text.at, text_len));
     compare_lent(&text, &model_text, "the text buffer", "a guard byte of the text changed");
     return a;
 }

@@ -1,17 +1,17 @@
 // The cores of the entry points fresh, attach, detach, request, link lost and next deadline: each call over the fields that a device lends, its answer in the C host's numbers.
 use machine::NextDeadline;
 use machine::Report;
-use settings::Settings;
 ghost use mathlib.Core.List.{List, []};
 ghost use Prim.Native.Nat.{ℕ, _≤_};
 ghost use Rattle.laws.specs.Numbers.{places};
+ghost use Rattle.settings.specs.Values.{settings};
 ghost use Rattle.machine.specs.Calls.Call.{attach as attaches, detach as detaches, request as asks, linkLost};
 ghost use Rattle.table.specs.Changes.{Runs};
 ghost use Rattle.proxy.specs.State.{lent, Sounds};
 ghost use Rattle.proxy.specs.Calls.{Told, FreshlyTold, Awaits};
 
-// Makes the device fresh, whatever it was.
-pub fn fresh<'a>(
+// Makes the device fresh, whatever it was, from a settings value whose fields are lent.
+pub fn fresh<'a, 'b>(
     ids: &'a mut [u32; laws::PLACES],
     asked: &'a mut [u64; laws::PLACES],
     callers: &'a mut [u8; laws::PLACES],
@@ -27,9 +27,13 @@ pub fn fresh<'a>(
     join: &'a mut u32,
     tagged: &'a mut u32,
     tags: &'a mut [u64; laws::MOST_TAGS],
-    from: Settings,
+    from_timeout: &'b u32,
+    from_join: &'b u32,
+    from_tags: &'b u32,
+    addr: &'b [u16; laws::MOST_TAGS],
+    width: &'b [u16; laws::MOST_TAGS],
 ) -> Report
-    ensures { λ r. ⌜ FreshlyTold from r (lent (now (ids .exit)) (now (asked .exit)) (now (callers .exit)) (now (deadlines .exit)) (now (counts .exit)) (now (clients .exit)) (now (originals .exit)) (now (top .exit)) (now (cursor .exit)) (now (attached .exit)) (now (clock .exit)) (now (timeout .exit)) (now (join .exit)) (now (tagged .exit)) (now (tags .exit))) ⌝ }
+    ensures { λ r. ⌜ FreshlyTold (settings (now («from_timeout» .entry)) (now («from_join» .entry)) (now («from_tags» .entry)) (now (addr .entry)) (now (width .entry))) r (lent (now (ids .exit)) (now (asked .exit)) (now (callers .exit)) (now (deadlines .exit)) (now (counts .exit)) (now (clients .exit)) (now (originals .exit)) (now (top .exit)) (now (cursor .exit)) (now (attached .exit)) (now (clock .exit)) (now (timeout .exit)) (now (join .exit)) (now (tagged .exit)) (now (tags .exit))) ⌝ }
 {
     machine::report_of(proxy::making::fresh(
         ids,
@@ -47,7 +51,11 @@ pub fn fresh<'a>(
         join,
         tagged,
         tags,
-        from,
+        *from_timeout,
+        *from_join,
+        *from_tags,
+        addr,
+        width,
     ))
 }
 

@@ -8,3 +8,5 @@ pub mod EntryReply
 pub mod EntryTick
 pub mod EntryLinkLost
 pub mod EntryNextDeadline
+pub mod SettingsFields
+pub mod EntryWrite

@@ -10,13 +10,14 @@ use native.Mathlib.Nat.{zero-div}
 use native.Mathlib.Omega.{arith}
 use lib.ListN.{length, take, replicate, length-replicate, length-append, length-map}
 use lib.Pow.{pow-pos}
-use Rattle.laws.specs.Numbers.{clients, places, partyPlaces, mostTags}
+use Rattle.laws.specs.Numbers.{clients, places, partyPlaces, mostTags, usualTimeout}
+use Rattle.laws.specs.Lists.{tab}
 use Rattle.laws.specs.Bits.{has}
 use Rattle.laws.proofs.Choice.{true-or}
 use Rattle.laws.proofs.ListLaws.{length-tab, getD-repeat}
 use Rattle.settings.specs.declared.Settings.{Settings}
 use Rattle.settings.specs.Grammar.{Value, validIn, valid, allRight, tagsRight}
-use Rattle.settings.specs.Values.{valueOf, padded, usual}
+use Rattle.settings.specs.Values.{settings, listed, valueOf, padded, usual}
 use Rattle.settings.specs.TagWords.{wordOf, tagOf, Ascending}
 use Rattle.settings.proofs.ValueLaws.{value-ext}
 use Rattle.settings.proofs.TagLaws.{words-kept, valid-ascends, valid-bounds}
@@ -75,10 +76,15 @@ kept-value v n words right listed e =
       },
     )
 
--- the boundary's struct says how many tags there are
-pub listed-tags : (s : Settings) → length (valueOf s .tags) ≡ s .tags
+-- So do the boundary's struct's numbers with the words of the tags that it lists.
+pub kept-settings : (s : Settings) (words : List ℕ) → valid (valueOf s) ≡ true → words ≡ padded (map wordOf (listed (s .tags) (s .addr) (s .width))) → Keeps (kept (s .timeout) (s .join) (s .tags) words) (valueOf s)
 unfolding valueOf
-listed-tags s = length-tab (s .tags) _
+kept-settings s words right e = kept-value (valueOf s) (s .tags) words right (length-tab (s .tags) _) e
+
+-- Where no tag is listed, the columns do not matter.
+pub usual-settings : (addr width : List ℕ) → valueOf (settings usualTimeout 1 0 addr width) ≡ usual
+unfolding valueOf tab
+usual-settings addr width = refl
 
 -- a state with columns of zeros and all else 0 is sound, whatever settings are in it
 zeroed-sound : (c : Columns) (k : Kept) → c ≡ blank → Settled k → Sounds (state c 0 0 0 k)

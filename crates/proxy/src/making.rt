@@ -1,46 +1,36 @@
 // Making a fresh state over lent columns from a settings value.
 use machine::Answer;
-use settings::Settings;
 ghost use mathlib.Core.Path.{_≡_};
 ghost use mathlib.Core.Bool.{true};
 ghost use Rattle.settings.specs.Grammar.{valid};
-ghost use Rattle.settings.specs.Values.{valueOf, usual as usualValue};
+ghost use Rattle.settings.specs.Values.{settings, valueOf};
 ghost use Rattle.proxy.specs.State.{kept, valueIn, lent, Settled};
 ghost use Rattle.proxy.specs.Calls.{Freshened};
 
-// Timeout 3000, join 1 and no tags.
-fn usual() -> Settings
-    ensures { λ r. ⌜ valueOf r ≡ usualValue ⌝ }
-{
-    Settings {
-        timeout: laws::USUAL_TIMEOUT,
-        join: 1,
-        tags: 0,
-        addr: [0; laws::MOST_TAGS],
-        width: [0; laws::MOST_TAGS],
-    }
-}
-
-// Puts a valid value into the state's settings.
-fn adopt<'a>(
+// Puts a valid value, whose columns are lent, into the state's settings.
+fn adopt<'a, 'b>(
     timeout: &'a mut u32,
     join: &'a mut u32,
     tagged: &'a mut u32,
     tags: &'a mut [u64; laws::MOST_TAGS],
-    value: Settings,
+    from_timeout: u32,
+    from_join: u32,
+    from_tags: u32,
+    addr: &'b [u16; laws::MOST_TAGS],
+    width: &'b [u16; laws::MOST_TAGS],
 )
-    requires { ⌜ valid (valueOf value) ≡ true ⌝ }
-    ensures { λ r. ⌜ valueIn (kept (now (timeout .exit)) (now (join .exit)) (now (tagged .exit)) (now (tags .exit))) ≡ valueOf value ⌝ }
+    requires { ⌜ valid (valueOf (settings «from_timeout» «from_join» «from_tags» (now addr) (now width))) ≡ true ⌝ }
+    ensures { λ r. ⌜ valueIn (kept (now (timeout .exit)) (now (join .exit)) (now (tagged .exit)) (now (tags .exit))) ≡ valueOf (settings «from_timeout» «from_join» «from_tags» (now (addr .entry)) (now (width .entry))) ⌝ }
     ensures { λ r. ⌜ Settled (kept (now (timeout .exit)) (now (join .exit)) (now (tagged .exit)) (now (tags .exit))) ⌝ }
 {
-    *timeout = value.timeout;
-    *join = value.join;
-    *tagged = value.tags;
-    values::tagwords::fill_words(value, tags);
+    *timeout = from_timeout;
+    *join = from_join;
+    *tagged = from_tags;
+    values::tagwords::fill_words(from_tags, addr, width, tags);
 }
 
-// Makes the lent state fresh, whatever it was. An invalid value is refusal 10, and the state is then made from the usual one.
-pub fn fresh<'a>(
+// Makes the lent state fresh, whatever it was, from a value whose columns are lent. An invalid value is refusal 10, and the state is then made from the usual one.
+pub fn fresh<'a, 'b>(
     ids: &'a mut [u32; laws::PLACES],
     asked: &'a mut [u64; laws::PLACES],
     callers: &'a mut [u8; laws::PLACES],
@@ -56,9 +46,13 @@ pub fn fresh<'a>(
     join: &'a mut u32,
     tagged: &'a mut u32,
     tags: &'a mut [u64; laws::MOST_TAGS],
-    from: Settings,
+    from_timeout: u32,
+    from_join: u32,
+    from_tags: u32,
+    addr: &'b [u16; laws::MOST_TAGS],
+    width: &'b [u16; laws::MOST_TAGS],
 ) -> Answer
-    ensures { λ r. ⌜ Freshened from r (lent (now (ids .exit)) (now (asked .exit)) (now (callers .exit)) (now (deadlines .exit)) (now (counts .exit)) (now (clients .exit)) (now (originals .exit)) (now (top .exit)) (now (cursor .exit)) (now (attached .exit)) (now (clock .exit)) (now (timeout .exit)) (now (join .exit)) (now (tagged .exit)) (now (tags .exit))) ⌝ }
+    ensures { λ r. ⌜ Freshened (settings «from_timeout» «from_join» «from_tags» (now (addr .entry)) (now (width .entry))) r (lent (now (ids .exit)) (now (asked .exit)) (now (callers .exit)) (now (deadlines .exit)) (now (counts .exit)) (now (clients .exit)) (now (originals .exit)) (now (top .exit)) (now (cursor .exit)) (now (attached .exit)) (now (clock .exit)) (now (timeout .exit)) (now (join .exit)) (now (tagged .exit)) (now (tags .exit))) ⌝ }
 {
     moves::changing::clear(
         ids,
@@ -73,10 +67,31 @@ pub fn fresh<'a>(
     *cursor = 0;
     *attached = 0;
     *clock = 0;
-    if values::is_valid(from) {
-        adopt(timeout, join, tagged, tags, from);
+    if values::is_valid(from_timeout, from_join, from_tags, addr, width) {
+        adopt(
+            timeout,
+            join,
+            tagged,
+            tags,
+            from_timeout,
+            from_join,
+            from_tags,
+            addr,
+            width,
+        );
         return Answer::Done;
     }
-    adopt(timeout, join, tagged, tags, usual());
+    // Timeout 3000, join 1 and no tags: of the columns nothing is listed.
+    adopt(
+        timeout,
+        join,
+        tagged,
+        tags,
+        laws::USUAL_TIMEOUT,
+        1,
+        0,
+        addr,
+        width,
+    );
     Answer::Refused { number: 10 }
 }

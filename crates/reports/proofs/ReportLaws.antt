@@ -7,6 +7,7 @@ use mathlib.Core.List.{List}
 use native.Mathlib.Omega.{arith}
 use lib.ListN.{length}
 use lib.Dec.{ltb}
+use borrow.Author.Tests.{ne-eqb}
 use Rattle.laws.specs.Numbers.{mostText, mostFrame}
 use Rattle.laws.specs.Bytes.{over}
 use Rattle.wire.specs.Splitting.{standingOf, firstFrame}
@@ -21,31 +22,21 @@ use Rattle.settingstext.specs.declared.writing.Wrote.{Wrote}
 use Rattle.settingstext.specs.declared.writing.Wrote.the-variants.{Text, TooShort, Invalid}
 use Rattle.settingstext.specs.TextRead.{reported}
 use Rattle.settingstext.specs.TextWritten.{Writing, writing, writtenTo}
-use Rattle.machine.specs.Numbers.{isDone}
 use Rattle.machine.specs.declared.Report.{Report}
-use Rattle.reports.specs.Reports.{told, splitTold, settingsRead, readTold, textSeen, wroteTold, writeTold}
+use Rattle.reports.specs.Reports.{splitTold, settingsRead, lineTold, readTold, textSeen, wroteTold, writeTold}
 
 -- A first frame is no longer than a frame may be.
 pub first-low : (r : List ℕ) → standingOf r ≡ Frame → length (firstFrame r) ≤ mostFrame
 first-low r e = let most = starts r e .most in rw (first-size r e) (omega arith)
 
-module _ (x : ReadText) where
-  done-of : (y : Read Value) → ((k : ℕ) → y ≡ wrong k → 1 ≤ k) → x ≡ reported y → x .line ≡ 0 → settingsRead (told 0 0 isDone 0) (x .settings) ≡ readTold y
-  unfolding reported readTold
-  done-of (got v rest) p e z = ap (λ (q : ReadText). settingsRead (told 0 0 isDone 0) (q .settings)) e
-  done-of (wrong k) p e z = let named = ap (λ (q : ReadText). q .line) e in let least = p k refl in absurd (omega arith)
+-- What is told of a text by its first wrong line is what reading it comes to: line 0 is a text that was read, and any other line is wrong.
+told-of : (y : Read Value) → ((k : ℕ) → y ≡ wrong k → 1 ≤ k) → settingsRead (lineTold (reported y .line)) (reported y .settings) ≡ readTold y
+unfolding reported readTold
+told-of (got v rest) p = refl
+told-of (wrong k) p = let least = p k refl in rw (ne-eqb k 0 (λ z. omega arith))
 
-  wrong-of : (y : Read Value) → x ≡ reported y → (x .line ≡ 0 → ⊥) → settingsRead (told 10 (x .line) 0 0) (x .settings) ≡ readTold y
-  unfolding reported readTold
-  wrong-of (got v rest) e z = absurd (z (ap (λ (q : ReadText). q .line) e))
-  wrong-of (wrong k) e z = ap (λ (q : ReadText). settingsRead (told 10 (q .line) 0 0) (q .settings)) e
-
-  -- Line 0 is a text that was read, and any other line is wrong.
-  pub read-done : (t : List ℕ) → x ≡ reported (readText t) → x .line ≡ 0 → settingsRead (told 0 0 isDone 0) (x .settings) ≡ readTold (readText t)
-  read-done t = done-of (readText t) (λ k e. wrong-lines t k e .0)
-
-  pub read-wrong : (t : List ℕ) → x ≡ reported (readText t) → (x .line ≡ 0 → ⊥) → settingsRead (told 10 (x .line) 0 0) (x .settings) ≡ readTold (readText t)
-  read-wrong t = wrong-of (readText t)
+pub read-told : (t : List ℕ) {x : ReadText} {r : Report} → x ≡ reported (readText t) → r ≡ lineTold (x .line) → settingsRead r (x .settings) ≡ readTold (readText t)
+read-told t e q = rw (q, e) (told-of (readText t) (λ k w. wrong-lines t k w .0))
 
 -- A case of what stands at the start of a run is told by its numbers.
 pub split-is : (n : ℕ) {s t u : Split} → s ≡ t → s ≡ u → splitTold u n ≡ splitTold t n

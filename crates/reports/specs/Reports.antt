@@ -1,7 +1,9 @@
 -- What is reported of splitting, and of settings read and written.
 -- Assumes nothing.
 use Prim.Native.Nat.{ℕ}
+use mathlib.Core.Bool.{cond}
 use mathlib.Core.List.{List}
+use lib.Dec.{eqb}
 use Rattle.wire.specs.declared.splitting.Split.{Split}
 use Rattle.wire.specs.declared.splitting.Split.the-variants.{Frame, MoreNeeded, Refused}
 use Rattle.settings.specs.Grammar.{Value, Read}
@@ -31,6 +33,10 @@ unfoldable pub splitTold : Split → ℕ → Report
 splitTold Frame n = told 0 0 isFrame n
 splitTold MoreNeeded n = told 0 0 isMore 0
 splitTold Refused n = told 4 0 0 0
+
+-- a text with this first wrong line, or with none
+abbrev pub lineTold : ℕ → Report
+lineTold line = cond (eqb line 0) (told 0 0 isDone 0) (told 10 line 0 0)
 
 -- reading: the value, or refusal 10 with the first wrong line beside the usual value
 abbrev pub settingsRead : Report → Settings → SettingsRead

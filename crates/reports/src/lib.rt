@@ -8,9 +8,9 @@ ghost use mathlib.Core.Path.{_≡_};
 ghost use lib.ListN.{length};
 ghost use Rattle.wire.specs.Splitting.{standingOf, firstFrame};
 ghost use Rattle.settings.specs.Grammar.{readText};
-ghost use Rattle.settings.specs.Values.{valueOf};
+ghost use Rattle.settings.specs.Values.{settings, valueOf};
 ghost use Rattle.settingstext.specs.TextWritten.{writtenTo};
-ghost use Rattle.reports.specs.Reports.{told, splitTold, readTold, textSeen, writeTold};
+ghost use Rattle.reports.specs.Reports.{told, splitTold, lineTold, readTold, textSeen, writeTold};
 
 // The outcomes' numbers beside the machine's: ZB_FRAME and ZB_MORE.
 const FRAME: u32 = 8;
@@ -56,26 +56,39 @@ pub fn split(run: &[u8]) -> Report
     }
 }
 
+// A text with this first wrong line, or with none.
+fn read_as(line: u32) -> Report
+    ensures { λ r. ⌜ r ≡ lineTold line ⌝ }
+{
+    if line == 0 {
+        said(0, 0, DONE, 0)
+    } else {
+        said(10, line, 0, 0)
+    }
+}
+
 // Reads a settings text: the value, or refusal 10 with the first wrong line and the usual value.
 pub fn read(text: &[u8]) -> SettingsRead
     ensures { λ r. ⌜ r ≡ readTold (readText (now (text .entry))) ⌝ }
 {
     let read = settingstext::reading::read_text(text);
-    let line = read.line;
+    let answer = read_as(read.line);
     let settings = read.settings;
-    if line == 0 {
-        let answer = said(0, 0, DONE, 0);
-        return SettingsRead { answer, settings };
-    }
-    let answer = said(10, line, 0, 0);
     SettingsRead { answer, settings }
 }
 
-// Writes the text of a settings value: its length, refusal 10 for an invalid value, or refusal 1 for a short buffer.
-pub fn write(from: Settings, text: &mut [u8]) -> Report
-    ensures { λ r. ⌜ textSeen r (now (text .exit)) ≡ writeTold (writtenTo (valueOf from) (now (text .entry))) ⌝ }
+// Writes the text of a settings value whose fields are lent: its length, refusal 10 for an invalid value, or refusal 1 for a short buffer.
+pub fn write<'a>(
+    timeout: &'a u32,
+    join: &'a u32,
+    tags: &'a u32,
+    addr: &'a [u16; laws::MOST_TAGS],
+    width: &'a [u16; laws::MOST_TAGS],
+    text: &mut [u8],
+) -> Report
+    ensures { λ r. ⌜ textSeen r (now (text .exit)) ≡ writeTold (writtenTo (valueOf (settings (now (timeout .entry)) (now (join .entry)) (now (tags .entry)) (now (addr .entry)) (now (width .entry)))) (now (text .entry))) ⌝ }
 {
-    match settingstext::writing::write_text(from, text) {
+    match settingstext::writing::write_text(*timeout, *join, *tags, addr, width, text) {
         Wrote::Text(size) => said(0, 0, DONE, size as u32),
         Wrote::TooShort => said(1, 0, 0, 0),
         Wrote::Invalid => said(10, 0, 0, 0),

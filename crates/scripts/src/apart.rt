@@ -92,7 +92,14 @@ fn written(right: &[u8], from: Settings, lent: usize) -> usize
     ensures { λ r. ⌜ r ≡ said (now (right .entry)) 0 (writtenText from lent) ⌝ }
 {
     let mut buffer = [KEPT; 512];
-    let wrote = settingstext::writing::write_text(from, &mut buffer[0..lent]);
+    let wrote = settingstext::writing::write_text(
+        from.timeout,
+        from.join,
+        from.tags,
+        &from.addr,
+        &from.width,
+        &mut buffer[0..lent],
+    );
     told(right, wrote, &buffer)
 }
 

@@ -21,9 +21,9 @@ use Rattle.bcd.specs.declared.Kind.the-variants.{Width16, Width32}
 use Rattle.bcd.specs.Bcd.{registers}
 use Rattle.settings.specs.declared.Settings.{Settings}
 use Rattle.settings.specs.Grammar.{Tag, Value, newest, tagNumbers, lastRegister, ascends, rightTimeout, rightJoin, rightTags, rightWidth, allRight, tagsRight, valid}
-use Rattle.settings.specs.Values.{valueOf, padded, settingsOf}
+use Rattle.settings.specs.Values.{settings, padded, settingsOf}
 use Rattle.settings.specs.TagWords.{kindOf, widthOf, kindNumber, kindFrom, wordOf, tagOf, lastOf, Ascending}
-use Rattle.settings.proofs.ValueLaws.{tagAt, tag-ext, fromOf, tag-right, valid-parts, valid-few}
+use Rattle.settings.proofs.ValueLaws.{tagAt, tag-ext, fromOf, tag-right, valid-parts}
 
 -- a tag has one of the two widths
 abbrev pub Wide : Tag → Type 0
@@ -202,7 +202,7 @@ valid-bounds v h =
     }
 
 -- places filled one after the other, and 0 beyond
-filled-more : {A : Type 0} (f : A → ℕ) (xs : List A) (x : A) (k v : ℕ) → length xs ≡ k → k < mostTags → v ≡ f x → set (padded (map f xs)) k v ≡ padded (map f (xs ++ (x ∷ [])))
+pub filled-more : {A : Type 0} (f : A → ℕ) (xs : List A) (x : A) (k v : ℕ) → length xs ≡ k → k < mostTags → v ≡ f x → set (padded (map f xs)) k v ≡ padded (map f (xs ++ (x ∷ [])))
 filled-more f xs x k v e h q =
     let n : length (map f xs) ≡ k = length-map xs f ∙ e in
     rw (q, map-append f xs (x ∷ []), ← n) (set-padded 0 (f x) (map f xs) mostTags (omega arith))
@@ -213,9 +213,9 @@ pub record Worded (s : Settings) (words : List ℕ) (k : ℕ) : Type 0 where
   pub few : s .tags ≤ mostTags
   pub filled : words ≡ padded (map wordOf (tab k (tagAt s)))
 
-pub worded-none : (s : Settings) → valid (valueOf s) ≡ true → Worded s (replicate mostTags 0) 0
+pub worded-none : (s : Settings) → s .tags ≤ mostTags → Worded s (replicate mostTags 0) 0
 unfolding tab
-worded-none s h = record { within = omega arith; few = valid-few s h; filled = refl }
+worded-none s h = record { within = omega arith; few = h; filled = refl }
 
 pub worded-more : {s : Settings} {words : List ℕ} {k v : ℕ} → k < s .tags → Worded s words k → v ≡ wordOf (tagAt s k) → Worded s (set words k v) (k + 1)
 worded-more {s} {k = k} {v = v} h w e =
@@ -225,8 +225,7 @@ worded-more {s} {k = k} {v = v} h w e =
       filled = rw (w .filled, tab-more k (tagAt s)) (filled-more wordOf (tab k (tagAt s)) (tagAt s k) k v (length-tab k (tagAt s)) (omega (arith, w .few)) e);
     }
 
-pub worded-all : {s : Settings} {words : List ℕ} {k : ℕ} → s .tags ≤ k → Worded s words k → words ≡ padded (map wordOf (valueOf s .tags))
-unfolding valueOf
+pub worded-all : {s : Settings} {words : List ℕ} {k : ℕ} → s .tags ≤ k → Worded s words k → words ≡ padded (map wordOf (tab (s .tags) (tagAt s)))
 worded-all {s} {k = k} h w = let e : k ≡ s .tags = omega (arith, w .within) in w .filled ∙ rw e
 
 -- the tags of the first k words
@@ -262,9 +261,6 @@ taken-more {words} {k = k} {a = a} {w = w} h t p q =
 
     more : tagsOf words (k + 1) ≡ tagsOf words k ++ (tagOf (getD words k 0) ∷ [])
     more = rw (add-one k, take-suc words k 0 (omega (arith, t .few, t .long))) (map-append tagOf (take k words) (getD words k 0 ∷ []))
-
-abbrev pub settings : ℕ → ℕ → ℕ → List ℕ → List ℕ → Settings
-settings timeout join tags addr width = record { timeout = timeout; join = join; tags = tags; addr = addr; width = width }
 
 pub taken-all : (timeout join : ℕ) {words : List ℕ} {tagged : ℕ} {addr width : List ℕ} {k : ℕ} → tagged ≤ k → Taken words tagged addr width k
     → settings timeout join tagged addr width ≡ settingsOf (record { timeout = timeout; join = join; tags = tagsOf words tagged })

@@ -10,10 +10,17 @@ use Rattle.laws.specs.Lists.{tab}
 use Rattle.settings.specs.Grammar.{Tag, Value}
 use Rattle.settings.specs.declared.Settings.{Settings}
 
+-- the boundary's struct of its fields
+abbrev pub settings : (timeout join tags : ℕ) (addr width : List ℕ) → Settings
+settings timeout join tags addr width = record { timeout = timeout; join = join; tags = tags; addr = addr; width = width }
+
+-- the first tags of the columns
+abbrev pub listed : (tags : ℕ) (addr width : List ℕ) → List Tag
+listed tags addr width = tab tags (λ k. record { address = getD addr k 0; width = getD width k 0 })
+
 -- the listed tags count, and nothing beyond them
 unfoldable pub valueOf : Settings → Value
-valueOf s =
-    record { timeout = s .timeout; join = s .join; tags = tab (s .tags) (λ k. record { address = getD (s .addr) k 0; width = getD (s .width) k 0 }) }
+valueOf s = record { timeout = s .timeout; join = s .join; tags = listed (s .tags) (s .addr) (s .width) }
 
 -- places beyond the tags are 0
 abbrev pub padded : List ℕ → List ℕ

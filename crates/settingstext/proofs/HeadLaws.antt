@@ -13,11 +13,12 @@ use borrow.Author.Tests.{le-leb, leb-true, eq-eqb, eqb-true}
 use Rattle.laws.specs.Numbers.{newestVersion, leastTimeout, mostTimeout, mostTags}
 use Rattle.laws.proofs.Choice.{true-or, and-left, and-right, same-test}
 use Rattle.settings.specs.Lines.{Numbered, equals, lineIn}
-use Rattle.settings.specs.Grammar.{Line, line, versionKey, timeoutKey, joinKey, tagsKey, rightTimeout, rightJoin, rightTags, newest, versionIn, readLines, readIn, readText, readBehind, kept}
+use Rattle.settings.specs.Grammar.{Value, Read, Line, line, versionKey, timeoutKey, joinKey, tagsKey, rightTimeout, rightJoin, rightTags, newest, versionIn, readLines, readIn, readText, readBehind, kept}
 use Rattle.settings.specs.Grammar.Read.{wrong}
 use Rattle.settingstext.specs.declared.reading.LineRead.{LineRead}
 use Rattle.settingstext.specs.declared.reading.LineRead.the-variants.{Numbered as numberedAt, Wrong}
-use Rattle.settingstext.specs.Reading.{lineBehind, within, placed}
+use Rattle.settingstext.specs.declared.reading.Head.{Head}
+use Rattle.settingstext.specs.Reading.{lineBehind, within, placed, stoppedAt, Headed}
 use Rattle.settings.proofs.RowLaws.{kept-rule}
 use Rattle.settings.proofs.VersionLaws.{text-version, text-head}
 use Rattle.settingstext.proofs.AnswerLaws.{unplaced, replaced, placed-inside, key-line, line-placed, read-stop, read-step}
@@ -34,6 +35,10 @@ joinLine = line joinKey (λ prior own n. rightJoin n)
 
 abbrev tagsLine : Line
 tagsLine = line tagsKey (λ prior own n. rightTags n)
+
+-- a wrong line before the tags
+pub stop-headed : (whole : Read Value) (text : List ℕ) (k : ℕ) {h : Head} → 1 ≤ k → whole ≡ wrong k → h ≡ stoppedAt k → Headed whole text h
+stop-headed whole text k {h} l e q = rw q (record { right = λ z. absurd (omega arith); stop = λ z. (e, refl); inside = omega arith; few = omega arith })
 
 -- the version's rule is a range of one number
 version-rule : (n : ℕ) → within newestVersion newestVersion n ≡ eqb newestVersion n

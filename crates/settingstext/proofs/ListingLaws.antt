@@ -1,35 +1,33 @@
--- The turns of the loop over the tags: what has been read stands in the settings, and what is left is read from the place on.
+-- The turns of the loop over the tags: what has been read stands in the columns, and what is left is read from the place on.
 -- Assumes nothing.
 use Prim.Native.Nat.{ℕ, suc, _+_, _*_, _-_, _/_, _≤_, _<_}
 use mathlib.Core.Path.{_≡_, refl, ap, sym, _∙_}
 use mathlib.Core.Logic.{⊎-elim}
-use mathlib.Core.Bool.{false}
-use mathlib.Core.List.{List, [], _∷_, _++_, map, map-append, append-nil}
+use mathlib.Core.Bool.{Bool, false}
+use mathlib.Core.List.{List, [], _∷_, _++_, map, append-nil}
 use native.Mathlib.Omega.{arith}
-use lib.ListN.{length, drop, set, length-map, length-append, length-drop}
+use lib.ListN.{length, drop, set, replicate, length-append, length-drop}
 use lib.Seq.{drop-length}
 use lib.Dec.{eqb}
-use borrow.Author.Tests.{ne-eqb}
+use borrow.Author.Tests.{eq-eqb, ne-eqb}
 use Rattle.laws.specs.Numbers.{mostTags}
-use Rattle.settings.specs.Grammar.{Tag, Value, Read, newest, readLines, readTags, readBehind}
+use Rattle.settings.specs.Grammar.{Tag, Value, Read, newest, readLines, readTags, readBehind, readText}
 use Rattle.settings.specs.Grammar.Read.{got, wrong}
-use Rattle.settings.specs.Values.{padded, settingsOf}
+use Rattle.settings.specs.Values.{settings, padded, settingsOf}
 use Rattle.settingstext.specs.TextRead.{reported}
-use Rattle.settingstext.specs.Reading.{lowest, placedTag}
+use Rattle.settingstext.specs.Reading.{lowest, placedTag, Headed, wrongLine}
+use Rattle.settingstext.specs.declared.reading.Head.{Head}
 use Rattle.settings.specs.declared.Settings.{Settings}
 use Rattle.settingstext.specs.declared.reading.ReadText.{ReadText}
 use Rattle.settingstext.specs.declared.reading.TagRead.the-variants.{Tagged, WrongAt}
-use Rattle.laws.proofs.ListLaws.{set-padded}
+use Rattle.laws.proofs.Choice.{eq-or}
+use Rattle.settings.proofs.TagLaws.{filled-more}
 use Rattle.settings.proofs.RowLaws.{onto, onto-onto, tag-wrong, tag-right}
+use Rattle.settings.proofs.GrammarLaws.{wrong-lines}
 use Rattle.settings.proofs.VersionLaws.{text-tags}
 use Rattle.settingstext.proofs.AnswerLaws.{untagged, tagged}
 
--- settings of so many tags, of which these were read
-abbrev pub settled : ℕ → ℕ → ℕ → List Tag → Settings
-settled timeout join count ts =
-    record { timeout = timeout; join = join; tags = count; addr = padded (map (λ (t : Tag). t .address) ts); width = padded (map (λ (t : Tag). t .width) ts) }
-
-pub record Listed (text rest : List ℕ) (timeout join count k at number least : ℕ) (s : Settings) : Type 0 where
+pub record Listed (text rest : List ℕ) (count k at number least : ℕ) (addr width : List ℕ) : Type 0 where
   pub tags : List Tag
   pub prior : List ℕ
   pub size : length tags ≡ k
@@ -38,41 +36,24 @@ pub record Listed (text rest : List ℕ) (timeout join count k at number least :
   pub line : number ≡ 5 + 2 * k
   pub low : least ≡ lowest prior
   pub left : readTags count 5 (newest .tag) [] rest ≡ onto tags (readTags (count - k) number (newest .tag) prior (drop at text))
-  pub held : s ≡ settled timeout join count tags
+  pub addrs : addr ≡ padded (map (λ (t : Tag). t .address) tags)
+  pub widths : width ≡ padded (map (λ (t : Tag). t .width) tags)
 
 onto-none : (o : Read (List Tag)) → onto [] o ≡ o
 unfolding onto
 onto-none (got us r) = refl
 onto-none (wrong k) = refl
 
-pub listed-none : (text : List ℕ) (start timeout join count : ℕ) → start ≤ length text → Listed text (drop start text) timeout join count 0 start 5 0 (settled timeout join count [])
+pub listed-none : (text : List ℕ) (start count : ℕ) → start ≤ length text → Listed text (drop start text) count 0 start 5 0 (replicate mostTags 0) (replicate mostTags 0)
 unfolding lowest
-listed-none text start timeout join count h =
+listed-none text start count h =
     let e : count - 0 ≡ count = omega arith in
-    record { tags = []; prior = []; size = refl; few = omega arith; inside = h; line = refl; low = refl; left = rw e (sym (onto-none _)); held = refl }
-
-column-more : (f : Tag → ℕ) (ts : List Tag) (t : Tag) (k : ℕ) → length ts ≡ k → k < mostTags → set (padded (map f ts)) k (f t) ≡ padded (map f (ts ++ (t ∷ [])))
-column-more f ts t k e h =
-    let n : length (map f ts) ≡ k = length-map ts f ∙ e in
-    rw (map-append f ts (t ∷ []), ← n) (set-padded 0 (f t) (map f ts) mostTags (omega arith))
-
-abbrev pub stored : Settings → ℕ → ℕ → ℕ → Settings
-stored s k address width = record { timeout = s .timeout; join = s .join; tags = s .tags; addr = set (s .addr) k address; width = set (s .width) k width }
-
-columns-more : (timeout join count : ℕ) (ts : List Tag) (t : Tag) (k : ℕ) → length ts ≡ k → k < mostTags → stored (settled timeout join count ts) k (t .address) (t .width) ≡ settled timeout join count (ts ++ (t ∷ []))
-columns-more timeout join count ts t k e h =
-    λ i. record {
-      timeout = timeout;
-      join = join;
-      tags = count;
-      addr = column-more (λ (u : Tag). u .address) ts t k e h i;
-      width = column-more (λ (u : Tag). u .width) ts t k e h i;
-    }
+    record { tags = []; prior = []; size = refl; few = omega arith; inside = h; line = refl; low = refl; left = rw e (sym (onto-none _)); addrs = refl; widths = refl }
 
 abbrev pub right : Settings → ReadText
 right s = record { line = 0; settings = s }
 
-module _ (text rest : List ℕ) (timeout join count k at number least : ℕ) (s : Settings) (l : Listed text rest timeout join count k at number least s) where
+module _ (text rest : List ℕ) (timeout join count k at number least : ℕ) (addr width : List ℕ) (l : Listed text rest count k at number least addr width) where
   abbrev whole : Read Value
   whole = readBehind newest (timeout ∷ join ∷ count ∷ []) rest
 
@@ -87,16 +68,16 @@ module _ (text rest : List ℕ) (timeout join count k at number least : ℕ) (s 
         let all : readTags count 5 (newest .tag) [] rest ≡ wrong j = l .left ∙ rw (one-left, t) in
         rw (all, readBehind)
 
-    pub listed-more : count ≤ mostTags → (address width next : ℕ) → Tagged address width next ≡ placedTag text (readLines number (newest .tag) (l .prior) [] (drop at text))
-        → Listed text rest timeout join count (k + 1) next (number + 2) (address + width / 16) (stored s k address width)
+    pub listed-more : count ≤ mostTags → (address bits next : ℕ) → Tagged address bits next ≡ placedTag text (readLines number (newest .tag) (l .prior) [] (drop at text))
+        → Listed text rest count (k + 1) next (number + 2) (address + bits / 16) (set addr k address) (set width k bits)
     unfolding lowest
-    listed-more h address width next e =
-        let t = tagged text (l .prior) at number address width next (l .inside) e in
-        let tag : Tag = record { address = address; width = width } in
-        let low : address + width / 16 ≡ lowest (address ∷ width ∷ []) = ⊎-elim (λ (w : width ≡ 16). rw w) (λ (w : width ≡ 32). rw w (omega arith)) (t .fit) in
+    listed-more h address bits next e =
+        let t = tagged text (l .prior) at number address bits next (l .inside) e in
+        let tag : Tag = record { address = address; width = bits } in
+        let low : address + bits / 16 ≡ lowest (address ∷ bits ∷ []) = ⊎-elim (λ (w : bits ≡ 16). rw w) (λ (w : bits ≡ 32). rw w (omega arith)) (t .fit) in
         record {
           tags = l .tags ++ (tag ∷ []);
-          prior = address ∷ width ∷ [];
+          prior = address ∷ bits ∷ [];
           size = omega (arith, length-append (l .tags) (tag ∷ []), l .size);
           few = omega arith;
           inside = t .inside;
@@ -104,9 +85,10 @@ module _ (text rest : List ℕ) (timeout join count k at number least : ℕ) (s 
           low = low;
           left =
               l .left
-              ∙ ap (onto (l .tags)) (rw one-left (tag-right (count - (k + 1)) number (newest .tag) (l .prior) (drop at text) (address ∷ width ∷ []) (drop next text) (t .read)))
+              ∙ ap (onto (l .tags)) (rw one-left (tag-right (count - (k + 1)) number (newest .tag) (l .prior) (drop at text) (address ∷ bits ∷ []) (drop next text) (t .read)))
               ∙ onto-onto (l .tags) (tag ∷ []) _;
-          held = ap (λ (x : Settings). stored x k address width) (l .held) ∙ columns-more timeout join count (l .tags) tag k (l .size) (omega arith);
+          addrs = rw (l .addrs) (filled-more (λ (u : Tag). u .address) (l .tags) tag k address (l .size) (omega arith) refl);
+          widths = rw (l .widths) (filled-more (λ (u : Tag). u .width) (l .tags) tag k bits (l .size) (omega arith) refl);
         }
 
   module _ (all : count ≤ k) where
@@ -116,13 +98,13 @@ module _ (text rest : List ℕ) (timeout join count k at number least : ℕ) (s 
         let e : count - k ≡ 0 = omega arith in
         l .left ∙ rw e (ap (λ ts. got ts (drop at text)) (append-nil (l .tags)))
 
-    pub listed-done : at ≡ length text → right s ≡ reported whole
+    pub listed-done : at ≡ length text → right (settings timeout join count addr width) ≡ reported whole
     unfolding reported settingsOf
     listed-done e =
         let q : drop at text ≡ [] = rw e (drop-length text) in
         let v = text-tags newest (timeout ∷ join ∷ count ∷ []) rest (l .tags) (rw q at listed-all) in
         let n : length (l .tags) ≡ count = omega (arith, l .size, l .few) in
-        ap right (l .held ∙ ap (λ (m : ℕ). settled timeout join m (l .tags)) (sym n)) ∙ sym (ap reported v)
+        ap (λ (m : ℕ). right (settings timeout join m addr width)) (sym n) ∙ rw (l .addrs, l .widths) (sym (ap reported v))
 
     pub listed-extra : (at ≡ length text → ⊥) → whole ≡ wrong number
     unfolding readBehind
@@ -130,3 +112,36 @@ module _ (text rest : List ℕ) (timeout join count k at number least : ℕ) (s 
         let e : eqb (length (drop at text)) 0 ≡ false = ne-eqb (length (drop at text)) 0 (λ z. omega (arith, length-drop at text, l .inside, d)) in
         let n : 5 + 2 * length (l .tags) ≡ number = omega (arith, l .size, l .line) in
         rw (listed-all, readBehind) (rw e (ap wrong n))
+
+-- what was found: no wrong line, and the value stands in the settings; or the first wrong line
+abbrev pub Found : List ℕ → ℕ → Settings → Type 0
+Found text w s = (w ≡ 0 → right s ≡ reported (readText text)) × ((w ≡ 0 → ⊥) → readText text ≡ wrong w)
+
+found-wrong : (text : List ℕ) (s : Settings) (k w : ℕ) → readText text ≡ wrong k → w ≡ k → Found text w s
+found-wrong text s k w e q = (λ z. let l = wrong-lines text k e in absurd (omega (arith, l .0)), λ n. rw q e)
+
+module _ (text : List ℕ) (h : Head) (headed : Headed (readText text) text h) {k at number least : ℕ} {addr width : List ℕ} (l : Listed text (drop (h .next) text) (h .tags) k at number least addr width) (w : ℕ) where
+  pub found-all : h .tags ≤ k → w ≡ wrongLine (h .wrong) number (eqb at (length text)) → Found text w (settings (h .timeout) (h .join) (h .tags) addr width)
+  unfolding wrongLine
+  found-all all q =
+      ⊎-elim
+      (λ (z : h .wrong ≡ 0).
+      ⊎-elim
+      (λ (e : at ≡ length text).
+      let none : w ≡ 0 = q ∙ rw (z, eq-eqb at (length text) e) in
+      (λ _. listed-done _ _ _ _ _ _ _ _ _ _ _ l all e ∙ ap reported (sym (headed .right z)), λ n. absurd (n none)))
+      (λ (d : at ≡ length text → ⊥). found-wrong text _ number w (headed .right z ∙ listed-extra _ _ _ _ _ _ _ _ _ _ _ l all d) (q ∙ rw (z, ne-eqb at (length text) d)))
+      (eq-or at (length text)))
+      (λ (n : h .wrong ≡ 0 → ⊥). found-wrong text _ (h .wrong) w (headed .stop n .0) (q ∙ rw (ne-eqb (h .wrong) 0 n)))
+      (eq-or (h .wrong) 0)
+
+  pub found-stop : k < h .tags → (j : ℕ) (ended : Bool) → WrongAt j ≡ placedTag text (readLines number (newest .tag) (l .prior) [] (drop at text)) → w ≡ wrongLine j number ended → Found text w (settings (h .timeout) (h .join) (h .tags) addr width)
+  unfolding wrongLine
+  found-stop more j ended e q =
+      ⊎-elim
+      (λ (z : h .wrong ≡ 0).
+      let read = headed .right z ∙ listed-stop _ _ _ _ _ _ _ _ _ _ _ l more j e in
+      let some = wrong-lines text j read in
+      found-wrong text _ j w read (q ∙ rw (ne-eqb j 0 (λ none. omega (arith, some .0)))))
+      (λ (n : h .wrong ≡ 0 → ⊥). absurd (omega (arith, headed .stop n .1)))
+      (eq-or (h .wrong) 0)

@@ -143,22 +143,22 @@ length-head timeout join tags =
 pub length-tag : (address width : ℕ) → length (tagText address width) ≡ length (lineOf addrKey address) + length (lineOf widthKey width)
 length-tag address width = rw (tag-lines address width) (length-append (lineOf addrKey address) (lineOf widthKey width))
 
--- the text is that of the head and that of the tags
-pub text-parts : (s : Settings) → textIn newest (valueOf s) ≡ headText (s .timeout) (s .join) (s .tags) ++ tagsText (valueOf s .tags)
-unfolding textIn valueOf headText tagText tagsText
-text-parts s =
-    rw (length-tab (s .tags) (tagAt s))
-    (sym (append-assoc (lineOf versionKey (newest .number)) (textOfLines (newest .head) (s .timeout ∷ s .join ∷ s .tags ∷ [])) (tagsText (tab (s .tags) (tagAt s)))))
-
-pub length-text : (s : Settings) → length (textIn newest (valueOf s)) ≡ length (headText (s .timeout) (s .join) (s .tags)) + length (tagsText (valueOf s .tags))
-length-text s = ap length (text-parts s) ∙ length-append (headText (s .timeout) (s .join) (s .tags)) (tagsText (valueOf s .tags))
-
 -- the text of a place, and of the first k places
 abbrev pub placeText : Settings → ℕ → List ℕ
 placeText s k = tagText (tagAt s k .address) (tagAt s k .width)
 
 abbrev pub tagsTo : Settings → ℕ → List ℕ
 tagsTo s k = tagsText (tab k (tagAt s))
+
+-- the text is that of the head and that of the tags
+pub text-parts : (s : Settings) → textIn newest (valueOf s) ≡ headText (s .timeout) (s .join) (s .tags) ++ tagsTo s (s .tags)
+unfolding textIn valueOf headText tagText tagsText
+text-parts s =
+    rw (length-tab (s .tags) (tagAt s))
+    (sym (append-assoc (lineOf versionKey (newest .number)) (textOfLines (newest .head) (s .timeout ∷ s .join ∷ s .tags ∷ [])) (tagsText (tab (s .tags) (tagAt s)))))
+
+pub length-text : (s : Settings) → length (textIn newest (valueOf s)) ≡ length (headText (s .timeout) (s .join) (s .tags)) + length (tagsTo s (s .tags))
+length-text s = ap length (text-parts s) ∙ length-append (headText (s .timeout) (s .join) (s .tags)) (tagsTo s (s .tags))
 
 tags-none : (s : Settings) → tagsTo s 0 ≡ []
 unfolding tagsText flatMap tab
@@ -167,10 +167,6 @@ tags-none s = refl
 tags-more : (s : Settings) (k : ℕ) → tagsTo s (k + 1) ≡ tagsTo s k ++ placeText s k
 unfolding tagsText
 tags-more s k = flatMap-more (λ (t : Tag). tagText (t .address) (t .width)) k (tagAt s)
-
-tags-all : (s : Settings) → tagsTo s (s .tags) ≡ tagsText (valueOf s .tags)
-unfolding valueOf
-tags-all s = refl
 
 length-more : (s : Settings) (k : ℕ) → length (tagsTo s (k + 1)) ≡ length (tagsTo s k) + length (placeText s k)
 length-more s k = ap length (tags-more s k) ∙ length-append (tagsTo s k) (placeText s k)
@@ -182,8 +178,8 @@ longer s k (suc d) =
     let e : k + suc d ≡ k + d + 1 = omega arith in
     rw e (omega (arith, longer s k d, length-more s (k + d)))
 
-tags-some : (s : Settings) (k : ℕ) → k ≤ s .tags → length (tagsTo s k) ≤ length (tagsText (valueOf s .tags))
-tags-some s k h = let e : k + (s .tags - k) ≡ s .tags = omega arith in rw (e, tags-all s) at (longer s k (s .tags - k))
+tags-some : (s : Settings) (k : ℕ) → k ≤ s .tags → length (tagsTo s k) ≤ length (tagsTo s (s .tags))
+tags-some s k h = let e : k + (s .tags - k) ≡ s .tags = omega arith in rw e at (longer s k (s .tags - k))
 
 -- writing digits from the last one on: those that stand already, and the place of the next one
 pub record Digits (n at : ℕ) (before after : List ℕ) (left place : ℕ) : Type 0 where
@@ -267,7 +263,7 @@ measured-more {s} {size} {size′} {k} h w e =
 pub measured-all : {s : Settings} {size k : ℕ} → s .tags ≤ k → Measured s size k → size ≡ length (textIn newest (valueOf s))
 measured-all {s} {size} {k} h w =
     let e : k ≡ s .tags = omega (arith, w .within) in
-    let a = rw (e, tags-all s) at (w .all) in
+    let a = rw e at (w .all) in
     a ∙ sym (length-text s)
 
 -- one part behind another
@@ -294,11 +290,11 @@ laid-tag address width h x y = rw (tag-lines address width) (laid-then h x y)
 -- writing the tags: the first k stand
 pub record Written (s : Settings) (at : ℕ) (before after : List ℕ) (next k : ℕ) : Type 0 where
   pub within : k ≤ s .tags
-  pub room : at + length (tagsText (valueOf s .tags)) ≤ length before
+  pub room : at + length (tagsTo s (s .tags)) ≤ length before
   pub long : length after ≡ length before
   pub stands : Laid (tagsTo s k) at before after next
 
-pub written-none : (s : Settings) (at : ℕ) (b : List ℕ) → at + length (tagsText (valueOf s .tags)) ≤ length b → Written s at b b at 0
+pub written-none : (s : Settings) (at : ℕ) (b : List ℕ) → at + length (tagsTo s (s .tags)) ≤ length b → Written s at b b at 0
 written-none s at b h =
     record {
       within = omega arith;
@@ -316,14 +312,14 @@ written-more {s} {k = k} h l w x =
       stands = rw (tags-more s k) (laid-then (omega (arith, w .room)) (w .stands) x);
     }
 
-pub written-all : {s : Settings} {at : ℕ} {b a : List ℕ} {next k : ℕ} → s .tags ≤ k → Written s at b a next k → Laid (tagsText (valueOf s .tags)) at b a next
-written-all {s} {k = k} h w = let e : k ≡ s .tags = omega (arith, w .within) in rw (e, tags-all s) at (w .stands)
+pub written-all : {s : Settings} {at : ℕ} {b a : List ℕ} {next k : ℕ} → s .tags ≤ k → Written s at b a next k → Laid (tagsTo s (s .tags)) at b a next
+written-all {s} {k = k} h w = let e : k ≡ s .tags = omega (arith, w .within) in rw e at (w .stands)
 
 -- one tag more has its place
 pub tag-room : {s : Settings} {at : ℕ} {b a : List ℕ} {next k : ℕ} → k < s .tags → Written s at b a next k → next + length (placeText s k) ≤ length a
 tag-room {s} {k = k} h w = omega (arith, w .room, w .long, w .stands .behind, tags-some s (k + 1) (omega arith), length-more s k)
 
-pub laid-text : (s : Settings) {b m a : List ℕ} {next end : ℕ} → Laid (headText (s .timeout) (s .join) (s .tags)) 0 b m next → Laid (tagsText (valueOf s .tags)) next m a end → Laid (textIn newest (valueOf s)) 0 b a end
+pub laid-text : (s : Settings) {b m a : List ℕ} {next end : ℕ} → Laid (headText (s .timeout) (s .join) (s .tags)) 0 b m next → Laid (tagsTo s (s .tags)) next m a end → Laid (textIn newest (valueOf s)) 0 b a end
 laid-text s x y = rw (text-parts s) (laid-then (omega arith) x y)
 
 -- what writing comes to: an invalid value, a text that does not fit, the text

@@ -1,18 +1,19 @@
 -- What each function of the reader answers for a place in a text: a line's number, or a tag's numbers, with the place behind it.
 -- Assumes nothing.
-use Prim.Native.Nat.{ℕ, _+_, _-_, min}
-use mathlib.Core.Bool.{Bool, true, false, _&&_}
+use Prim.Native.Nat.{ℕ, _+_, _-_, _≤_, min}
+use mathlib.Core.Path.{_≡_}
+use mathlib.Core.Bool.{Bool, true, false, _&&_, cond, not}
 use mathlib.Core.Option.{Option, some, none}
 use mathlib.Core.List.{List, [], _∷_}
-use lib.ListN.{length, getD, replicate}
-use lib.Dec.{leb}
-use Rattle.laws.specs.Numbers.{mostTags}
+use lib.ListN.{length, getD, drop}
+use lib.Dec.{eqb, leb}
+use Rattle.laws.specs.Numbers.{mostTags, usualTimeout}
 use Rattle.settings.specs.Lines.{Numbered, behind, numberIn}
-use Rattle.settings.specs.Grammar.{Read, lastRegister}
+use Rattle.settings.specs.Grammar.{Value, Read, newest, lastRegister, readBehind}
 use Rattle.settings.specs.Grammar.Read.{got, wrong}
-use Rattle.settings.specs.declared.Settings.{Settings}
 use Rattle.settingstext.specs.declared.reading.LineRead.{LineRead}
 use Rattle.settingstext.specs.declared.reading.LineRead.the-variants.{Numbered as numberedAt, Wrong}
+use Rattle.settingstext.specs.declared.reading.Head.{Head}
 use Rattle.settingstext.specs.declared.reading.TagRead.{TagRead}
 use Rattle.settingstext.specs.declared.reading.TagRead.the-variants.{Tagged, WrongAt}
 
@@ -50,6 +51,17 @@ unfoldable pub placedTag : List ℕ → Read (List ℕ) → TagRead
 placedTag text (wrong k) = WrongAt k
 placedTag text (got ns r) = Tagged (getD ns 0 0) (getD ns 1 0) (length text - length r)
 
--- settings whose tag places are all 0
-abbrev pub blankOf : ℕ → ℕ → ℕ → Settings
-blankOf timeout join tags = record { timeout = timeout; join = join; tags = tags; addr = replicate mostTags 0; width = replicate mostTags 0 }
+-- a wrong line, with the usual numbers
+abbrev pub stoppedAt : ℕ → Head
+stoppedAt line = record { wrong = line; timeout = usualTimeout; join = 1; tags = 0; next = 0 }
+
+-- what the lines before the tags say of reading: the numbers, and where the rest of it begins; or the first wrong line, and no tags
+pub record Headed (whole : Read Value) (text : List ℕ) (h : Head) : Type 0 where
+  pub right : h .wrong ≡ 0 → whole ≡ readBehind newest (h .timeout ∷ h .join ∷ h .tags ∷ []) (drop (h .next) text)
+  pub stop : (h .wrong ≡ 0 → ⊥) → (whole ≡ wrong (h .wrong)) × (h .tags ≡ 0)
+  pub inside : h .next ≤ length text
+  pub few : h .tags ≤ mostTags
+
+-- the line that stopped the reader, or the next one where the text does not end
+unfoldable pub wrongLine : ℕ → ℕ → Bool → ℕ
+wrongLine stopped line ended = cond (eqb stopped 0 && not ended) line stopped

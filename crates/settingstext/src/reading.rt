@@ -1,15 +1,13 @@
 // From a settings text to the value: forward, each byte once.
 ghost use mathlib.Core.Path.{_≡_};
-ghost use mathlib.Core.List.{List, [], _∷_};
+ghost use mathlib.Core.List.{List, []};
 ghost use Prim.Native.Nat.{ℕ, _+_, _*_, _-_, _≤_, _<_, min};
 ghost use lib.ListN.{length, drop};
-ghost use Rattle.laws.specs.Numbers.{mostTags};
 ghost use Rattle.settings.specs.Lines.{behind, numberIn};
-ghost use Rattle.settings.specs.Grammar.{newest, readLines, readBehind, readIn, readText};
-ghost use Rattle.settings.specs.Grammar.Read.{wrong};
+ghost use Rattle.settings.specs.Grammar.{newest, readLines, readIn, readText};
 ghost use Rattle.settingstext.specs.TextRead.{reported};
 ghost use Rattle.settings.specs.Grammar.{kept};
-ghost use Rattle.settingstext.specs.Reading.{ceiling, found, capped, placed, within, lineBehind, lowest, placedTag, blankOf};
+ghost use Rattle.settingstext.specs.Reading.{ceiling, found, capped, placed, within, lineBehind, lowest, placedTag, stoppedAt, Headed, wrongLine};
 use settings::Settings;
 
 // What reading a text comes to: line 0 and the value, or the first wrong line and the usual value.
@@ -124,65 +122,32 @@ fn tag_at(text: &[u8], at: usize, line: u32, least: u32) -> TagRead
     }
 }
 
-// Settings whose tag places are all 0.
-fn blank(timeout: u32, join: u32, tags: u32) -> Settings
-    ensures { λ r. ⌜ r ≡ blankOf timeout join tags ⌝ }
+// The numbers of the lines before the tags and the place behind them; or a wrong line, and the usual numbers.
+struct Head {
+    wrong: u32,
+    timeout: u32,
+    join: u32,
+    tags: u32,
+    next: usize,
+}
+
+// A wrong line, with the usual numbers.
+fn stopped_at(line: u32) -> Head
+    ensures { λ r. ⌜ r ≡ stoppedAt line ⌝ }
 {
-    Settings {
-        timeout,
-        join,
-        tags,
-        addr: [0; laws::MOST_TAGS],
-        width: [0; laws::MOST_TAGS],
+    Head {
+        wrong: line,
+        timeout: laws::USUAL_TIMEOUT,
+        join: 1,
+        tags: 0,
+        next: 0,
     }
 }
 
-// A wrong line, with the usual value.
-fn wrong_at(line: u32) -> ReadText
-    ensures { λ r. ⌜ r ≡ reported (wrong line) ⌝ }
-{
-    let settings = blank(laws::USUAL_TIMEOUT, 1, 0);
-    ReadText { line, settings }
-}
-
-// The tags behind the four lines before them, and the end of the text.
-fn read_behind(text: &[u8], start: usize, timeout: u32, join: u32, tags: u32) -> ReadText
-    requires { ⌜ (start ≤ length (now text)) × (tags ≤ mostTags) ⌝ }
-    ensures { λ r. ⌜ r ≡ reported (readBehind newest (timeout ∷ join ∷ tags ∷ []) (drop start (now (text .entry)))) ⌝ }
-{
-    let mut settings = blank(timeout, join, tags);
-    let count = tags as usize;
-    let mut at = start;
-    let mut line: u32 = 5;
-    let mut least: u32 = 0;
-    let mut k = 0;
-    while k < count {
-        match tag_at(text, at, line, least) {
-            TagRead::WrongAt(first) => {
-                return wrong_at(first);
-            }
-            TagRead::Tagged(address, width, next) => {
-                settings.addr[k] = address as u16;
-                settings.width[k] = width as u16;
-                // One register for each 16 bits.
-                least = address + width / 16;
-                at = next;
-            }
-        }
-        line += 2;
-        k += 1;
-    }
-    if at == text.len() {
-        ReadText { line: 0, settings }
-    } else {
-        wrong_at(line)
-    }
-}
-
-// The lines behind the version line.
-fn read_in(text: &[u8], start: usize) -> ReadText
+// The lines behind the version line and before the tags.
+fn read_in(text: &[u8], start: usize) -> Head
     requires { ⌜ start ≤ length (now text) ⌝ }
-    ensures { λ r. ⌜ r ≡ reported (readIn newest (drop start (now (text .entry)))) ⌝ }
+    ensures { λ r. ⌜ Headed (readIn newest (drop start (now (text .entry)))) (now (text .entry)) r ⌝ }
 {
     let LineRead::Numbered(timeout, third) = line_at(
         text,
@@ -191,21 +156,27 @@ fn read_in(text: &[u8], start: usize) -> ReadText
         laws::LEAST_TIMEOUT,
         laws::MOST_TIMEOUT,
     ) else {
-        return wrong_at(2);
+        return stopped_at(2);
     };
     let LineRead::Numbered(join, fourth) = line_at(text, third, b"join=", 0, 1) else {
-        return wrong_at(3);
+        return stopped_at(3);
     };
     let LineRead::Numbered(tags, next) = line_at(text, fourth, b"tags=", 0, laws::MOST_TAGS as u32)
     else {
-        return wrong_at(4);
+        return stopped_at(4);
     };
-    read_behind(text, next, timeout, join, tags)
+    Head {
+        wrong: 0,
+        timeout,
+        join,
+        tags,
+        next,
+    }
 }
 
-// The value that a text is, or its first wrong line with the usual value.
-pub fn read_text(text: &[u8]) -> ReadText
-    ensures { λ r. ⌜ r ≡ reported (readText (now (text .entry))) ⌝ }
+// The lines before the tags.
+fn read_head(text: &[u8]) -> Head
+    ensures { λ r. ⌜ Headed (readText (now (text .entry))) (now (text .entry)) r ⌝ }
 {
     let LineRead::Numbered(_, next) = line_at(
         text,
@@ -214,7 +185,67 @@ pub fn read_text(text: &[u8]) -> ReadText
         laws::NEWEST_VERSION,
         laws::NEWEST_VERSION,
     ) else {
-        return wrong_at(1);
+        return stopped_at(1);
     };
     read_in(text, next)
+}
+
+// The first wrong line, if any: the one that stopped the reader, or the next one where the text does not end.
+fn first_wrong(stopped: u32, line: u32, ended: bool) -> u32
+    ensures { λ r. ⌜ r ≡ wrongLine stopped line ended ⌝ }
+{
+    if (stopped == 0) & !ended {
+        line
+    } else {
+        stopped
+    }
+}
+
+// The value that a text is, or its first wrong line with the usual value. Each column is there once, is changed in place and leaves by one way, so that it is copied once.
+pub fn read_text(text: &[u8]) -> ReadText
+    ensures { λ r. ⌜ r ≡ reported (readText (now (text .entry))) ⌝ }
+{
+    let mut head = read_head(text);
+    let count = head.tags as usize;
+    let mut addr = [0u16; laws::MOST_TAGS];
+    let mut width = [0u16; laws::MOST_TAGS];
+    let mut stopped = head.wrong;
+    let mut at = head.next;
+    let mut line: u32 = 5;
+    let mut least: u32 = 0;
+    let mut k = 0;
+    while k < count {
+        match tag_at(text, at, line, least) {
+            TagRead::WrongAt(first) => {
+                stopped = first;
+                break;
+            }
+            TagRead::Tagged(address, bits, next) => {
+                addr[k] = address as u16;
+                width[k] = bits as u16;
+                // One register for each 16 bits.
+                least = address + bits / 16;
+                at = next;
+            }
+        }
+        line += 2;
+        k += 1;
+    }
+    let wrong = first_wrong(stopped, line, at == text.len());
+    if wrong != 0 {
+        head = stopped_at(wrong);
+        addr = [0u16; laws::MOST_TAGS];
+        width = [0u16; laws::MOST_TAGS];
+    }
+    let settings = Settings {
+        timeout: head.timeout,
+        join: head.join,
+        tags: head.tags,
+        addr,
+        width,
+    };
+    ReadText {
+        line: wrong,
+        settings,
+    }
 }

@@ -6,10 +6,9 @@ ghost use lib.ListN.{length};
 ghost use Rattle.laws.specs.Numbers.{mostTags};
 ghost use Rattle.settings.specs.Lines.{digitZero, decimal, lineOf};
 ghost use Rattle.settings.specs.Grammar.{newest, textIn};
-ghost use Rattle.settings.specs.Values.{valueOf};
+ghost use Rattle.settings.specs.Values.{settings, listed, valueOf};
 ghost use Rattle.settingstext.specs.TextWritten.{writing, writtenTo};
 ghost use Rattle.settingstext.specs.Parts.{Laid, headText, tagText, tagsText};
-use settings::Settings;
 use values::is_valid;
 
 // What writing comes to: the text's length, or a refusal: the buffer is too short, the value is invalid.
@@ -53,14 +52,20 @@ fn tag_length(address: u16, width: u16) -> usize
     line_length(b"addr", address as u32) + line_length(b"width", width as u32)
 }
 
-fn text_length(s: Settings) -> usize
-    requires { ⌜ s .tags ≤ mostTags ⌝ }
-    ensures { λ r. ⌜ r ≡ length (textIn newest (valueOf s)) ⌝ }
+fn text_length<'a>(
+    timeout: u32,
+    join: u32,
+    tags: u32,
+    addr: &'a [u16; laws::MOST_TAGS],
+    width: &'a [u16; laws::MOST_TAGS],
+) -> usize
+    requires { ⌜ tags ≤ mostTags ⌝ }
+    ensures { λ r. ⌜ r ≡ length (textIn newest (valueOf (settings timeout join tags (now (addr .entry)) (now (width .entry))))) ⌝ }
 {
-    let mut size = head_length(s.timeout, s.join, s.tags);
+    let mut size = head_length(timeout, join, tags);
     let mut k: usize = 0;
-    while k < s.tags as usize {
-        size += tag_length(s.addr[k], s.width[k]);
+    while k < tags as usize {
+        size += tag_length(addr[k], width[k]);
         k += 1;
     }
     size
@@ -138,29 +143,42 @@ fn write_tag(address: u16, width: u16, at: usize, text: &mut [u8]) -> usize
     write_line(b"width", width as u32, second, text)
 }
 
-fn write_tags(s: Settings, at: usize, text: &mut [u8]) -> usize
-    requires { ⌜ (s .tags ≤ mostTags) × (at + length (tagsText (valueOf s .tags)) ≤ length (now text)) ⌝ }
-    ensures { λ r. ⌜ Laid (tagsText (valueOf s .tags)) at (now (text .entry)) (now (text .exit)) r ⌝ }
+fn write_tags<'a>(
+    tags: u32,
+    addr: &'a [u16; laws::MOST_TAGS],
+    width: &'a [u16; laws::MOST_TAGS],
+    at: usize,
+    text: &mut [u8],
+) -> usize
+    requires { ⌜ (tags ≤ mostTags) × (at + length (tagsText (listed tags (now addr) (now width))) ≤ length (now text)) ⌝ }
+    ensures { λ r. ⌜ Laid (tagsText (listed tags (now (addr .entry)) (now (width .entry)))) at (now (text .entry)) (now (text .exit)) r ⌝ }
 {
     let mut next = at;
     let mut k: usize = 0;
-    while k < s.tags as usize {
-        next = write_tag(s.addr[k], s.width[k], next, text);
+    while k < tags as usize {
+        next = write_tag(addr[k], width[k], next, text);
         k += 1;
     }
     next
 }
 
-// The text of a valid value. The length is known before the first byte is written, so a refusal touches nothing.
-pub fn write_text(from: Settings, text: &mut [u8]) -> Wrote
-    ensures { λ r. ⌜ writing r (now (text .exit)) ≡ writtenTo (valueOf from) (now (text .entry)) ⌝ }
+// The text of a valid value whose columns are lent. The length is known before the first byte is written, so a refusal touches nothing.
+pub fn write_text<'a>(
+    timeout: u32,
+    join: u32,
+    tags: u32,
+    addr: &'a [u16; laws::MOST_TAGS],
+    width: &'a [u16; laws::MOST_TAGS],
+    text: &mut [u8],
+) -> Wrote
+    ensures { λ r. ⌜ writing r (now (text .exit)) ≡ writtenTo (valueOf (settings timeout join tags (now (addr .entry)) (now (width .entry)))) (now (text .entry)) ⌝ }
 {
-    if !is_valid(from) {
+    if !is_valid(timeout, join, tags, addr, width) {
         return Wrote::Invalid;
     }
-    if text.len() < text_length(from) {
+    if text.len() < text_length(timeout, join, tags, addr, width) {
         return Wrote::TooShort;
     }
-    let at = write_head(from.timeout, from.join, from.tags, text);
-    Wrote::Text(write_tags(from, at, text))
+    let at = write_head(timeout, join, tags, text);
+    Wrote::Text(write_tags(tags, addr, width, at, text))
 }

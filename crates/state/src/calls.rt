@@ -86,7 +86,11 @@ fn freshened(
         &mut join,
         &mut tagged,
         &mut tags,
-        from,
+        from.timeout,
+        from.join,
+        from.tags,
+        &from.addr,
+        &from.width,
     );
     let state = crate::gather(
         ids,

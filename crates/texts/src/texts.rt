@@ -13,7 +13,14 @@ fn written(s: Settings, buffer: &mut [u8], lent: usize) -> usize {
     if buffer.len() < lent {
         return laws::MOST_TEXT;
     }
-    match settingstext::writing::write_text(s, &mut buffer[0..lent]) {
+    match settingstext::writing::write_text(
+        s.timeout,
+        s.join,
+        s.tags,
+        &s.addr,
+        &s.width,
+        &mut buffer[0..lent],
+    ) {
         Wrote::Text(size) => size,
         Wrote::TooShort => 0,
         Wrote::Invalid => laws::MOST_TEXT,

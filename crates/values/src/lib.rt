@@ -4,11 +4,11 @@ pub mod tagwords;
 ghost use mathlib.Core.Path.{_≡_};
 ghost use mathlib.Core.Bool.{_&&_};
 ghost use mathlib.Core.List.{[], _∷_};
-ghost use Prim.Native.Nat.{_+_, min};
+ghost use Prim.Native.Nat.{_+_, _<_, min};
 ghost use lib.Dec.{leb};
-ghost use Rattle.laws.specs.Numbers.{mostTags};
+ghost use Rattle.laws.specs.Numbers.{mostTags, addresses};
 ghost use Rattle.settings.specs.Grammar.{valid, lastRegister, rightTimeout, rightJoin, rightTags, rightWidth};
-ghost use Rattle.settings.specs.Values.{valueOf, same};
+ghost use Rattle.settings.specs.Values.{settings, valueOf, same};
 use settings::Settings;
 
 // The rules of the lines behind the version line.
@@ -27,9 +27,9 @@ fn tag_right(from: u32, address: u16, width: u16) -> bool
         & ((width == 16) | ((width == 32) & (address as u32 + 1 < laws::ADDRESSES)))
 }
 
-// The first address above a tag.
+// The first address above a tag; and that a column's number is an address.
 fn above(address: u16, width: u16) -> u32
-    ensures { λ r. ⌜ r ≡ lastRegister (address ∷ width ∷ []) + 1 ⌝ }
+    ensures { λ r. ⌜ (r ≡ lastRegister (address ∷ width ∷ []) + 1) × (address < addresses) ⌝ }
 {
     if width == 32 {
         address as u32 + 2
@@ -38,21 +38,25 @@ fn above(address: u16, width: u16) -> u32
     }
 }
 
-// Every number follows the rule of its line.
-pub fn is_valid(s: Settings) -> bool
-    ensures { λ r. ⌜ r ≡ valid (valueOf s) ⌝ }
+// Every number of a value whose columns are lent follows the rule of its line.
+pub fn is_valid<'a>(
+    timeout: u32,
+    join: u32,
+    tags: u32,
+    addr: &'a [u16; laws::MOST_TAGS],
+    width: &'a [u16; laws::MOST_TAGS],
+) -> bool
+    ensures { λ r. ⌜ r ≡ valid (valueOf (settings timeout join tags (now (addr .entry)) (now (width .entry)))) ⌝ }
 {
-    if !head_right(s.timeout, s.join, s.tags) {
+    if !head_right(timeout, join, tags) {
         return false;
     }
     let mut right = true;
     let mut from: u32 = 0;
     let mut k: usize = 0;
-    while k < s.tags as usize {
-        let address = s.addr[k];
-        let width = s.width[k];
-        right = right & tag_right(from, address, width);
-        from = above(address, width);
+    while k < tags as usize {
+        right = right & tag_right(from, addr[k], width[k]);
+        from = above(addr[k], width[k]);
         k += 1;
     }
     right

@@ -1,12 +1,10 @@
 // The word that the state keeps of a tag: tag words of a settings value, and a settings value of tag words.
 ghost use mathlib.Core.Path.{_≡_};
-ghost use mathlib.Core.Bool.{true};
 ghost use mathlib.Core.List.{map};
 ghost use Prim.Native.Nat.{_≤_};
 ghost use lib.ListN.{length, take};
 ghost use Rattle.laws.specs.Numbers.{mostTags};
-ghost use Rattle.settings.specs.Grammar.{valid};
-ghost use Rattle.settings.specs.Values.{valueOf, settingsOf, padded};
+ghost use Rattle.settings.specs.Values.{listed, settingsOf, padded};
 ghost use Rattle.settings.specs.TagWords.{kindOf, kindNumber, kindFrom, widthOf, wordOf, tagOf};
 use bcd::Kind;
 use settings::Settings;
@@ -60,14 +58,19 @@ pub fn tag_kind(word: u64) -> Kind
 }
 
 // The words of the listed tags, and 0 in every place beyond.
-pub fn fill_words(s: Settings, words: &mut [u64; laws::MOST_TAGS])
-    requires { ⌜ valid (valueOf s) ≡ true ⌝ }
-    ensures { λ r. ⌜ now (words .exit) ≡ padded (map wordOf (valueOf s .tags)) ⌝ }
+pub fn fill_words<'a>(
+    tags: u32,
+    addr: &'a [u16; laws::MOST_TAGS],
+    width: &'a [u16; laws::MOST_TAGS],
+    words: &mut [u64; laws::MOST_TAGS],
+)
+    requires { ⌜ tags ≤ mostTags ⌝ }
+    ensures { λ r. ⌜ now (words .exit) ≡ padded (map wordOf (listed tags (now (addr .entry)) (now (width .entry)))) ⌝ }
 {
     *words = [0u64; laws::MOST_TAGS];
     let mut k: usize = 0;
-    while k < s.tags as usize {
-        words[k] = tag_word(s.addr[k], s.width[k]);
+    while k < tags as usize {
+        words[k] = tag_word(addr[k], width[k]);
         k += 1;
     }
 }

@@ -27,12 +27,19 @@ pub extern "C" fn zb_settings_read(text: &[u8]) -> SettingsRead
     reports::read(text)
 }
 
-// Writes the text of a settings value: its length, refusal 10 for an invalid value, or refusal 1 for a short buffer.
+// Writes the text of a settings value that is lent: its length, refusal 10 for an invalid value, or refusal 1 for a short buffer.
 #[no_mangle]
-pub extern "C" fn zb_settings_write(from: Settings, text: &mut [u8]) -> Report
-    ensures { λ r. ⌜ textSeen r (now (text .exit)) ≡ writeTold (writtenTo (valueOf from) (now (text .entry))) ⌝ }
+pub extern "C" fn zb_settings_write(from: &Settings, text: &mut [u8]) -> Report
+    ensures { λ r. ⌜ textSeen r (now (text .exit)) ≡ writeTold (writtenTo (valueOf (now (from .entry))) (now (text .entry))) ⌝ }
 {
-    reports::write(from, text)
+    reports::write(
+        &from.timeout,
+        &from.join,
+        &from.tags,
+        &from.addr,
+        &from.width,
+        text,
+    )
 }
 
 // How many bytes a device has.

@@ -10,10 +10,10 @@ ghost use mathlib.Core.List.{[]};
 ghost use Rattle.machine.specs.Calls.Call.{attach as attaches, detach as detaches, request as asks, reply as replies, tick as ticks, linkLost};
 ghost use Rattle.device.specs.Device.{Made, Served, Freshly, Awaited};
 
-// Makes the device fresh from a settings value, whatever it was. An invalid value is refusal 10, and the device then has the usual one.
+// Makes the device fresh from a settings value that is lent, whatever it was. An invalid value is refusal 10, and the device then has the usual one.
 #[no_mangle]
-pub extern "C" fn zb_fresh(st: &mut Device, from: Settings) -> Report
-    ensures { λ r. ⌜ Freshly from r (now (st .exit)) ⌝ }
+pub extern "C" fn zb_fresh(st: &mut Device, from: &Settings) -> Report
+    ensures { λ r. ⌜ Freshly (now (from .entry)) r (now (st .exit)) ⌝ }
 {
     cores::fresh(
         &mut st.ids,
@@ -31,7 +31,11 @@ pub extern "C" fn zb_fresh(st: &mut Device, from: Settings) -> Report
         &mut st.join,
         &mut st.tagged,
         &mut st.tags,
-        from,
+        &from.timeout,
+        &from.join,
+        &from.tags,
+        &from.addr,
+        &from.width,
     )
 }
 

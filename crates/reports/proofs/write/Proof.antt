@@ -1,8 +1,6 @@
 -- `reports::write` meets its contract: each case of what writing comes to.
 -- Assumes nothing.
 use native.Mathlib.Omega.{arith}
-use denote.Ref.{now}
-use Rattle.settings.specs.Values.{valueOf}
 use Rattle.reports.specs.Reports.{wroteTold}
 use Rattle.reports.proofs.ReportLaws.{written-low, write-is}
 use borrow.Author.Needs.{needs}
@@ -11,8 +9,7 @@ use Rattle.reports.proofs.write.Tie as tie
 
 cast-said : tie.Need-cast-said
 cast-said c =
-    let a = c .before .before .before .before .before .before .before .before .args in
-    let low = written-low (valueOf (a .from)) (now (a .text)) _ _ _ (c .before .before .before .before .before .write-text .ensures) (c .before .size .given .1) in
+    let low = written-low _ _ _ _ _ (c .before .before .before .before .before .write-text .ensures) (c .before .size .given .1) in
     record { fits = omega arith }
 
 returns : tie.Need-returns

@@ -1,17 +1,15 @@
 -- `proxy::making::adopt` meets its contract: what is written keeps the value.
 -- Assumes nothing.
-use Rattle.settings.specs.Values.{valueOf}
-use Rattle.proxy.proofs.MakingLaws.{kept-value, listed-tags}
-use borrow.Author.Needs.{needs}
+use Rattle.settings.proofs.ValueLaws.{valid-few}
+use Rattle.proxy.proofs.MakingLaws.{kept-settings}
 use Rattle.proxy.proofs.making.adopt.Statement.{statement}
 use Rattle.proxy.proofs.making.adopt.Tie as tie
 
+fill-words-requires : tie.Need-fill-words-requires
+fill-words-requires c κs = valid-few _ (c .before .pre)
+
 returns : tie.Need-returns
-unfolding valueOf
-returns c =
-    let b = c .before .before in
-    let s = b .args .value in
-    kept-value (valueOf s) (s .tags) _ (b .pre) (listed-tags s) (c .fill-words .ensures)
+returns c = kept-settings _ _ (c .before .before .pre) (c .fill-words .ensures)
 
 pub adopt-spec : {M : Type 1} → statement M
-adopt-spec = tie.close (tie.spec (λ c κs. search needs) returns)
+adopt-spec = tie.close (tie.spec fill-words-requires returns)

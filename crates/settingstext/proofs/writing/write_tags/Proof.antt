@@ -2,21 +2,21 @@
 -- Assumes nothing.
 use Prim.Native.Nat.{_≤_, _-_}
 use native.Mathlib.Omega.{arith}
-use denote.Ref.{now}
 use Rattle.laws.specs.Numbers.{mostTags}
+use Rattle.settings.specs.Values.{settings}
 use Rattle.settingstext.proofs.WritingLaws.{Written, written-none, written-more, written-all, tag-room}
 use borrow.Author.Needs.{needs}
 use Rattle.settingstext.proofs.writing.write_tags.Statement.{statement}
 use Rattle.settingstext.proofs.writing.write_tags.Tie as tie
 
 abbrev Inv-loop : tie.InvT-loop
-Inv-loop at text₀ s next₀ k₀ text next k = (s .tags ≤ mostTags) × Written s at text₀ text next k
+Inv-loop tags addr width at text₀ next₀ k₀ text next k = (tags ≤ mostTags) × Written (settings 0 0 tags addr width) at text₀ text next k
 
 abbrev μ-loop : tie.MeasureT-loop
-μ-loop at text₀ s next₀ k₀ text next k = s .tags - k
+μ-loop tags addr width at text₀ next₀ k₀ text next k = tags - k
 
 loop-holds : tie.Need-loop-holds Inv-loop μ-loop
-loop-holds c = (search needs, written-none (c .before .args .t1) (c .before .args .at) (now (c .before .args .text)) (c .before .pre .1))
+loop-holds c = (search needs, written-none _ _ _ (c .before .pre .1))
 
 write-tag-requires : tie.Need-write-tag-requires Inv-loop μ-loop
 write-tag-requires c κs = tag-room (omega arith) (c .before .before .before .before .loop .inv .1)
@@ -33,5 +33,5 @@ returns c = written-all (omega arith) (c .before .loop .inv .1)
 pub write-tags-spec : {M : Type 1} → statement M
 write-tags-spec =
     tie.close
-    (tie.spec Inv-loop μ-loop loop-holds (λ c. search needs) (λ c. search needs) (λ c. search needs) (λ c. search needs) (λ c. search needs)
+    (tie.spec Inv-loop μ-loop loop-holds (λ c. search needs) (λ c. search needs) (λ c. search needs) (λ c. search needs)
     write-tag-requires (λ c. search needs) (λ c. search needs) loop-again same-length returns)

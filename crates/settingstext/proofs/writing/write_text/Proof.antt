@@ -3,8 +3,6 @@
 use mathlib.Core.Path.{sym, _∙_}
 use native.Mathlib.Omega.{arith}
 use borrow.Author.Tests.{not-true, not-false}
-use denote.Ref.{now}
-use Rattle.settings.specs.Values.{valueOf}
 use Rattle.settings.proofs.ValueLaws.{valid-few}
 use Rattle.settingstext.proofs.WritingLaws.{length-text, laid-text, wrote-invalid, wrote-short, wrote-text}
 use borrow.Author.Needs.{needs}
@@ -12,26 +10,24 @@ use Rattle.settingstext.proofs.writing.write_text.Statement.{statement}
 use Rattle.settingstext.proofs.writing.write_text.Tie as tie
 
 returns : tie.Need-returns
-returns c = let a = c .before .before .before .args in wrote-invalid (valueOf (a .from)) (now (a .text)) (c .before .is-valid .ensures) (not-true _ (c .if1 .taken))
+returns c = wrote-invalid _ _ (c .before .is-valid .ensures) (not-true _ (c .if1 .taken))
 
 text-length-requires : tie.Need-text-length-requires
-text-length-requires c κs = valid-few (c .before .before .before .args .from) (sym (c .before .is-valid .ensures) ∙ not-false _ (c .if1 .left))
+text-length-requires c κs = valid-few _ (sym (c .before .is-valid .ensures) ∙ not-false _ (c .if1 .left))
 
 returns-2 : tie.Need-returns-2
 returns-2 c =
     let right = c .before .before in
-    let a = right .before .before .before .args in
-    wrote-short (valueOf (a .from)) (now (a .text)) (right .before .is-valid .ensures) (not-false _ (right .if1 .left)) (c .before .text-length .ensures) (c .if2 .taken)
+    wrote-short _ _ (right .before .is-valid .ensures) (not-false _ (right .if1 .left)) (c .before .text-length .ensures) (c .if2 .taken)
 
 write-head-requires : tie.Need-write-head-requires
-write-head-requires c κs = omega (arith, length-text (c .before .before .before .before .before .before .args .from), c .before .before .text-length .ensures, c .before .if2 .left)
+write-head-requires c κs = omega (arith, c .before .before .text-length .ensures ∙ length-text _, c .before .if2 .left)
 
 write-tags-requires : tie.Need-write-tags-requires
 write-tags-requires c κs =
     let fits = c .before .before .before .before .before in
     let right = fits .before .before in
-    let from = right .before .before .before .args .from in
-    (valid-few from (sym (right .before .is-valid .ensures) ∙ not-false _ (right .if1 .left)), omega (arith, length-text from, fits .before .text-length .ensures, fits .if2 .left))
+    (valid-few _ (sym (right .before .is-valid .ensures) ∙ not-false _ (right .if1 .left)), omega (arith, fits .before .text-length .ensures ∙ length-text _, fits .if2 .left))
 
 returns-3 : tie.Need-returns-3
 returns-3 c =
@@ -39,8 +35,7 @@ returns-3 c =
     let head = tags .before .before .before .before in
     let fits = head .before .before in
     let right = fits .before .before in
-    let from = right .before .before .before .args .from in
-    wrote-text (valueOf from) (right .before .is-valid .ensures) (not-false _ (right .if1 .left)) (fits .before .text-length .ensures) (fits .if2 .left) (laid-text from (head .write-head .ensures) (tags .write-tags .ensures))
+    wrote-text _ (right .before .is-valid .ensures) (not-false _ (right .if1 .left)) (fits .before .text-length .ensures) (fits .if2 .left) (laid-text _ (head .write-head .ensures) (tags .write-tags .ensures))
 
 pub write-text-spec : {M : Type 1} → statement M
 write-text-spec =
