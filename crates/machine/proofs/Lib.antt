@@ -15,4 +15,5 @@ pub mod Histories
 pub mod StateLaws
 pub mod TickLaws
 pub mod FrameOfParty
+pub mod ClosedLaws
 pub mod Claims
