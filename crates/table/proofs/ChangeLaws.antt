@@ -16,7 +16,7 @@ use Rattle.pdu.specs.Replies.{What}
 use Rattle.pdu.specs.Words.{whatOf}
 use Rattle.book.specs.Book.{Party, Live, book, entry, added, struck, isOf, without, at, apply}
 use Rattle.book.specs.Book.Move.{join, issue, reply, strike}
-use Rattle.machine.specs.Machine.{Note, rules}
+use Rattle.machine.specs.Machine.{Note, opened, rules}
 use Rattle.table.specs.Columns.{Columns, columns, party, partiesAt, entryAt, tableOf, bookOf, Sound}
 use Rattle.table.specs.Changes.{Joined, Struck, reach, blank}
 use Rattle.table.proofs.EntryLaws.{table-at, table-set, withParties, parties-sound, freedAt, freed-table, freed-sound, blank-sound}
@@ -32,8 +32,8 @@ regrouped-at g c ns cs os k e = rw e (⊎-elim (λ t. rw t) (λ t. rw t) (true-o
 module _ (v : Value) (x t : ℕ) (c : Columns) (s : Sound c) where
   -- A table with a new entry is the book after its issue, with the cursor behind its id.
   pub issue-is : (c′ : Columns) (place id word deadline client original : ℕ)
-      → tableOf c′ ≡ set (tableOf c) place (some (entry id (whatOf word) client tt deadline (party client original ∷ [])))
-      → bookOf v c′ (turn ids (id + 1)) t ≡ apply rules (bookOf v c x t) (issue place id (whatOf word) tt deadline (party client original))
+      → tableOf c′ ≡ set (tableOf c) place (some (entry id (whatOf word) client opened deadline (party client original ∷ [])))
+      → bookOf v c′ (turn ids (id + 1)) t ≡ apply rules (bookOf v c x t) (issue place id (whatOf word) opened deadline (party client original))
   issue-is c′ place id word deadline client original e = ap (λ m. book v m (turn ids (id + 1)) t) e
 
   module _ (place : ℕ) (p : Party) (ns cs os : List ℕ) (low : place < places) (j : Joined place p (c .counts) (c .clients) (c .originals) ns cs os) where
