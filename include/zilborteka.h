@@ -93,7 +93,7 @@ enum {
     ZB_REFUSED_FRAME = 4,    /* request or reply: size not 8 to 260, protocol not 0, or length field not size - 6;
                                 split, stream: the header is wrong */
     ZB_REFUSED_FUNCTION = 5, /* request: function 0 or 128 to 255 */
-    ZB_REFUSED_LENGTH = 6,   /* the PDU's length is wrong for request 03, 04, 06 or 16 */
+    ZB_REFUSED_LENGTH = 6,   /* the PDU's length is wrong for request 01 to 06, 15 or 16 */
     ZB_REFUSED_UNKNOWN = 7,  /* the reply's id is not live */
     ZB_REFUSED_MISMATCH = 8, /* the reply's id is live but it does not answer that request; the entry stays */
     ZB_REFUSED_ATTACHED = 9, /* attach of an attached client */

@@ -1,4 +1,4 @@
-/* Shows that the archive and a model in plain C, written from document 01 alone, agree on over a million generated
+/* Shows that the archive and a model in plain C, written from documents 01 and 02 alone, agree on over a million generated
    calls, in every field, byte and number, and that the ledger of demand 3 adds up; then prints what was reached.
    Arguments: the seed, and how many times the sessions are gone through. */
 #include "dice.h"

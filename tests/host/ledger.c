@@ -120,18 +120,22 @@ static void accept(ledger_entry *e, uint32_t client, uint64_t now, const uint8_t
 /* The live entries that ask the same as the read in `frame`, by why they can or cannot be joined. */
 typedef struct {
     uint32_t joinable, full, due;
+    uint32_t otherwise; /* of 01 for 02, and of 02 for 01: they cannot be joined */
     const ledger_entry *smallest, *first_issued;
 } equals;
 
 static equals equal_reads(uint64_t now, const uint8_t *frame, size_t size)
 {
     equals q = {0};
-    if (!ledger.join || size != 12 || (frame[7] != 3 && frame[7] != 4))
+    if (!ledger.join || size != 12 || frame[7] < 1 || frame[7] > 4)
         return q;
     for (uint32_t n = 0; n < ledger.lives; n++) {
         const ledger_entry *e = &ledger.live[n];
-        if (e->unit != frame[6] || e->function != frame[7] || e->start != (frame[8] << 8 | frame[9])
+        if (e->unit != frame[6] || e->start != (frame[8] << 8 | frame[9])
             || e->quantity != (frame[10] << 8 | frame[11]))
+            continue;
+        q.otherwise += frame[7] < 3 && e->function == 3 - frame[7];
+        if (e->function != frame[7])
             continue;
         q.due += is_due(e, now);
         q.full += !is_due(e, now) && e->parties == PARTIES;
@@ -207,21 +211,37 @@ static void joined(uint32_t client, uint64_t now, const uint8_t *frame, zb_answe
         reached(REACHED_ROOM_USED_AGAIN);
     if (ledger.lives == ZB_PLACES)
         reached(REACHED_JOINED_WHEN_FULL);
+    if (e->function < 3)
+        reached(REACHED_BITS_JOINED);
     accept(e, client, now, frame);
 }
 
-static void got_exception(zb_answer a)
+static bool is_of_bits(uint8_t function)
+{
+    return function == 1 || function == 2 || function == 5 || function == 15;
+}
+
+static void got_exception(uint8_t function, zb_answer a)
 {
     if (a.code == 2)
-        reached(REACHED_EXCEPTION_02);
+        reached(is_of_bits(function) ? REACHED_BITS_02 : REACHED_EXCEPTION_02);
     if (a.code == 3)
-        reached(REACHED_EXCEPTION_03);
+        reached(function == 5 ? REACHED_COIL_03 : is_of_bits(function) ? REACHED_BITS_03 : REACHED_EXCEPTION_03);
     if (a.code != 4)
         return;
     reached(REACHED_EXCEPTION_04);
     reached(REACHED_BEYOND_THE_PLACES);
     if (ledger.lives != ZB_PLACES)
         pair_differs("ledger: exception 04 while a place is free");
+}
+
+/* Coils and discrete inputs pass unchanged behind the id, the bits past the quantity too, and no tag is counted. */
+static void passes(const uint8_t *frame, zb_answer a)
+{
+    if (a.partial || a.value)
+        pair_differs("ledger: a tag was counted in a frame of bits");
+    if (memcmp(pair_out() + 2, frame + 2, a.length - 2) != 0)
+        pair_differs("ledger: a frame of bits was changed");
 }
 
 static void raw_counts_of_request(uint8_t function, zb_answer a)
@@ -250,7 +270,7 @@ void ledger_request(uint32_t client, uint64_t now, const uint8_t *frame, size_t 
     }
     ledger.clock = now;
     if (a.outcome == ZB_EXCEPTION)
-        got_exception(a);
+        got_exception(frame[7], a);
     if (a.outcome == ZB_EXCEPTION && a.code != 4)
         return;
     equals q = equal_reads(now, frame, size);
@@ -266,6 +286,12 @@ void ledger_request(uint32_t client, uint64_t now, const uint8_t *frame, size_t 
         return;
     if (q.full)
         reached(REACHED_BEYOND_THE_PARTIES);
+    if (is_of_bits(frame[7]))
+        passes(frame, a);
+    if (frame[7] == 15 && frame[10] == 7 && frame[11] == 0xB0)
+        reached(REACHED_MOST_COILS);
+    if (q.otherwise)
+        reached(REACHED_OTHER_TABLE);
     raw_counts_of_request(frame[7], a);
     issued(client, now, frame, size, a);
 }
@@ -318,10 +344,20 @@ static void raw_counts_of_reply(uint8_t function, zb_answer a)
         reached(REACHED_BOTH_RAW);
 }
 
+/* An echo of 05 that differs from the request in nothing but the value. */
+static void echo_refused(const uint8_t *frame, zb_answer a)
+{
+    const ledger_entry *e = a.refusal == ZB_REFUSED_MISMATCH ? live((uint32_t)(frame[0] << 8 | frame[1])) : NULL;
+    if (e && e->function == 5 && frame[7] == 5 && frame[6] == e->unit && (frame[8] << 8 | frame[9]) == e->start
+        && frame[4] == 0 && frame[5] == 6)
+        reached(REACHED_ECHO_VALUE);
+}
+
 void ledger_reply(uint64_t now, const uint8_t *frame, zb_answer a)
 {
     if (a.refusal) {
         why_refused(0, now, a);
+        echo_refused(frame, a);
         return;
     }
     ledger.clock = now;
@@ -332,6 +368,10 @@ void ledger_reply(uint64_t now, const uint8_t *frame, zb_answer a)
         reached(REACHED_LATE_REPLY);
     if (frame[7] >= 128)
         reached(REACHED_CONTROLLER_EXCEPTION);
+    if (is_of_bits(e->function))
+        passes(frame, a);
+    if (frame[7] < 3 && e->quantity == 2000)
+        reached(REACHED_MOST_BITS);
     raw_counts_of_reply(frame[7], a);
     end_entry(e, a, BY_REPLY);
 }

@@ -215,6 +215,45 @@ static size_t make_any_read(uint8_t *frame, const zb_settings *s)
     return make_read(frame, function, some_start(s), quantity);
 }
 
+static uint32_t bytes_for_bits(uint32_t bits)
+{
+    return bits / 8 + (bits % 8 != 0);
+}
+
+static size_t make_bits_read(uint8_t *frame, const zb_settings *s)
+{
+    static const uint16_t edges[] = {0, 1, 7, 8, 9, 1999, 2000, 2001, 2008, 65535};
+    uint32_t quantity = one_in(4) ? edges[below(10)] : one_in(4) ? 1 + below(2000) : 1 + below(20);
+    uint32_t function = 1 + below(2);
+    return make_read(frame, function, one_in(10) ? 65536 - 1 - below(2010) : some_start(s), quantity);
+}
+
+static size_t make_coil(uint8_t *frame, const zb_settings *s)
+{
+    static const uint16_t values[] = {0x0000, 0xFF00, 0x0000, 0xFF00, 0x0001, 0xFF01, 0x00FF, 0xFFFF};
+    frame[7] = 5;
+    put_word(frame + 8, some_start(s));
+    put_word(frame + 10, one_in(20) ? below(65536) : values[below(one_in(4) ? 8 : 4)]);
+    return finish_request(frame, 5);
+}
+
+/* The bits past the quantity are any, as the others are; at times the byte count does not fit the quantity. */
+static size_t make_coils(uint8_t *frame, const zb_settings *s)
+{
+    static const uint16_t edges[] = {0, 1, 7, 8, 9, 1960, 1967, 1968, 1969, 1976, 2000, 65535};
+    uint32_t quantity = one_in(4) ? edges[below(12)] : one_in(4) ? 1 + below(1968) : 1 + below(20);
+    uint32_t bytes = quantity > 1976 ? 246 : bytes_for_bits(quantity);
+    if (one_in(10))
+        bytes = one_in(2) && bytes > 0 ? bytes - 1 : bytes < 247 ? bytes + 1 : bytes;
+    frame[7] = 15;
+    put_word(frame + 8, one_in(10) ? 65536 - 1 - below(1980) : some_start(s));
+    put_word(frame + 10, quantity);
+    frame[12] = (uint8_t)bytes;
+    for (uint32_t k = 0; k < bytes; k++)
+        frame[13 + k] = (uint8_t)dice();
+    return finish_request(frame, 6 + bytes);
+}
+
 static size_t make_single(uint8_t *frame, const zb_settings *s)
 {
     frame[7] = 6;
@@ -244,7 +283,7 @@ static size_t make_other(uint8_t *frame)
     for (size_t k = 0; k < pdu; k++)
         frame[7 + k] = (uint8_t)dice();
     uint8_t function = (uint8_t)(1 + below(127));
-    frame[7] = function == 3 || function == 4 || function == 6 || function == 16 ? 43 : function;
+    frame[7] = function <= 6 || function == 15 || function == 16 ? 43 : function;
     return finish_request(frame, pdu);
 }
 
@@ -263,7 +302,7 @@ size_t make_noise(uint8_t *bytes)
 /* A frame that is nearly legal: one thing is changed, at times with a length field that fits again. */
 static size_t spoil_frame(uint8_t *frame, size_t size)
 {
-    static const uint8_t functions[] = {0, 128, 129, 131, 134, 144, 255, 3, 4, 6, 16, 127};
+    static const uint8_t functions[] = {0, 128, 129, 131, 134, 144, 255, 1, 2, 3, 4, 5, 6, 15, 16, 127};
     switch (below(8)) {
     case 0:
         flip(frame + 2 + below(4));
@@ -275,7 +314,7 @@ static size_t spoil_frame(uint8_t *frame, size_t size)
         frame[size++] = (uint8_t)dice();
         break;
     case 3:
-        frame[7] = functions[below(12)];
+        frame[7] = functions[below(16)];
         break;
     case 4:
         return below((uint32_t)size + 1);
@@ -296,7 +335,7 @@ static size_t spoil_frame(uint8_t *frame, size_t size)
 
 static size_t make_any(uint8_t *frame, const zb_settings *s)
 {
-    switch (below(8)) {
+    switch (below(12)) {
     case 0:
         return make_other(frame);
     case 1:
@@ -305,6 +344,13 @@ static size_t make_any(uint8_t *frame, const zb_settings *s)
     case 3:
     case 4:
         return make_multiple(frame, s);
+    case 5:
+    case 6:
+        return make_bits_read(frame, s);
+    case 7:
+        return make_coil(frame, s);
+    case 8:
+        return make_coils(frame, s);
     default:
         return make_any_read(frame, s);
     }
@@ -315,7 +361,7 @@ size_t make_request(uint8_t *frame, const zb_settings *s, uint32_t pool, uint32_
     size_t size;
     if (pool && !one_in(20)) {
         uint32_t k = below(pool);
-        size = make_read(frame, 3 + k % 2, 1024 + k, 1 + k % 3);
+        size = make_read(frame, 1 + k % 4, 1024 + k / 4, 1 + k / 4 % 3);
         frame[6] = 1;
     } else {
         size = make_any(frame, s);
@@ -333,9 +379,16 @@ static size_t make_right_reply(uint8_t *frame, const ledger_entry *e)
             put_word(frame + 9 + 2 * k, some_word());
         return finish(frame, e->id, e->unit, 2 + 2 * e->quantity);
     }
-    if (e->function == 6 || e->function == 16) {
+    if (e->function == 1 || e->function == 2) {
+        uint32_t bytes = bytes_for_bits(e->quantity);
+        frame[8] = (uint8_t)bytes;
+        for (uint32_t k = 0; k < bytes; k++)
+            frame[9 + k] = (uint8_t)dice();
+        return finish(frame, e->id, e->unit, 2 + bytes);
+    }
+    if (e->function == 5 || e->function == 6 || e->function == 15 || e->function == 16) {
         put_word(frame + 8, e->start);
-        put_word(frame + 10, e->function == 16 || one_in(2) ? e->quantity : some_word());
+        put_word(frame + 10, e->function != 6 || one_in(2) ? e->quantity : some_word());
         return finish(frame, e->id, e->unit, 5);
     }
     size_t size = make_other(frame);
@@ -346,9 +399,12 @@ static size_t make_right_reply(uint8_t *frame, const ledger_entry *e)
 /* One thing of a right reply is changed that its entry must look at. */
 static size_t mismatch(uint8_t *frame, size_t size, const ledger_entry *e)
 {
-    switch (below(5)) {
+    switch (below(6)) {
     case 0:
         frame[6]++;
+        return size;
+    case 4:
+        frame[10] ^= 0xFF; /* the other value of an echo 05 */
         return size;
     case 1:
         frame[7] = one_in(2) ? (uint8_t)dice() : (uint8_t)(e->function ^ 7);

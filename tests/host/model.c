@@ -1,10 +1,11 @@
-/* An ordinary proxy core in C, written from document 01 alone and section by section in its order. */
+/* An ordinary proxy core in C, written from document 01 alone and section by section in its order, with request #101 of document 02. */
 #include "model.h"
 #include <stdio.h>
 #include <string.h>
 
 enum { HEADER = 7 };
-enum { READ_HOLDING = 3, READ_INPUT = 4, WRITE_SINGLE = 6, WRITE_MULTIPLE = 16, EXCEPTION = 128 };
+enum { READ_COILS = 1, READ_DISCRETE = 2, READ_HOLDING = 3, READ_INPUT = 4 };
+enum { WRITE_COIL = 5, WRITE_SINGLE = 6, WRITE_COILS = 15, WRITE_MULTIPLE = 16, EXCEPTION = 128 };
 
 static const uint64_t LAST_TIME = ((uint64_t)1 << 63) - 1;
 
@@ -144,16 +145,31 @@ static void rewrite(const zb_settings *settings, rewriting *turn, uint32_t start
 
 /* A request */
 
+static bool is_read_of_bits(uint8_t function)
+{
+    return function == READ_COILS || function == READ_DISCRETE;
+}
+
 static bool is_read(uint8_t function)
 {
-    return function == READ_HOLDING || function == READ_INPUT;
+    return is_read_of_bits(function) || function == READ_HOLDING || function == READ_INPUT;
+}
+
+static bool is_single_write(uint8_t function)
+{
+    return function == WRITE_COIL || function == WRITE_SINGLE;
+}
+
+static bool is_multiple_write(uint8_t function)
+{
+    return function == WRITE_COILS || function == WRITE_MULTIPLE;
 }
 
 static bool is_wrong_pdu_length(const uint8_t *pdu, size_t length)
 {
-    if (is_read(pdu[0]) || pdu[0] == WRITE_SINGLE)
+    if (is_read(pdu[0]) || is_single_write(pdu[0]))
         return length != 5;
-    if (pdu[0] == WRITE_MULTIPLE)
+    if (is_multiple_write(pdu[0]))
         return length < 6 || length != 6u + pdu[5];
     return false;
 }
@@ -168,26 +184,47 @@ static model_entry asked_by(const uint8_t *frame)
     e.asked = ASKED_OTHER;
     if (is_read(e.function))
         e.asked = ASKED_READ;
-    if (e.function == WRITE_SINGLE)
+    if (is_single_write(e.function))
         e.asked = ASKED_SINGLE_WRITE;
-    if (e.function == WRITE_MULTIPLE)
+    if (is_multiple_write(e.function))
         e.asked = ASKED_MULTIPLE_WRITE;
+    e.bits = is_read_of_bits(e.function) || e.function == WRITE_COIL || e.function == WRITE_COILS;
     if (e.asked != ASKED_OTHER) {
         e.start = word_at(pdu + 1);
         e.quantity = e.asked == ASKED_SINGLE_WRITE ? 1 : word_at(pdu + 3);
+        e.value = e.asked == ASKED_SINGLE_WRITE ? word_at(pdu + 3) : 0;
     }
     return e;
+}
+
+/* The byte count for so many registers or bits: for bits one byte for each eight that were begun. */
+static uint32_t bytes_of(const model_entry *asked)
+{
+    uint32_t bytes = 0;
+    if (!asked->bits)
+        return 2 * asked->quantity;
+    for (uint32_t bit = 0; bit < asked->quantity; bit += 8)
+        bytes++;
+    return bytes;
+}
+
+static uint32_t most_of(const model_entry *asked)
+{
+    if (asked->asked == ASKED_READ)
+        return asked->bits ? 2000 : 125;
+    return asked->bits ? 1968 : 123;
 }
 
 /* Exception 03 or 02, or 0 where the request is legal. */
 static uint8_t exception_for(const model_entry *asked, const uint8_t *pdu)
 {
-    if (asked->asked != ASKED_READ && asked->asked != ASKED_MULTIPLE_WRITE)
+    if (asked->asked == ASKED_SINGLE_WRITE)
+        return asked->bits && asked->value != 0x0000 && asked->value != 0xFF00 ? 3 : 0;
+    if (asked->asked == ASKED_OTHER)
         return 0;
-    uint32_t most = asked->asked == ASKED_READ ? 125 : 123;
-    if (asked->quantity < 1 || asked->quantity > most)
+    if (asked->quantity < 1 || asked->quantity > most_of(asked))
         return 3;
-    if (asked->asked == ASKED_MULTIPLE_WRITE && pdu[5] != 2 * asked->quantity)
+    if (asked->asked == ASKED_MULTIPLE_WRITE && pdu[5] != bytes_of(asked))
         return 3;
     return asked->start + asked->quantity > 65536 ? 2 : 0;
 }
@@ -248,9 +285,9 @@ static zb_answer issue(model_state *st, model_entry *e, uint64_t now, const uint
     a.length = (uint32_t)size;
     memcpy(out, frame, size);
     put_word(out, id);
-    if (e->asked == ASKED_SINGLE_WRITE)
+    if (!e->bits && e->asked == ASKED_SINGLE_WRITE)
         rewrite(&st->settings, tag_to_bcd, e->start, 1, out + HEADER + 3, &a);
-    if (e->asked == ASKED_MULTIPLE_WRITE)
+    if (!e->bits && e->asked == ASKED_MULTIPLE_WRITE)
         rewrite(&st->settings, tag_to_bcd, e->start, e->quantity, out + HEADER + 6, &a);
     return a;
 }
@@ -322,9 +359,9 @@ static bool does_answer(const model_entry *e, const uint8_t *frame, size_t size)
         return false;
     switch (e->asked) {
     case ASKED_READ:
-        return length == 2 + 2 * e->quantity && pdu[1] == 2 * e->quantity;
+        return length == 2 + bytes_of(e) && pdu[1] == bytes_of(e);
     case ASKED_SINGLE_WRITE:
-        return length == 5 && word_at(pdu + 1) == e->start;
+        return length == 5 && word_at(pdu + 1) == e->start && (!e->bits || word_at(pdu + 3) == e->value);
     case ASKED_MULTIPLE_WRITE:
         return length == 5 && word_at(pdu + 1) == e->start && word_at(pdu + 3) == e->quantity;
     default:
@@ -365,10 +402,10 @@ zb_answer model_reply(model_state *st, uint64_t now,
     a.length = (uint32_t)frame_len;
     memcpy(out, frame, frame_len);
     put_word(out, 0);
-    bool is_exception = frame[HEADER] >= EXCEPTION;
-    if (!is_exception && e->asked == ASKED_READ)
+    bool has_registers = frame[HEADER] < EXCEPTION && !e->bits;
+    if (has_registers && e->asked == ASKED_READ)
         rewrite(&st->settings, tag_to_binary, e->start, e->quantity, out + HEADER + 2, &a);
-    if (!is_exception && e->asked == ASKED_SINGLE_WRITE)
+    if (has_registers && e->asked == ASKED_SINGLE_WRITE)
         rewrite(&st->settings, tag_to_binary, e->start, 1, out + HEADER + 3, &a);
     end_entry(e, list, &a);
     return a;

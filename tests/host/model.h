@@ -1,4 +1,4 @@
-/* An ordinary proxy core in C, written from document 01 alone: what the archive is held against, call by call.
+/* An ordinary proxy core in C, written from document 01 and the requests of document 02 alone: what the archive is held against, call by call.
    The calls take the arguments of include/zilborteka.h and give the same report; only the state is the model's own.
    Of the header it takes the names of numbers besides: sizes, outcomes, refusals. */
 #ifndef MODEL_H
@@ -22,8 +22,10 @@ typedef struct {
     uint8_t unit;
     uint8_t function;
     enum model_asked asked;
+    bool bits;         /* of coils or discrete inputs */
     uint32_t start;    /* a single write: its address; other: 0 */
     uint32_t quantity; /* a single write: 1; other: 0 */
+    uint32_t value;    /* of a single write */
     uint64_t deadline;
     uint32_t parties;
     model_party party[MODEL_PARTIES]; /* in joining order */

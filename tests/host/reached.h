@@ -20,8 +20,8 @@ extern const char *const call_names[CALLS];
     X(SKIPPED, "an id is skipped because it is live") \
     X(SKIPPED_BEFORE_WRAP, "65,535 is skipped and 0 is issued") \
     X(SKIPPED_AT_WRAP, "65,535 and 0 are skipped in one search") \
-    X(EXCEPTION_02, "exception 02") \
-    X(EXCEPTION_03, "exception 03") \
+    X(EXCEPTION_02, "exception 02 to registers") \
+    X(EXCEPTION_03, "exception 03 to registers") \
     X(EXCEPTION_04, "exception 04") \
     X(EXCEPTION_0B, "exception 0B") \
     X(CONTROLLER_EXCEPTION, "the controller's own exception is handed on") \
@@ -34,6 +34,14 @@ extern const char *const call_names[CALLS];
     X(PARTIAL_ECHO, "partial raw in reply 06") \
     X(VALUE_ECHO, "value raw in reply 06") \
     X(BOTH_RAW, "both counts nonzero in one frame") \
+    X(BITS_02, "exception 02 to 01, 02 or 15") \
+    X(BITS_03, "exception 03 to 01, 02 or 15") \
+    X(COIL_03, "exception 03 to 05, for its value") \
+    X(BITS_JOINED, "01 or 02 is joined") \
+    X(OTHER_TABLE, "02 is issued beside an equal 01, or 01 beside 02") \
+    X(MOST_BITS, "a reply of 2,000 bits") \
+    X(MOST_COILS, "a request of 1,968 coils") \
+    X(ECHO_VALUE, "an echo 05 with another value is refused") \
     X(DUE_NOT_JOINED, "an equal read is not joined because it is due") \
     X(SMALLEST_JOINED, "of several entries the smallest id is joined") \
     X(SMALLEST_IS_YOUNGER, "the smallest id is not the one issued first") \

@@ -3,7 +3,7 @@
 use Prim.Native.Nat.{ℕ, zero, suc, _+_, _*_, _-_, _/_, _%_, _≤_, _<_}
 use mathlib.Core.Path.{_≡_, refl, ap, sym, _∙_}
 use mathlib.Core.Logic.{⊎-elim, _⊎_, inl, inr}
-use mathlib.Core.Bool.{true}
+use mathlib.Core.Bool.{Bool, true, false, true≢false}
 use mathlib.Core.Option.{Option, some, none, Option·map}
 use mathlib.Core.List.{List, [], _∷_, _++_, map}
 use native.Mathlib.Omega.{arith}
@@ -30,6 +30,8 @@ use Rattle.rewrite.specs.declared.Way.the-variants.{ToBcd}
 use Rattle.rewrite.specs.Registers.{registersAt}
 use Rattle.rewrite.specs.Rewriting.{partials, values, rewriting}
 use Rattle.rewrite.specs.Frames.{forwarded}
+use Rattle.rewrite.specs.Plain.{OfBits}
+use Rattle.rewrite.specs.Plain.OfBits.{coils-read, discrete-read, coil-written, coils-written}
 use Rattle.rewrite.proofs.FrameLaws.{length-forwarded, rewriting-other}
 use Rattle.book.specs.Book.{Live, Next, Good, at, newEntry, marked}
 use Rattle.book.specs.Desk.{freePlace, freeId}
@@ -41,7 +43,7 @@ use Rattle.machine.specs.Calls.Call.{request}
 use Rattle.machine.specs.Refusals.{refusal}
 use Rattle.machine.specs.Requests.{wanted, partyOf, closing, excepted, joinedTo, issuedTo}
 use Rattle.machine.specs.Outcomes.{outcome}
-use Rattle.machine.specs.Spelled.{asker, asking}
+use Rattle.machine.specs.Spelled.{asker, spelled, asking}
 use Rattle.machine.specs.declared.Answer.the-variants as answer
 use Rattle.machine.proofs.SpelledLaws.{party-spelled, asked-spelled, wanted-spelled}
 use Rattle.machine.proofs.JoinLaws.{MayJoin}
@@ -53,6 +55,32 @@ use Rattle.machine.proofs.RequestLaws.{NoneToJoin, Comes, comes, reques
 pub data Carries : Asked → (base start quantity : ℕ) → Type 0 where
   single : {a v : ℕ} → Carries (SingleWrite Registers a v) 10 a 1
   multiple : {s q : ℕ} → Carries (MultipleWrite Registers s q) 13 s q
+
+-- what carries registers, and that 01, 02, 05 and 15 carry none
+carrying : Asked → Bool
+carrying (Read t s q) = false
+carrying (SingleWrite Bits a v) = false
+carrying (SingleWrite Registers a v) = true
+carrying (MultipleWrite Bits s q) = false
+carrying (MultipleWrite Registers s q) = true
+carrying Other = false
+
+carries-some : {a : Asked} {base start quantity : ℕ} → Carries a base start quantity → carrying a ≡ true
+unfolding carrying
+carries-some single = refl
+carries-some multiple = refl
+
+spelled-none : (n a b : ℕ) → OfBits n → carrying (spelled n a b) ≡ false
+unfolding carrying spelled
+spelled-none n a b coils-read = refl
+spelled-none n a b discrete-read = refl
+spelled-none n a b coil-written = refl
+spelled-none n a b coils-written = refl
+
+-- A request 01, 02, 05 or 15 carries no registers.
+pub bits-carry-none : (f : List ℕ) → OfBits (getD f 7 0) → (base start quantity : ℕ) → Carries (asking f .asked) base start quantity → ⊥
+unfolding asking
+bits-carry-none f b base start quantity c = true≢false (sym (carries-some c) ∙ spelled-none (getD f 7 0) _ _ b)
 
 -- the registers from byte base on, of the addresses from start on, stand in w as the definition rewrites them, every other byte behind the id as in f; and what is counted
 pub record Rewrites (tags : List Tag) (f w : List ℕ) (partial value base start quantity : ℕ) : Type 0 where

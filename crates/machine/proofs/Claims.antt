@@ -7,15 +7,18 @@ use mathlib.Core.Path.{_≡_, refl, ap, sym, _∙_}
 use mathlib.Core.Logic.{_⊎_, _↔_}
 use mathlib.Core.Bool.{true, false}
 use mathlib.Core.Option.{some, Option·getD}
-use mathlib.Core.List.{List, [], _∷_, _++_, List·Memᴰ}
+use mathlib.Core.List.{List, [], _∷_, _++_, List·Memᴰ, List·Memᴰ·head, Memᴰ·append-right}
 use native.Mathlib.Omega.{arith}
 use lib.ListN.{length, getD}
 use borrow.Author.Tests.{eqb-true}
 use Rattle.laws.specs.Numbers.{places, ids, latestTime}
 use Rattle.laws.specs.Lists.{filter, lastGiven, lastOf}
 use Rattle.laws.specs.Bits.{has}
+use Rattle.laws.specs.Bytes.{over}
 use Rattle.laws.proofs.BitLaws.{has-none}
 use Rattle.laws.proofs.FilterLaws.{filter-in}
+use Rattle.laws.proofs.LastLaws.{last-of-exactly}
+use Rattle.wire.specs.Frame.{laid}
 use Rattle.bcd.specs.Bcd.{inRange}
 use Rattle.bcd.specs.Words.{numberOf}
 use Rattle.settings.specs.Grammar.{Value, Tag, valid}
@@ -28,8 +31,9 @@ use Rattle.pdu.specs.declared.ProxyId.{ProxyId}
 use Rattle.pdu.specs.declared.Table.the-variants.{Registers}
 use Rattle.pdu.specs.declared.Asked.the-variants.{Read}
 use Rattle.rewrite.specs.Registers.{registersAt}
-use Rattle.rewrite.specs.Rewriting.{ownIn}
-use Rattle.rewrite.specs.Plain.{Whole}
+use Rattle.rewrite.specs.Rewriting.{ownIn, Rewritten}
+use Rattle.rewrite.specs.Plain.{Whole, OfBits}
+use Rattle.rewrite.proofs.FrameLaws.{returned-bits}
 use Rattle.book.specs.Book.{Party, Live, Event, Good, NothingDue, at}
 use Rattle.book.specs.Book.Event.{issued, left, lost}
 use Rattle.book.specs.Ledger.{Ticket, Anew, under, partiesOf}
@@ -55,9 +59,9 @@ use Rattle.machine.specs.declared.Answer.the-variants as answer
 use Rattle.machine.proofs.RefusalLaws.{table, Applies, refused-exactly}
 use Rattle.machine.proofs.OutcomeLaws.{clocked-at, says-refusal, refused-is, granted-is}
 use Rattle.machine.proofs.NumberLaws.{Tells, numbers-tell}
-use Rattle.machine.proofs.SpelledLaws.{AskedBy, kept-as-asked}
+use Rattle.machine.proofs.SpelledLaws.{AskedBy, asked-spelled, kept-as-asked}
 use Rattle.machine.proofs.RequestLaws.{NoneToJoin, codeOf, no-other-exception, exception-04 as said-exactly}
-use Rattle.machine.proofs.AskLaws.{Carries, Issues, Joins, Excepts, request-comes-to, issue-is, join-is, exception-is}
+use Rattle.machine.proofs.AskLaws.{Carries, bits-carry-none, Issues, Joins, Excepts, request-comes-to, issue-is, join-is, exception-is}
 use Rattle.machine.proofs.PartyLaws.{Accepts, Stands, accepted-stands}
 use Rattle.machine.proofs.AnswerLaws.{Answers, Expires, reply-answers, tick-expires, idle-when}
 use Rattle.machine.proofs.ReadBack.{comes-back}
@@ -221,7 +225,31 @@ module _ (v : Value) (xs : List Call) where
   pub what-an-issue-is : (id : ℕ) (w : What) (d : ℕ) (p : Party) → List·Memᴰ (issued id w d p) (toldBy v xs) → Origin v xs id w d p
   what-an-issue-is = issue-origin v xs
 
-  -- Document 02, #102: nothing joins a read any more once a request was issued that spoils it, by unit, table and range, or "other"; which those are is said in plain numbers by
+  -- Request #101: no tag touches coils and discrete inputs. A request 01, 02, 05 or 15 that is issued goes out as it came, but for its id, and no tag is counted.
+  pub bits-go-out-as-they-came : (c t : ℕ) (f o : List ℕ) (i : ProxyId) (n p w : ℕ) → outcome (afterCalls v xs) (request c t f o) .says ≡ answer.Issued i n p w → OfBits (getD f 7 0)
+      → ((k : ℕ) → 2 ≤ k → k < length f → getD (outcome (afterCalls v xs) (request c t f o) .written) k 0 ≡ getD f k 0) × (p ≡ 0) × (w ≡ 0)
+  bits-go-out-as-they-came c t f o i n p w e b =
+      let x = an-issue-is-this c t f o i n p w e in
+      let u = x .unchanged (bits-carry-none f b) in
+      (u .0, cc (u .1), cc (u .2))
+
+  -- And a reply to one is handed on as it came, under id 0; no tag is counted.
+  pub bits-come-back-as-they-came : (t : ℕ) (f o l : List ℕ) (a : Answers (afterCalls v xs) f o l (outcome (afterCalls v xs) (reply t f o l))) → OfBits (a .entry .what .function)
+      → (outcome (afterCalls v xs) (reply t f o l) .written ≡ over (laid 0 f) o)
+      × (outcome (afterCalls v xs) (reply t f o l) .says ≡ answer.Answered (record { 0 = a .entry .id }) (length f) (length (a .entry .parties)) 0 0)
+  unfolding asking
+  bits-come-back-as-they-came t f o l a b =
+      let e = a .entry in
+      let u = which-ids-are-live (e .id) (e .what) (e .by) (e .deadline) .0 (a .place, e, a .there, refl, refl, refl, refl) in
+      let i = last-of-exactly (touches (e .id)) (toldBy v xs) _ .0 (u .2) in
+      let g = what-an-issue-is (e .id) (e .what) (e .deadline) (u .0) (rw (i .2) (Memᴰ·append-right (i .0) (List·Memᴰ·head refl))) in
+      let same = g .spells .0 in
+      let r = returned-bits (settings (afterCalls v xs) .tags) f (e .what) (g .frame) (rw same at b) (ap (λ (w : What). w .asked) same ∙ sym (asked-spelled (g .frame))) in (
+        a .frame ∙ ap (λ (y : Rewritten). over (laid 0 (y .bytes)) o) r,
+        a .says ∙ ap (λ (y : Rewritten). answer.Answered (record { 0 = e .id }) (length f) (length (e .parties)) (y .partial) (y .value)) r,
+      )
+
+  -- Request #102: nothing joins a read any more once a request was issued that spoils it, by unit, table and range, or "other"; which those are is said in plain numbers by
   -- `spoils-exactly` of SpoilingLaws of `pdu`. A live entry is open exactly if nothing that spoils it was issued since its own issue.
   pub what-is-open : (k : ℕ) (e : Live What Note) → at (afterCalls v xs .book) k ≡ some e
       → (e .note .closed ≡ false) ↔ ((p : Party) × (lastOf (concernsRead (e .id) (e .what)) (toldBy v xs) ≡ some (issued (e .id) (e .what) (e .deadline) p)))
@@ -233,8 +261,8 @@ module _ (v : Value) (xs : List Call) where
       → (d′ : ℕ) × (p′ : Party) × (lastOf (touches (i .0)) later ≡ some (issued (i .0) (asking f) d′ p′))
   a-read-after-a-write-is-not-stale = not-stale v xs
 
-  -- And closing everything is no way out: a legal 01 to 04 that is not refused, with joining on, joins exactly where some live entry asks the same, has fewer than 8 parties and a
-  -- deadline later than now, and nothing that spoils it was issued since its issue; of several the smallest id.
+  -- And closing everything is no way out: a legal 01 to 04 that is not refused, with joining on, joins exactly where some live entry asks the same, has room for one more
+  -- party and a deadline later than now, and nothing that spoils it was issued since its issue; of several the smallest id.
   pub a-read-joins-exactly : (c t : ℕ) (f o : List ℕ) → refusal (afterCalls v xs) (request c t f o) ≡ 0 → legal (settings (afterCalls v xs)) f ≡ true
       → ((getD f 7 0 ≡ 1) ⊎ (getD f 7 0 ≡ 2)) ⊎ ((getD f 7 0 ≡ 3) ⊎ (getD f 7 0 ≡ 4)) → v .join ≡ 1 → (i : ProxyId)
       → (outcome (afterCalls v xs) (request c t f o) .says ≡ answer.Joined i)

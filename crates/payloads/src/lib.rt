@@ -10,6 +10,7 @@ ghost use Rattle.rewrite.specs.Frames.{forwarded, returned, under};
 ghost use Rattle.rewrite.specs.Lent.{tagsOf, TagWords, Sent, Brought, Framed};
 use pdu::Asked;
 use pdu::ProxyId;
+use pdu::Table;
 use rewrite::Raw;
 use rewrite::Way;
 
@@ -27,21 +28,36 @@ fn send(frame: &mut [u8], asked: Asked, tags: &[u64; laws::MOST_TAGS], tagged: u
     ensures { λ r. ⌜ outcome (r .partial) (r .value) (now (frame .exit)) ≡ forwarded (tagsOf tagged (now (tags .entry))) asked (now (frame .entry)) ⌝ }
 {
     match asked {
-        Asked::SingleWrite { address } => {
-            crate::registers::rewrite(frame, SINGLE_BASE, address, 1, Way::ToBcd, tags, tagged)
-        }
-        Asked::MultipleWrite { start, quantity } => {
-            crate::registers::rewrite(
-                frame,
-                MULTIPLE_BASE,
-                start,
-                quantity,
-                Way::ToBcd,
-                tags,
-                tagged,
-            )
-        }
+        Asked::SingleWrite {
+            table,
+            address,
+            value: _,
+        } => match table {
+            Table::Bits => rewrite::NOT_RAW,
+            Table::Registers => {
+                registers::rewrite(frame, SINGLE_BASE, address, 1, Way::ToBcd, tags, tagged)
+            }
+        },
+        Asked::MultipleWrite {
+            table,
+            start,
+            quantity,
+        } => match table {
+            Table::Bits => rewrite::NOT_RAW,
+            Table::Registers => {
+                registers::rewrite(
+                    frame,
+                    MULTIPLE_BASE,
+                    start,
+                    quantity,
+                    Way::ToBcd,
+                    tags,
+                    tagged,
+                )
+            }
+        },
         Asked::Read {
+            table: _,
             start: _,
             quantity: _,
         } => rewrite::NOT_RAW,
@@ -65,21 +81,36 @@ fn bring(
         return rewrite::NOT_RAW;
     }
     match asked {
-        Asked::Read { start, quantity } => {
-            crate::registers::rewrite(
-                frame,
-                READ_BASE,
-                start,
-                quantity,
-                Way::ToBinary,
-                tags,
-                tagged,
-            )
-        }
-        Asked::SingleWrite { address } => {
-            crate::registers::rewrite(frame, SINGLE_BASE, address, 1, Way::ToBinary, tags, tagged)
-        }
+        Asked::Read {
+            table,
+            start,
+            quantity,
+        } => match table {
+            Table::Bits => rewrite::NOT_RAW,
+            Table::Registers => {
+                registers::rewrite(
+                    frame,
+                    READ_BASE,
+                    start,
+                    quantity,
+                    Way::ToBinary,
+                    tags,
+                    tagged,
+                )
+            }
+        },
+        Asked::SingleWrite {
+            table,
+            address,
+            value: _,
+        } => match table {
+            Table::Bits => rewrite::NOT_RAW,
+            Table::Registers => {
+                registers::rewrite(frame, SINGLE_BASE, address, 1, Way::ToBinary, tags, tagged)
+            }
+        },
         Asked::MultipleWrite {
+            table: _,
             start: _,
             quantity: _,
         } => rewrite::NOT_RAW,

@@ -67,11 +67,17 @@ fn may_join(join: u32, what: Asked) -> bool
 {
     match what {
         Asked::Read {
+            table: _,
             start: _,
             quantity: _,
         } => join == 1,
-        Asked::SingleWrite { address: _ } => false,
+        Asked::SingleWrite {
+            table: _,
+            address: _,
+            value: _,
+        } => false,
         Asked::MultipleWrite {
+            table: _,
             start: _,
             quantity: _,
         } => false,

@@ -15,7 +15,6 @@ use Rattle.wire.specs.Frame.{functionOf, misframed, laid}
 use Rattle.settings.specs.Grammar.{Tag}
 use Rattle.pdu.specs.Requests.{classOf, askedBy, askedOf}
 use Rattle.pdu.specs.Replies.{What, what, excepts, shaped, answering}
-use Rattle.pdu.specs.Words.{kept, keptIn, Proper}
 use Rattle.pdu.specs.declared.Table.{Table}
 use Rattle.pdu.specs.declared.Table.the-variants.{Bits, Registers}
 use Rattle.pdu.specs.declared.Asked.{Asked}
@@ -65,12 +64,12 @@ module _ (tags : List Tag) (f : List ℕ) where
   pub forwarded-bits : OfBits (functionOf f) → forwarded tags (askedOf f) f ≡ outcome 0 0 f
   forwarded-bits = sent-by (functionOf f)
 
-  brought-by : (n k : ℕ) → OfBits n → returnedBy tags (keptIn (classOf n) k) f ≡ outcome 0 0 f
-  unfolding returnedBy keptIn classOf
-  brought-by n k coils-read = refl
-  brought-by n k discrete-read = refl
-  brought-by n k coil-written = refl
-  brought-by n k coils-written = refl
+  brought-by : (n : ℕ) (g : List ℕ) → OfBits n → returnedBy tags (askedBy (classOf n) g) f ≡ outcome 0 0 f
+  unfolding returnedBy askedBy classOf
+  brought-by n g coils-read = refl
+  brought-by n g discrete-read = refl
+  brought-by n g coil-written = refl
+  brought-by n g coils-written = refl
 
   module _ (w : What) where
     -- An exception reply passes unchanged, and no tag is counted.
@@ -95,9 +94,9 @@ module _ (tags : List Tag) (f : List ℕ) where
     unfolding returnedBy
     returned-any e = unchanged (rw e)
 
-    -- A reply to 01, 02, 05 or 15 passes unchanged, whatever the tags, and no tag is counted.
-    pub returned-bits : Proper w → OfBits (w .function) → returned tags w f ≡ outcome 0 0 f
-    returned-bits p b = unchanged (ap (λ (a : Asked). returnedBy tags a f) (sym (p .class)) ∙ brought-by (w .function) (kept (w .asked)) b)
+    -- A reply to what a request 01, 02, 05 or 15 asked passes unchanged, whatever the tags, and no tag is counted.
+    pub returned-bits : (g : List ℕ) → OfBits (functionOf g) → w .asked ≡ askedOf g → returned tags w f ≡ outcome 0 0 f
+    returned-bits g b e = unchanged (rw e (brought-by (functionOf g) g b))
 
     -- A reply to a request 06 is rewritten to binary: the one register at byte 10, of the address asked.
     pub returned-single : (a v : ℕ) → w .asked ≡ SingleWrite Registers a v → excepts (w .function) f ≡ false → returned tags w f ≡ rewriting ToBinary 10 a 1 tags f

@@ -19,6 +19,7 @@ use Rattle.settings.specs.Values.{valueOf}
 use Rattle.settings.specs.TagWords.{kindOf}
 use Rattle.pdu.specs.Requests.{legal}
 use Rattle.pdu.specs.Replies.{What, excepts}
+use Rattle.pdu.specs.declared.Table.the-variants.{Registers}
 use Rattle.pdu.specs.declared.Asked.the-variants.{Read}
 use Rattle.rewrite.specs.Registers.{registersAt}
 use Rattle.rewrite.specs.Rewriting.{ownIn}
@@ -334,7 +335,7 @@ module _ (from : Settings) {r r′ : Report} {d d′ e e′ : Device} (ls ks : L
       → (base s q : ℕ) → Carries (asking f .asked) base s q → Whole s q tag → inRange (kindOf tag) (numberOf (ownIn s (registersAt base q f) tag)) ≡ true
       → (t′ : ℕ) (g o′ l : List ℕ) → ((k : ℕ) → getD g k 0 < 256) → {saw′ : Seen} {e″ : Device} → Called e′ (reply t′ g o′ l) saw′ e″ → saw′ .report .refusal ≡ 0
       → (w : What) (client due : ℕ) → Outstanding (toldIn (inForce from) ks) (saw′ .report .id) w client due → excepts (w .function) g ≡ false
-      → (s′ q′ : ℕ) → w .asked ≡ Read s′ q′ → Whole s′ q′ tag
+      → (s′ q′ : ℕ) → w .asked ≡ Read Registers s′ q′ → Whole s′ q′ tag
       → ownIn s′ (registersAt 9 q′ g) tag ≡ ownIn s (registersAt base q (saw .frame)) tag
       → ownIn s′ (registersAt 9 q′ (saw′ .frame)) tag ≡ ownIn s (registersAt base q f) tag
   a-value-comes-back tag mem c t f o bytes called issue base s q carries whole range t′ g o′ l bytes′ called′ z w client due out plain s′ q′ reads whole′ stored =
