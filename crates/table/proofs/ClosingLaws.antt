@@ -25,7 +25,7 @@ use Rattle.pdu.proofs.SpoilingLaws.{read-spoils-none}
 use Rattle.book.specs.Book.{marked}
 use Rattle.machine.specs.Requests.{closing}
 use Rattle.table.specs.Columns.{columns, noteOf, placeWord, entryAt, tableOf, Sound}
-use Rattle.table.specs.Changes.{Closes}
+use Rattle.table.specs.Changes.{wordAfter, Closes}
 
 -- a word that a live place may have
 abbrev pub Fit : ℕ → Type 0
@@ -43,72 +43,59 @@ marked-word n f =
     rw e (marked-back w (f .0), rw (word-marked w (f .0)), (rw (marked-back w (f .0)) (f .0), rw (marked-back w (f .0), word-marked w (f .0)))))
     (true-or (has n 32))
 
--- the word of a place once a request was issued that spoils it, or does not
-abbrev pub after : Bool → ℕ → ℕ
-after t n = cond t (with n 32) n
+-- the word m asks what n asked, and says besides what becomes of that once the request of `word` was issued
+abbrev Becomes : (word n m : ℕ) → Type 0
+Becomes word n m = (whatOf m ≡ whatOf n) × (noteOf m ≡ closing (whatOf word) (whatOf n) (noteOf n)) × Fit m
 
-after-word : (word n : ℕ) → Fit n
-    → (whatOf (after (spoils (whatOf word) (whatOf n)) n) ≡ whatOf n) × (noteOf (after (spoils (whatOf word) (whatOf n)) n) ≡ closing (whatOf word) (whatOf n) (noteOf n))
-    × Fit (after (spoils (whatOf word) (whatOf n)) n)
+after-word : (word id n : ℕ) → eqb id 0 ≡ false → Fit n → Becomes word n (wordAfter word id n)
 unfolding closing
-after-word word n f =
+after-word word id n live f =
     ⊎-elim
-    (λ (t : spoils (whatOf word) (whatOf n) ≡ true). let m = marked-word n f in rw t (m .0, m .1 ∙ rw (or-true (noteOf n .closed)) refl, m .2))
-    (λ (t : spoils (whatOf word) (whatOf n) ≡ false). rw t (refl, rw (or-false (noteOf n .closed)) refl, f))
+    (λ (t : spoils (whatOf word) (whatOf n) ≡ true). let m = marked-word n f in rw (live, t) (m .0, m .1 ∙ rw (or-true (noteOf n .closed)) refl, m .2))
+    (λ (t : spoils (whatOf word) (whatOf n) ≡ false). rw (live, t) (refl, rw (or-false (noteOf n .closed)) refl, f))
     (true-or (spoils (whatOf word) (whatOf n)))
-
--- what is to be closed at the place k
-abbrev pub met : (word : ℕ) (is ws : List ℕ) → ℕ → Bool
-met word is ws k = not (eqb (getD is k 0) 0) && spoils (whatOf word) (whatOf (getD ws k 0))
 
 -- the places below k are closed, and from k on the column is as it was
 pub record ClosedTo (k word : ℕ) (is ws₀ ws : List ℕ) : Type 0 where
   pub long : length ws ≡ length ws₀
-  pub done : (p : ℕ) → p < k → getD ws p 0 ≡ after (met word is ws₀ p) (getD ws₀ p 0)
+  pub done : (p : ℕ) → p < k → p < length ws₀ → getD ws p 0 ≡ wordAfter word (getD is p 0) (getD ws₀ p 0)
   pub rest : (p : ℕ) → k ≤ p → getD ws p 0 ≡ getD ws₀ p 0
 
 -- no place is closed yet
 pub closed-none : (word : ℕ) (is ws : List ℕ) → ClosedTo 0 word is ws ws
-closed-none word is ws = record { long = refl; done = λ p h. absurd (omega arith); rest = λ p h. refl }
+closed-none word is ws = record { long = refl; done = λ p h l. absurd (omega arith); rest = λ p h. refl }
 
 -- a read closes none
 pub closed-read : (k word : ℕ) (is ws : List ℕ) (t : Table) (s q : ℕ) → whatOf word .asked ≡ Read t s q → ClosedTo k word is ws ws
 closed-read k word is ws t s q e =
-    record { long = refl; done = λ p h. rw (read-spoils-none (whatOf word) (whatOf (getD ws p 0)) t s q e, and-false (not (eqb (getD is p 0) 0))); rest = λ p h. refl }
+    record { long = refl; done = λ p h l. rw (read-spoils-none (whatOf word) (whatOf (getD ws p 0)) t s q e, and-false (not (eqb (getD is p 0) 0))); rest = λ p h. refl }
 
--- the turn at the place k: it is closed, or not
-module _ (k word : ℕ) (is ws₀ ws : List ℕ) (c : ClosedTo k word is ws₀ ws) where
-  next : (ws′ : List ℕ) → length ws′ ≡ length ws → getD ws′ k 0 ≡ after (met word is ws k) (getD ws k 0) → ((p : ℕ) → (p ≡ k → ⊥) → getD ws′ p 0 ≡ getD ws p 0) → ClosedTo (k + 1) word is ws₀ ws′
-  next ws′ l here others = record {
-    long = l ∙ c .long;
-    done = λ p h. ⊎-elim
-        (λ (q : p ≡ k). rw q (here ∙ rw (c .rest k (omega arith)) refl))
-        (λ (q : p ≡ k → ⊥). others p q ∙ c .done p (omega (arith, q)))
-        (eq-or p k);
-    rest = λ p h. others p (λ z. omega arith) ∙ c .rest p (omega arith);
-  }
-
-  pub closed-here : k < length ws → met word is ws k ≡ true → ClosedTo (k + 1) word is ws₀ (set ws k (with (getD ws k 0) 32))
-  closed-here h t = next (set ws k (with (getD ws k 0) 32)) (length-set ws k _) (getD-set-same ws k _ 0 h ∙ rw t refl) (λ p q. getD-set-other ws k p _ 0 q)
-
-  pub closed-past : met word is ws k ≡ false → ClosedTo (k + 1) word is ws₀ ws
-  closed-past t = next ws refl (rw t refl) (λ p q. refl)
+-- the turn at the place k
+pub closed-next : (k word : ℕ) (is ws₀ ws : List ℕ) → ClosedTo k word is ws₀ ws → ClosedTo (k + 1) word is ws₀ (set ws k (wordAfter word (getD is k 0) (getD ws k 0)))
+closed-next k word is ws₀ ws c = record {
+  long = length-set ws k _ ∙ c .long;
+  done = λ p h l. ⊎-elim
+      (λ (q : p ≡ k). rw q (getD-set-same ws k _ 0 (let e = c .long in omega arith) ∙ ap (wordAfter word (getD is k 0)) (c .rest k (omega arith))))
+      (λ (q : p ≡ k → ⊥). getD-set-other ws k p _ 0 q ∙ c .done p (omega (arith, q)) l)
+      (eq-or p k);
+  rest = λ p l. getD-set-other ws k p _ 0 (λ z. omega arith) ∙ c .rest p (omega arith);
+}
 
 -- Once the places below top are closed, the table has every entry so marked, and the columns are sound.
 module _ (word top : ℕ) (is ws₀ ws : List ℕ) (c : ClosedTo top word is ws₀ ws) (n d m e o : List ℕ) (s : Sound (columns is ws₀ n d m e o top)) where
-  -- at a live place
-  live-word : (k : ℕ) → (getD is k 0 ≡ 0 → ⊥) → getD ws k 0 ≡ after (spoils (whatOf word) (whatOf (getD ws₀ k 0))) (getD ws₀ k 0)
+  live-word : (k : ℕ) → eqb (getD is k 0) 0 ≡ false → Becomes word (getD ws₀ k 0) (getD ws k 0)
   live-word k live =
-      ⊎-elim (λ (l : k < top). c .done k l ∙ rw (ne-eqb (getD is k 0) 0 live) refl) (λ (l : top ≤ k). absurd (live (s .above k l))) (lt-or k top)
+      let held = eqb-false (getD is k 0) 0 live in
+      ⊎-elim
+      (λ (l : k < top). rw (c .done k l (let b = s .asked-long in let t = s .within in omega arith)) (after-word word (getD is k 0) (getD ws₀ k 0) live (s .proper k held)))
+      (λ (l : top ≤ k). absurd (held (s .above k l)))
+      (lt-or k top)
 
   closed-entry : (k : ℕ) → entryAt (columns is ws n d m e o top) k ≡ Option·map (marked (closing (whatOf word))) (entryAt (columns is ws₀ n d m e o top) k)
   closed-entry k =
       ⊎-elim
       (λ (t : eqb (getD is k 0) 0 ≡ true). rw t)
-      (λ (t : eqb (getD is k 0) 0 ≡ false).
-      let live = eqb-false (getD is k 0) 0 t in
-      let a = after-word word (getD ws₀ k 0) (s .proper k live) in
-      rw (t, live-word k live, a .0, a .1))
+      (λ (t : eqb (getD is k 0) 0 ≡ false). let a = live-word k t in rw (t, a .0, a .1))
       (true-or (eqb (getD is k 0) 0))
 
   closed-table : tableOf (columns is ws n d m e o top) ≡ map (Option·map (marked (closing (whatOf word)))) (tableOf (columns is ws₀ n d m e o top))
@@ -128,7 +115,7 @@ module _ (word top : ℕ) (is ws₀ ws : List ℕ) (c : ClosedTo top word is ws�
     low = s .low;
     above = s .above;
     roomy = s .roomy;
-    proper = λ k live. rw (live-word k live) (after-word word (getD ws₀ k 0) (s .proper k live) .2);
+    proper = λ k live. live-word k (ne-eqb (getD is k 0) 0 live) .2;
   }
 
 pub closed-all : (word top : ℕ) (is ws₀ ws : List ℕ) → ClosedTo top word is ws₀ ws → Closes word top is ws₀ ws
