@@ -43,8 +43,8 @@ static const session sessions[] = {
     {"restarts",   30000, SETTINGS_ANY,             {20, 90, 10, 400, 200, 60, 1, 0, 0, 0}, 0, 20, 60, PLAIN},
     {"refused",    15000, SETTINGS_INVALID,         {20, 90, 10, 400, 200, 60, 1, 0, 0, 0}, 0, 20, 60, PLAIN},
     {"texts",      15000, SETTINGS_INVALID,         {0, 40, 10, 100, 80, 10, 1, 50, 300, 200}, 0, 4, 10, PLAIN},
-    {"wrap",      290000, SETTINGS_NO_JOIN,         {0, 5, 1, 510, 500, 1, 0, 0, 0, 0}, 0, 200, 0, PINS_WITH_0},
-    {"wrap join", 290000, SETTINGS_OF_THE_DOCUMENT, {0, 10, 5, 520, 500, 1, 0, 0, 0, 0}, 400, 200, 0, PINS},
+    {"wrap",      300000, SETTINGS_NO_JOIN,         {0, 5, 1, 510, 500, 1, 0, 0, 0, 0}, 0, 200, 0, PINS_WITH_0},
+    {"wrap join", 300000, SETTINGS_OF_THE_DOCUMENT, {0, 10, 5, 520, 500, 1, 0, 0, 0, 0}, 400, 200, 0, PINS},
 };
 
 /* What a session that joins does while the cursor passes 65,535: entries of equal reads on both sides of it. */

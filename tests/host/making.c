@@ -223,9 +223,9 @@ static uint32_t bytes_for_bits(uint32_t bits)
 static size_t make_bits_read(uint8_t *frame, const zb_settings *s)
 {
     static const uint16_t edges[] = {0, 1, 7, 8, 9, 1999, 2000, 2001, 2008, 65535};
-    uint32_t quantity = one_in(4) ? edges[below(10)] : one_in(4) ? 1 + below(2000) : 1 + below(20);
+    uint32_t quantity = one_in(8) ? edges[below(10)] : one_in(4) ? 1 + below(2000) : 1 + below(20);
     uint32_t function = 1 + below(2);
-    return make_read(frame, function, one_in(10) ? 65536 - 1 - below(2010) : some_start(s), quantity);
+    return make_read(frame, function, one_in(20) ? 65536 - 1 - below(2010) : some_start(s), quantity);
 }
 
 static size_t make_coil(uint8_t *frame, const zb_settings *s)
@@ -233,7 +233,7 @@ static size_t make_coil(uint8_t *frame, const zb_settings *s)
     static const uint16_t values[] = {0x0000, 0xFF00, 0x0000, 0xFF00, 0x0001, 0xFF01, 0x00FF, 0xFFFF};
     frame[7] = 5;
     put_word(frame + 8, some_start(s));
-    put_word(frame + 10, one_in(20) ? below(65536) : values[below(one_in(4) ? 8 : 4)]);
+    put_word(frame + 10, one_in(40) ? below(65536) : values[below(one_in(8) ? 8 : 4)]);
     return finish_request(frame, 5);
 }
 
@@ -241,12 +241,12 @@ static size_t make_coil(uint8_t *frame, const zb_settings *s)
 static size_t make_coils(uint8_t *frame, const zb_settings *s)
 {
     static const uint16_t edges[] = {0, 1, 7, 8, 9, 1960, 1967, 1968, 1969, 1976, 2000, 65535};
-    uint32_t quantity = one_in(4) ? edges[below(12)] : one_in(4) ? 1 + below(1968) : 1 + below(20);
+    uint32_t quantity = one_in(8) ? edges[below(12)] : one_in(4) ? 1 + below(1968) : 1 + below(20);
     uint32_t bytes = quantity > 1976 ? 246 : bytes_for_bits(quantity);
-    if (one_in(10))
+    if (one_in(20))
         bytes = one_in(2) && bytes > 0 ? bytes - 1 : bytes < 247 ? bytes + 1 : bytes;
     frame[7] = 15;
-    put_word(frame + 8, one_in(10) ? 65536 - 1 - below(1980) : some_start(s));
+    put_word(frame + 8, one_in(20) ? 65536 - 1 - below(1980) : some_start(s));
     put_word(frame + 10, quantity);
     frame[12] = (uint8_t)bytes;
     for (uint32_t k = 0; k < bytes; k++)
