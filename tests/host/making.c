@@ -376,9 +376,9 @@ static size_t make_about_pool(uint8_t *frame, uint32_t pool)
 size_t make_request(uint8_t *frame, const zb_settings *s, uint32_t pool, uint32_t wrong)
 {
     size_t size;
-    if (pool && one_in(30)) {
+    if (pool && one_in(2 * wrong)) {
         size = make_about_pool(frame, pool);
-    } else if (pool && !one_in(20)) {
+    } else if (pool && !one_in(wrong)) {
         uint32_t k = below(pool);
         size = make_read(frame, 1 + k % 4, 1024 + k / 4, 1 + k / 4 % 3);
         frame[6] = 1;
