@@ -29,7 +29,7 @@ extern "C" {
    write. */
 typedef struct zb_state {
     uint32_t ids[ZB_PLACES];             /* a live place: its proxy id plus 1; 0: free */
-    uint64_t asked[ZB_PLACES];           /* what was asked, in one word */
+    uint64_t asked[ZB_PLACES];           /* what was asked, in one word; bit 32: nothing joins it any more */
     uint8_t  callers[ZB_PLACES];         /* the client that it was issued for */
     uint64_t deadlines[ZB_PLACES];
     uint8_t  counts[ZB_PLACES];          /* parties of the entry */
@@ -75,7 +75,7 @@ typedef struct {
 enum {
     ZB_DONE = 1,        /* fresh, read, write, attach, detach, link lost: done */
     ZB_ISSUED = 2,      /* request: the frame for the controller is written */
-    ZB_JOINED = 3,      /* request: it waits with another's read, nothing is written */
+    ZB_JOINED = 3,      /* request: it waits with another's read, which no write has met since; nothing is written */
     ZB_EXCEPTION = 4,   /* request: an exception for the caller is written */
     ZB_ANSWERED = 5,    /* reply: the frame and its list are written */
     ZB_TIMED_OUT = 6,   /* tick: the exception 0B and its list are written */

@@ -21,7 +21,7 @@ typedef struct {
     enum settings_kind settings;
     uint32_t weight[CALLS]; /* in the order of enum call; fresh comes at the beginning too */
     uint32_t pool;          /* how many different reads are asked; 0: anything */
-    uint32_t wrong;         /* one input in so many is spoilt */
+    uint32_t wrong;         /* one input in so many is spoilt, and with a pool one request in so many is none of its reads */
     uint32_t step;          /* a call comes less than this many ms after the one before */
     enum special special;
 } session;

@@ -13,12 +13,14 @@ enum { OTHERS_BETWEEN = 65536 - ZB_PLACES };
 ledger_book ledger;
 static uint8_t *group_of;          /* for each serial its group */
 static uint32_t last_issue[65536]; /* for each proxy id the number of its last issue, from 1 */
+static ledger_write *written;      /* the issued writes and "other" requests, in their order */
 static uint64_t all_accepted, all_reply, all_timeout, all_leaving, all_lost, all_held;
 
 void ledger_open(uint64_t most_calls)
 {
     group_of = calloc(most_calls + 1, 1);
-    if (!group_of) {
+    written = calloc(most_calls + 1, sizeof *written);
+    if (!group_of || !written) {
         printf("no memory for the ledger\n");
         exit(1);
     }
@@ -120,12 +122,54 @@ static void accept(ledger_entry *e, uint32_t client, uint64_t now, const uint8_t
     move(p->serial, NEVER, HELD);
 }
 
+static bool is_of_bits(uint8_t function)
+{
+    return function == 1 || function == 2 || function == 5 || function == 15;
+}
+
+static bool is_write(uint8_t function)
+{
+    return function == 5 || function == 6 || function == 15 || function == 16;
+}
+
+/* #102: the write or "other" has the read's unit, and is "other", or of its table with an address in its range. */
+static bool meets(const ledger_write *w, const ledger_entry *read)
+{
+    if (w->unit != read->unit)
+        return false;
+    if (!is_write(w->function))
+        return true;
+    return is_of_bits(w->function) == is_of_bits(read->function)
+        && !(w->last < read->start || w->first > (uint32_t)read->start + read->quantity - 1);
+}
+
+/* The last write or "other" that was issued after the read and meets it, or NULL: by the history and not by a mark. */
+static const ledger_write *met_since(const ledger_entry *read)
+{
+    for (uint32_t n = ledger.writes; n > 0 && written[n - 1].issue > read->issue; n--)
+        if (meets(&written[n - 1], read))
+            return &written[n - 1];
+    return NULL;
+}
+
 /* The live entries that ask the same as the read in `frame`, by why they can or cannot be joined. */
 typedef struct {
     uint32_t joinable, full, due;
+    uint32_t by_write, by_other; /* met since their issue: they cannot be joined */
     uint32_t otherwise; /* of 01 for 02, and of 02 for 01: they cannot be joined */
-    const ledger_entry *smallest, *first_issued;
+    const ledger_entry *smallest, *first_issued, *smallest_met;
 } equals;
+
+/* An equal read that was met since its issue. */
+static void met_equal(equals *q, const ledger_entry *e, const ledger_write *w)
+{
+    q->by_write += is_write(w->function);
+    q->by_other += !is_write(w->function);
+    if (!q->smallest_met || e->id < q->smallest_met->id)
+        q->smallest_met = e;
+    if (is_of_bits(e->function) && is_write(w->function))
+        reached(REACHED_BITS_CLOSED);
+}
 
 static equals equal_reads(uint64_t now, const uint8_t *frame, size_t size)
 {
@@ -144,6 +188,11 @@ static equals equal_reads(uint64_t now, const uint8_t *frame, size_t size)
         q.full += !is_due(e, now) && e->parties == PARTIES;
         if (is_due(e, now) || e->parties == PARTIES)
             continue;
+        const ledger_write *w = met_since(e);
+        if (w) {
+            met_equal(&q, e, w);
+            continue;
+        }
         q.joinable++;
         if (!q.smallest || e->id < q.smallest->id)
             q.smallest = e;
@@ -151,6 +200,17 @@ static equals equal_reads(uint64_t now, const uint8_t *frame, size_t size)
             q.first_issued = e;
     }
     return q;
+}
+
+/* An issued write or "other" is kept with its addresses. */
+static void keep_write(const ledger_entry *e)
+{
+    ledger_write *w = &written[ledger.writes++];
+    w->issue = e->issue;
+    w->unit = e->unit;
+    w->function = e->function;
+    w->first = e->start;
+    w->last = e->function == 5 || e->function == 6 ? e->start : (uint32_t)e->start + e->quantity - 1;
 }
 
 /* Demand 3: an id is not issued again until OTHERS_BETWEEN others were, and never while it is live. */
@@ -194,6 +254,8 @@ static void issued(uint32_t client, uint64_t now, const uint8_t *frame, size_t s
         memcpy(e->written, frame, sizeof e->written);
         memcpy(e->sent, pair_out(), sizeof e->sent);
     }
+    if (e->function < 1 || e->function > 4)
+        keep_write(e);
     accept(e, client, now, frame);
     if (ledger.lives == ZB_PLACES)
         reached(REACHED_LAST_PLACE);
@@ -210,6 +272,10 @@ static void joined(uint32_t client, uint64_t now, const uint8_t *frame, zb_answe
         reached(REACHED_SMALLEST_JOINED);
     if (q->smallest != q->first_issued)
         reached(REACHED_SMALLEST_IS_YOUNGER);
+    if (q->smallest_met && q->smallest_met->id < e->id)
+        reached(REACHED_CLOSED_PASSED_OVER);
+    if (ledger.writes && written[ledger.writes - 1].issue > e->issue)
+        reached(REACHED_MISSED_JOINED);
     if (e->parties == 0)
         reached(REACHED_EMPTY_JOINED);
     if (e->parties == PARTIES - 1)
@@ -221,11 +287,6 @@ static void joined(uint32_t client, uint64_t now, const uint8_t *frame, zb_answe
     if (e->function < 3)
         reached(REACHED_BITS_JOINED);
     accept(e, client, now, frame);
-}
-
-static bool is_of_bits(uint8_t function)
-{
-    return function == 1 || function == 2 || function == 5 || function == 15;
 }
 
 static void got_exception(uint8_t function, zb_answer a)
@@ -289,6 +350,12 @@ void ledger_request(uint32_t client, uint64_t now, const uint8_t *frame, size_t 
     }
     if (q.due)
         reached(REACHED_DUE_NOT_JOINED);
+    if (q.by_write)
+        reached(REACHED_WRITE_CLOSED);
+    if (q.by_other)
+        reached(REACHED_OTHER_CLOSED);
+    if (a.outcome == ZB_EXCEPTION && q.by_write + q.by_other)
+        reached(REACHED_CLOSED_04);
     if (a.outcome == ZB_EXCEPTION)
         return;
     if (q.full)
@@ -340,6 +407,11 @@ static void end_entry(ledger_entry *e, zb_answer a, enum group to)
         reached(to == BY_REPLY ? REACHED_EMPTY_ANSWERED : REACHED_EMPTY_TIMED_OUT);
     if (e->parties == PARTIES)
         reached(to == BY_REPLY ? REACHED_FULL_ANSWERED : REACHED_FULL_TIMED_OUT);
+    if (e->function >= 1 && e->function <= 4 && met_since(e)) {
+        reached(to == BY_REPLY ? REACHED_CLOSED_ANSWERED : REACHED_CLOSED_TIMED_OUT);
+        if (e->parties == 0)
+            reached(REACHED_CLOSED_EMPTY);
+    }
     *e = ledger.live[--ledger.lives];
 }
 

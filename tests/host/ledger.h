@@ -24,6 +24,13 @@ typedef struct {
     ledger_party party[ZB_PARTY_PLACES / ZB_PLACES];
 } ledger_entry;
 
+/* A write or an "other" that was issued, with what it wrote to: first to last, and of "other" everything. */
+typedef struct {
+    uint32_t issue; /* its number among the issues */
+    uint8_t unit, function;
+    uint32_t first, last;
+} ledger_write;
+
 /* What calls and outcomes have told since the fresh state. */
 typedef struct {
     uint32_t timeout, join;
@@ -32,6 +39,7 @@ typedef struct {
     uint32_t lives;
     ledger_entry live[ZB_PLACES];
     uint32_t issues;
+    uint32_t writes; /* how many of them are writes or "other" */
     uint16_t last_id; /* of the last issue */
     uint64_t accepted, by_reply, by_timeout, by_leaving, by_lost_link;
 } ledger_book;

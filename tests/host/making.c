@@ -356,10 +356,29 @@ static size_t make_any(uint8_t *frame, const zb_settings *s)
     }
 }
 
+/* A write or an "other" about the reads of a pool: before them, behind them, inside or around, in their unit or another. */
+static size_t make_about_pool(uint8_t *frame, uint32_t pool)
+{
+    static const uint8_t functions[] = {5, 6, 15, 16};
+    size_t size = make_other(frame);
+    if (!one_in(6)) {
+        frame[7] = functions[below(4)];
+        put_word(frame + 8, 1020 + below(pool / 4 + 10));
+        put_word(frame + 10, frame[7] < 15 ? 0 : 1 + below(5));
+        frame[12] = frame[7] == 15 ? 1 : (uint8_t)(2 * frame[11]);
+        memset(frame + 13, (int)below(10), frame[12]);
+        size = finish_request(frame, frame[7] < 15 ? 5 : 6u + frame[12]);
+    }
+    frame[6] = one_in(8) ? 2 : 1;
+    return size;
+}
+
 size_t make_request(uint8_t *frame, const zb_settings *s, uint32_t pool, uint32_t wrong)
 {
     size_t size;
-    if (pool && !one_in(20)) {
+    if (pool && one_in(2 * wrong)) {
+        size = make_about_pool(frame, pool);
+    } else if (pool && !one_in(wrong)) {
         uint32_t k = below(pool);
         size = make_read(frame, 1 + k % 4, 1024 + k / 4, 1 + k / 4 % 3);
         frame[6] = 1;

@@ -1,4 +1,4 @@
-/* An ordinary proxy core in C, written from document 01 alone and section by section in its order, with request #101 of document 02. */
+/* An ordinary proxy core in C, written from document 01 alone and section by section in its order, with requests #101 and #102 of document 02. */
 #include "model.h"
 #include <stdio.h>
 #include <string.h>
@@ -239,7 +239,7 @@ static uint8_t exception_for(const model_entry *asked, const uint8_t *pdu)
 
 static bool can_be_joined(const model_entry *e, const model_entry *asked, uint64_t now)
 {
-    return e->live && e->unit == asked->unit && e->function == asked->function && e->start == asked->start
+    return e->live && !e->closed && e->unit == asked->unit && e->function == asked->function && e->start == asked->start
         && e->quantity == asked->quantity && e->parties < MODEL_PARTIES && e->deadline > now;
 }
 
@@ -302,6 +302,28 @@ static zb_answer issue(model_state *st, model_entry *e, uint64_t now, const uint
     return a;
 }
 
+/* Whether a write has an address that a read has too, both of one table: address by address. */
+static bool is_met(const model_entry *read, const model_entry *write)
+{
+    for (uint32_t address = write->start; address < write->start + write->quantity; address++)
+        if (address >= read->start && address < read->start + read->quantity)
+            return read->bits == write->bits;
+    return false;
+}
+
+/* #102: an issued write closes the live reads of its unit and table that it meets, an "other" every live read of its unit. */
+static void close_reads(model_state *st, const model_entry *asked)
+{
+    if (asked->asked == ASKED_READ)
+        return;
+    for (int n = 0; n < MODEL_LIVE; n++) {
+        model_entry *e = &st->entries[n];
+        if (e->live && e->asked == ASKED_READ && e->unit == asked->unit
+            && (asked->asked == ASKED_OTHER || is_met(e, asked)))
+            e->closed = true;
+    }
+}
+
 static zb_answer exception_to_caller(const uint8_t *frame, uint8_t code, uint8_t *out)
 {
     zb_answer a = came_to(ZB_EXCEPTION);
@@ -352,6 +374,7 @@ zb_answer model_request(model_state *st, uint32_t client, uint64_t now,
     add_party(&asked, client, word_at(frame));
     zb_answer a = issue(st, &asked, now, frame, frame_len, out);
     *e = asked;
+    close_reads(st, &asked);
     return a;
 }
 

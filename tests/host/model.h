@@ -27,6 +27,7 @@ typedef struct {
     uint32_t quantity; /* a single write: 1; other: 0 */
     uint32_t value;    /* of a single write */
     bool reencoded;    /* a 06 whose value became digits at its issue */
+    bool closed;       /* a read that nothing joins any more (#102) */
     uint64_t deadline;
     uint32_t parties;
     model_party party[MODEL_PARTIES]; /* in joining order */

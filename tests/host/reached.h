@@ -47,6 +47,15 @@ extern const char *const call_names[CALLS];
     X(MOST_COILS, "a request of 1,968 coils") \
     X(ECHO_VALUE, "an echo 05 with another value is refused") \
     X(DUE_NOT_JOINED, "an equal read is not joined because it is due") \
+    X(WRITE_CLOSED, "nor because a write was issued that meets it") \
+    X(OTHER_CLOSED, "nor because an \"other\" was issued for its unit") \
+    X(BITS_CLOSED, "01 or 02 met by a write of coils") \
+    X(CLOSED_PASSED_OVER, "a larger id is joined, the smaller is closed") \
+    X(MISSED_JOINED, "a read is joined that the last write misses") \
+    X(CLOSED_04, "a read equal to a closed one gets exception 04") \
+    X(CLOSED_ANSWERED, "a closed read is answered") \
+    X(CLOSED_TIMED_OUT, "a closed read times out") \
+    X(CLOSED_EMPTY, "a closed read that was left by all ends") \
     X(SMALLEST_JOINED, "of several entries the smallest id is joined") \
     X(SMALLEST_IS_YOUNGER, "the smallest id is not the one issued first") \
     X(EMPTY_JOINED, "an entry left by all is joined again") \

@@ -127,7 +127,7 @@ module _ {R W N : Type 0} (r : Rules R) (b : Book R W N) where
         ⊎-elim
         (λ (z : jp < r .places).
         let w = join-found r b g (a .joins) z in
-        subst (Fits r b) (sym (enter-joins a z (w .0) (w .1))) (w .1, w .2 .1, w .2 .2, a .exact (w .0 .what) (w .2 .0)))
+        subst (Fits r b) (sym (enter-joins a z (w .0) (w .1))) (w .1, w .2 .1, w .2 .2, a .exact (w .0 .what) (w .0 .note) (w .2 .0)))
         (λ (z : r .places ≤ jp). ⊎-elim
         (λ (m : a .may ≡ true). ⊎-elim
         (λ (y : fp < r .places). subst (Fits r b) (sym (enter-issues a z m y)) (y, free-found r b y .0, next-free r b g, refl))

@@ -106,12 +106,12 @@ module _ {R W N : Type 0} (r : Rules R) (b : Book R W N) (test : Option (Live W 
       best-right (λ k. test (at b k)) beats (r .places) irr trans (r .places) (omega arith) k (rw (g .long) at (at-low (b .places) k e h)) (ap test h ∙ t) .1
 
 module _ {R W N : Type 0} (r : Rules R) (b : Book R W N) where
-  open-is : (joins : W → Bool) (e : Live W N) → isOpen (r .room) (b .clock) joins (some e) ≡ true → Open r b joins e
+  open-is : (joins : W → N → Bool) (e : Live W N) → isOpen (r .room) (b .clock) joins (some e) ≡ true → Open r b joins e
   open-is joins e t =
-      let u = and-right (joins (e .what)) _ t in
-      (and-left (joins (e .what)) _ t, ltb-true (length (e .parties)) (r .room) (and-left (ltb (length (e .parties)) (r .room)) _ u), ltb-true (b .clock) (e .deadline) (and-right (ltb (length (e .parties)) (r .room)) _ u))
+      let u = and-right (joins (e .what) (e .note)) _ t in
+      (and-left (joins (e .what) (e .note)) _ t, ltb-true (length (e .parties)) (r .room) (and-left (ltb (length (e .parties)) (r .room)) _ u), ltb-true (b .clock) (e .deadline) (and-right (ltb (length (e .parties)) (r .room)) _ u))
 
-  is-open : (joins : W → Bool) (e : Live W N) → Open r b joins e → isOpen (r .room) (b .clock) joins (some e) ≡ true
+  is-open : (joins : W → N → Bool) (e : Live W N) → Open r b joins e → isOpen (r .room) (b .clock) joins (some e) ≡ true
   is-open joins e o = rw (o .0, lt-ltb (length (e .parties)) (r .room) (o .1)) (lt-ltb (b .clock) (e .deadline) (o .2))
 
   -- the lowest free place
@@ -126,7 +126,7 @@ module _ {R W N : Type 0} (r : Rules R) (b : Book R W N) where
 
   module _ (g : Good r b) where
     -- the entry that a request joins may be joined, and no other that may be has a smaller id
-    pub join-found : (joins : W → Bool) → joinPlace r b joins < r .places
+    pub join-found : (joins : W → N → Bool) → joinPlace r b joins < r .places
         → (e : Live W N) × (at b (joinPlace r b joins) ≡ some e) × Open r b joins e × ((j : ℕ) (d : Live W N) → at b j ≡ some d → Open r b joins d → e .id ≤ d .id)
     join-found joins z =
         let test : Option (Live W N) → Bool = isOpen (r .room) (b .clock) joins in
@@ -139,7 +139,7 @@ module _ {R W N : Type 0} (r : Rules R) (b : Book R W N) where
               ltb-false (d .id) (w .0 .id) (sym (ap (λ (o : Option (Live W N)). lowerId o (some (w .0))) h) ∙ sym (ap (lowerId (at b j)) (w .1)) ∙ s),
         )
 
-    pub join-none : (joins : W → Bool) → r .places ≤ joinPlace r b joins → NoneOpen r b joins
+    pub join-none : (joins : W → N → Bool) → r .places ≤ joinPlace r b joins → NoneOpen r b joins
     join-none joins z k e h o = true≢false (sym (is-open joins e o) ∙ spot-none r b (isOpen (r .room) (b .clock) joins) (λ j k. lowerId (at b j) (at b k)) g z k e h)
 
     -- the entry that a tick ends is due, and no other that is due is earlier, or of its deadline and with a smaller id

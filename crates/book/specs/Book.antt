@@ -72,8 +72,9 @@ pub data Move (R W N : Type 0) : Type 0 where
   strike : (c : ℕ) → Move R W N
   -- the link is lost, and every entry ends
   wipe : Move R W N
-  -- what else is kept of each entry changes, and other settings are in force: for later requests, no call of the base does either
+  -- what else is kept of each entry changes
   mark : (W → N → N) → Move R W N
+  -- other settings are in force: for later requests, no call does this yet
   adopt : R → Move R W N
 
 -- what is seen of a call and its outcome

@@ -13,12 +13,12 @@ use Rattle.book.specs.Book.{Rules, Party, Live, Book, Move, at, hasId, l
 use Rattle.book.specs.Book.Why.{full, unknown, mismatched, idle, busy}
 use Rattle.book.specs.Book.Move.{rest, pass, join, issue, reply, expire, strike, wipe, mark, adopt}
 
--- a request: what it asks, which live requests it may join (none but those that ask the same), whether it may be issued for all that its client has outstanding, what
--- else is kept of it, and for whom
+-- a request: what it asks, which live requests it may join, by what these ask and what else is kept of them (none but those that ask the same), whether it may be issued for
+-- all that its client has outstanding, what else is kept of it, and for whom
 pub record Asking (W N : Type 0) : Type 0 where
   pub what : W
-  pub joins : W → Bool
-  pub exact : (v : W) → joins v ≡ true → what ≡ v
+  pub joins : W → N → Bool
+  pub exact : (v : W) (n : N) → joins v n ≡ true → what ≡ v
   pub may : Bool
   pub note : N
   pub party : Party
@@ -42,10 +42,10 @@ pub data Op (R W N : Type 0) : Type 0 where
   settle : R → Op R W N
 
 module _ {W N : Type 0} where
-  -- the request there may be joined: it asks the same, has room for one more, and its deadline is later than now
-  abbrev pub isOpen : ℕ → ℕ → (W → Bool) → Option (Live W N) → Bool
+  -- the request there may be joined: by what it asks and what else is kept of it, and it has room for one more, and its deadline is later than now
+  abbrev pub isOpen : ℕ → ℕ → (W → N → Bool) → Option (Live W N) → Bool
   isOpen room now joins none = false
-  isOpen room now joins (some e) = joins (e .what) && (ltb (length (e .parties)) room && ltb now (e .deadline))
+  isOpen room now joins (some e) = joins (e .what) (e .note) && (ltb (length (e .parties)) room && ltb now (e .deadline))
 
   abbrev pub isLive : Option (Live W N) → Bool
   isLive none = false
@@ -72,7 +72,7 @@ module _ {R W N : Type 0} where
   -- the places; `r .places` where there is none
 
   -- of the entries that may be joined, the one with the smallest id
-  abbrev pub joinPlace : Rules R → Book R W N → (W → Bool) → ℕ
+  abbrev pub joinPlace : Rules R → Book R W N → (W → N → Bool) → ℕ
   joinPlace r b joins = best (λ k. isOpen (r .room) (b .clock) joins (at b k)) (λ j k. lowerId (at b j) (at b k)) (r .places) (r .places)
 
   -- the lowest free place
@@ -128,11 +128,11 @@ module _ {R W N : Type 0} where
   -- what the choices are for, said of entries and not of tests
 
   -- the entry may be joined
-  abbrev pub Open : Rules R → Book R W N → (W → Bool) → Live W N → Type 0
-  Open r b joins e = (joins (e .what) ≡ true) × (length (e .parties) < r .room) × (b .clock < e .deadline)
+  abbrev pub Open : Rules R → Book R W N → (W → N → Bool) → Live W N → Type 0
+  Open r b joins e = (joins (e .what) (e .note) ≡ true) × (length (e .parties) < r .room) × (b .clock < e .deadline)
 
   -- no live entry may be joined
-  abbrev pub NoneOpen : Rules R → Book R W N → (W → Bool) → Type 0
+  abbrev pub NoneOpen : Rules R → Book R W N → (W → N → Bool) → Type 0
   NoneOpen r b joins = (k : ℕ) (e : Live W N) → at b k ≡ some e → Open r b joins e → ⊥
 
   -- every place is live

@@ -1,5 +1,6 @@
-// The check of a request: what it may ask; what was asked as one word; the check of a reply.
+// The check of a request: what it may ask; what was asked as one word; which live read it spoils; the check of a reply.
 pub mod matching;
+pub mod spoiling;
 pub mod words;
 
 ghost use mathlib.Core.Path.{_≡_};

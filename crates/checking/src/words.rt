@@ -1,6 +1,7 @@
 // What was asked as one word, and from its word again.
 ghost use mathlib.Core.Path.{_≡_};
 ghost use Prim.Native.Nat.{_%_, _<_};
+ghost use Rattle.laws.specs.Bits.{has, with};
 ghost use Rattle.pdu.specs.Replies.{what};
 ghost use Rattle.pdu.specs.Words.{kept, keptIn, wordOf, whatOf, whatIn, entryOf};
 use pdu::Asked;
@@ -14,6 +15,9 @@ const BYTES: u64 = 256;
 const FIELDS: u64 = 65536;
 
 const KEPT: u64 = FIELDS * FIELDS * FIELDS;
+
+// Bit 32 of a live place's word: the request is closed.
+const CLOSED: u64 = FIELDS * FIELDS;
 
 // What a class keeps of what was asked, in 48 bits.
 fn kept_of(asked: Asked) -> u64
@@ -103,6 +107,19 @@ pub fn asked_in(word: u64) -> Asked
     ensures { λ r. ⌜ r ≡ whatOf word .asked ⌝ }
 {
     kept_in(pdu::class_of(function_in(word)), word % KEPT)
+}
+
+// Whether a word has bit 32, and the word with it.
+pub fn is_closed(word: u64) -> bool
+    ensures { λ r. ⌜ r ≡ has word 32 ⌝ }
+{
+    word / CLOSED % 2 == 1
+}
+
+pub fn closed_word(word: u64) -> u64
+    ensures { λ r. ⌜ r ≡ with word 32 ⌝ }
+{
+    word | CLOSED
 }
 
 // The entry that a word makes, and its word again.

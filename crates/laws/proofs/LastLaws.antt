@@ -1,7 +1,7 @@
 -- The last value along a list: what one element more makes of it, and what it is in plain words.
 -- Assumes nothing.
 use mathlib.Core.Path.{_≡_, refl, ap, sym, _∙_}
-use mathlib.Core.Logic.{⊎-elim, _↔_}
+use mathlib.Core.Logic.{⊎-elim, _⊎_, inl, inr, _↔_}
 use mathlib.Core.Bool.{Bool, true, false, cond}
 use mathlib.Core.Option.{Option, some, none, orElse, Option·none-ne-some, Option·some-ne-none, Option·some-injective}
 use mathlib.Core.List.{List, [], _∷_, _++_, List·Memᴰ, List·Memᴰ·head, List·Memᴰ·tail, List·Memᴰ·not-nil, List·Memᴰ·cases-cons}
@@ -25,11 +25,15 @@ module _ {B : Type 0} where
   neither (some x) b e = absurd (Option·some-ne-none x e)
 
 module _ {A B : Type 0} (f : A → Option B) where
-  -- one element more
+  -- of two lists, and of one element more
+  pub last-append : (xs ys : List A) → lastGiven f (xs ++ ys) ≡ orElse (lastGiven f ys) (lastGiven f xs)
+  unfolding lastGiven orElse
+  last-append [] ys = sym (else-nothing (lastGiven f ys))
+  last-append (x ∷ xs) ys = ap (λ (o : Option B). orElse o (f x)) (last-append xs ys) ∙ else-else (lastGiven f ys) (lastGiven f xs) (f x)
+
   pub last-more : (xs : List A) (x : A) → lastGiven f (xs ++ (x ∷ [])) ≡ orElse (f x) (lastGiven f xs)
   unfolding lastGiven orElse
-  last-more [] x = sym (else-nothing (f x))
-  last-more (y ∷ ys) x = ap (λ (o : Option B). orElse o (f y)) (last-more ys x) ∙ else-else (f x) (lastGiven f ys) (f y)
+  last-more xs x = last-append xs (x ∷ [])
 
   -- f gives nothing along the list
   abbrev pub Silent : List A → Type 0
@@ -82,6 +86,15 @@ module _ {A : Type 0} (p : A → Bool) where
   pub last-no : (xs : List A) (x : A) → p x ≡ false → lastOf p (xs ++ (x ∷ [])) ≡ lastOf p xs
   unfolding orElse
   last-no xs x t = last-more (λ y. cond (p y) (some y) none) xs x ∙ rw t refl
+
+  -- where x passes, the last that passes of a list with x in it is x or behind it
+  pub last-behind : (xs : List A) (x : A) (ys : List A) (y : A) → p x ≡ true → lastOf p (xs ++ x ∷ ys) ≡ some y → (lastOf p ys ≡ some y) ⊎ (x ≡ y)
+  unfolding lastGiven orElse
+  last-behind xs x ys y t e = by (lastOf p ys) (rw (last-append (λ z. cond (p z) (some z) none) xs (x ∷ ys), t) at e)
+    where
+      by : (o : Option A) → orElse (orElse o (some x)) (lastOf p xs) ≡ some y → (o ≡ some y) ⊎ (x ≡ y)
+      by none e = inr (Option·some-injective x y e)
+      by (some z) e = inl e
 
   -- the last that passes is x exactly if x passes and nothing behind it does
   pub last-of-exactly : (xs : List A) (x : A) → (lastOf p xs ≡ some x) ↔ ((ys : List A) × (zs : List A) × (xs ≡ ys ++ x ∷ zs) × (p x ≡ true) × ((z : A) → List·Memᴰ z zs → p z ≡ false))

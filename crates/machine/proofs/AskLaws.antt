@@ -4,10 +4,10 @@ use Prim.Native.Nat.{ℕ, zero, suc, _+_, _*_, _-_, _/_, _%_, _≤_, _<_}
 use mathlib.Core.Path.{_≡_, refl, ap, sym, _∙_}
 use mathlib.Core.Logic.{⊎-elim, _⊎_, inl, inr}
 use mathlib.Core.Bool.{Bool, true, false, true≢false}
-use mathlib.Core.Option.{some, none}
-use mathlib.Core.List.{List, [], _∷_, _++_}
+use mathlib.Core.Option.{Option, some, none, Option·map}
+use mathlib.Core.List.{List, [], _∷_, _++_, map}
 use native.Mathlib.Omega.{arith}
-use lib.ListN.{length, getD, drop, length-append, length-drop, List·getD-append}
+use lib.ListN.{length, getD, set, drop, length-append, length-drop, List·getD-append, List·getD-map}
 use lib.Seq.{getD-append-add, getD-drop, getD-set-same, getD-set-other}
 use borrow.Author.Tests.{ltb-false}
 use Rattle.laws.specs.Numbers.{ids, places, frameBuffer, deviceFailure}
@@ -24,6 +24,7 @@ use Rattle.pdu.specs.declared.Asked.{Asked}
 use Rattle.pdu.specs.declared.Asked.the-variants.{Read, SingleWrite, MultipleWrite, Other}
 use Rattle.pdu.specs.declared.Checked.the-variants as check
 use Rattle.pdu.specs.declared.ProxyId.{ProxyId}
+use Rattle.pdu.proofs.SpoilingLaws.{spoils-itself}
 use Rattle.pdu.proofs.RequestLaws.{RequestRoom, legal-room, legal-checked, excepted-codes, known}
 use Rattle.rewrite.specs.declared.Way.the-variants.{ToBcd}
 use Rattle.rewrite.specs.Registers.{registersAt}
@@ -32,15 +33,15 @@ use Rattle.rewrite.specs.Frames.{forwarded}
 use Rattle.rewrite.specs.Plain.{OfBits}
 use Rattle.rewrite.specs.Plain.OfBits.{coils-read, discrete-read, coil-written, coils-written}
 use Rattle.rewrite.proofs.FrameLaws.{length-forwarded, rewriting-other}
-use Rattle.book.specs.Book.{Live, Next, Good, at}
+use Rattle.book.specs.Book.{Live, Next, Good, at, newEntry, marked}
 use Rattle.book.specs.Desk.{freePlace, freeId}
 use Rattle.book.proofs.PlaceLaws.{at-low}
 use Rattle.book.proofs.DeskLaws.{free-found, next-free}
-use Rattle.machine.specs.Machine.{Machine, Note, rules, settings, clocked}
+use Rattle.machine.specs.Machine.{Machine, Note, opened, rules, settings, clocked}
 use Rattle.machine.specs.Calls.{Outcome}
 use Rattle.machine.specs.Calls.Call.{request}
 use Rattle.machine.specs.Refusals.{refusal}
-use Rattle.machine.specs.Requests.{excepted, joinedTo, issuedTo}
+use Rattle.machine.specs.Requests.{wanted, partyOf, closing, excepted, joinedTo, issuedTo}
 use Rattle.machine.specs.Outcomes.{outcome}
 use Rattle.machine.specs.Spelled.{asker, spelled, asking}
 use Rattle.machine.specs.declared.Answer.the-variants as answer
@@ -110,11 +111,12 @@ pub record Issues (m : Machine) (c t : ℕ) (f o : List ℕ) (d : Outcome) : Typ
   -- all of it at once, by the definition of what is forwarded
   pub frame : d .written ≡ over (laid id (forwarded (settings m .tags) (asking f .asked) f .bytes)) o
   pub listed : d .listed ≡ []
-  -- the machine: a place that was free holds the request, and the cursor stands behind the id
+  -- the machine: a place that was free holds the request, which is open, every other place has what it had, but that a read which the request spoils is closed, and the cursor stands
+  -- behind the id
   pub place : ℕ
   pub free : at (m .book) place ≡ none
-  pub entered : at (d .after .book) place ≡ some (record { id = id; what = asking f; by = c; note = tt; deadline = t + settings m .timeout; parties = asker c f ∷ [] })
-  pub others : (k : ℕ) → (k ≡ place → ⊥) → at (d .after .book) k ≡ at (m .book) k
+  pub entered : at (d .after .book) place ≡ some (record { id = id; what = asking f; by = c; note = opened; deadline = t + settings m .timeout; parties = asker c f ∷ [] })
+  pub others : (k : ℕ) → (k ≡ place → ⊥) → at (d .after .book) k ≡ Option·map (marked (closing (asking f))) (at (m .book) k)
   pub cursor : d .after .book .cursor ≡ turn ids (id + 1)
   pub clock : d .after .book .clock ≡ t
   pub attached : d .after .attached ≡ m .attached
@@ -213,6 +215,14 @@ passed-on Other n tags f = (refl, refl, refl)
 own-bytes : (a b n : ℕ) → b < 256 → n < 128 → ((a * 256 + b) / 256 ≡ a) × ((a * 256 + b) % 256 ≡ b) × ((n + 128) % 256 ≡ n + 128)
 own-bytes a b n h l = (omega arith, omega arith, omega arith)
 
+-- what stands at a place, and elsewhere, once an entry was put there and every entry is marked
+module _ (x : What → Note → Note) (ps : List (Option (Live What Note))) (k : ℕ) (e : Live What Note) where
+  marked-here : k < length ps → getD (map (Option·map (marked x)) (set ps k (some e))) k none ≡ some (marked x e)
+  marked-here h = List·getD-map (Option·map (marked x)) (set ps k (some e)) k none ∙ ap (Option·map (marked x)) (getD-set-same ps k (some e) none h)
+
+  marked-elsewhere : (j : ℕ) → (j ≡ k → ⊥) → getD (map (Option·map (marked x)) (set ps k (some e))) j none ≡ Option·map (marked x) (getD ps j none)
+  marked-elsewhere j n = List·getD-map (Option·map (marked x)) (set ps k (some e)) j none ∙ ap (Option·map (marked x)) (getD-set-other ps k j (some e) none n)
+
 -- THE THREE OUTCOMES
 
 module _ (m : Machine) (c t : ℕ) (f o : List ℕ) (g : Good rules (m .book)) (h : refusal m (request c t f o) ≡ 0) where
@@ -227,10 +237,11 @@ module _ (m : Machine) (c t : ℕ) (f o : List ℕ) (g : Good rules (m .book)) (
       omega arith
 
   issued-is : legal (settings m) f ≡ true → NoneToJoin m t f → freePlace rules (m .book) < places → Issues m c t f o (issuedTo (clocked m t) c f o)
-  unfolding issuedTo
+  unfolding issuedTo closing
   issued-is is-legal alone l =
       let id = freeId rules (m .book) in
       let place = freePlace rules (m .book) in
+      let entered : Live What Note = newEntry id (wanted f) opened (clocked m t .book .clock + settings m .timeout) (partyOf c f) in
       let sent = forwarded (settings m .tags) (askedOf f) f in
       let long : length (sent .bytes) ≡ length f = length-forwarded (settings m .tags) f (askedOf f) in
       let room = fits-in in
@@ -257,8 +268,8 @@ module _ (m : Machine) (c t : ℕ) (f o : List ℕ) (g : Good rules (m .book)) (
         listed = refl;
         place = place;
         free = free-found rules (m .book) l .0;
-        entered = getD-set-same (m .book .places) place _ none (rw (g .long) l) ∙ rw (← wanted-spelled f, ← party-spelled c f, set-clock) refl;
-        others = λ k n. getD-set-other (m .book .places) place k _ none n;
+        entered = marked-here (closing (wanted f)) (m .book .places) place entered (rw (g .long) l) ∙ rw (spoils-itself (wanted f), ← wanted-spelled f, ← party-spelled c f, set-clock) refl;
+        others = λ k n. marked-elsewhere (closing (wanted f)) (m .book .places) place entered k n ∙ rw (← wanted-spelled f) refl;
         cursor = refl;
         clock = set-clock;
         attached = refl;

@@ -27,6 +27,7 @@ use Rattle.settings.specs.TagWords.{kindOf}
 use Rattle.settings.proofs.TagLaws.{valid-ascends}
 use Rattle.pdu.specs.Requests.{legal}
 use Rattle.pdu.specs.Replies.{What, excepts}
+use Rattle.pdu.specs.Spoiling.{spoils}
 use Rattle.pdu.specs.declared.ProxyId.{ProxyId}
 use Rattle.pdu.specs.declared.Table.the-variants.{Registers}
 use Rattle.pdu.specs.declared.Asked.the-variants.{Read}
@@ -34,7 +35,7 @@ use Rattle.rewrite.specs.Registers.{registersAt}
 use Rattle.rewrite.specs.Rewriting.{ownIn, Rewritten}
 use Rattle.rewrite.specs.Plain.{Whole, OfBits}
 use Rattle.rewrite.proofs.FrameLaws.{returned-bits}
-use Rattle.book.specs.Book.{Party, Live, Good, NothingDue, at}
+use Rattle.book.specs.Book.{Party, Live, Event, Good, NothingDue, at}
 use Rattle.book.specs.Book.Event.{issued, left, lost}
 use Rattle.book.specs.Ledger.{Ticket, Apart, Differing, Anew, under, partiesOf}
 use Rattle.book.specs.Traced.{touches, issuedId, behind, Outstanding, Holds}
@@ -55,6 +56,7 @@ use Rattle.machine.specs.Granted.{grantedCalls, concerns}
 use Rattle.machine.specs.Waiting.{nextDeadline}
 use Rattle.machine.specs.Spelled.{asker, asking}
 use Rattle.machine.specs.Histories.{seenOf, events, told}
+use Rattle.machine.specs.Closed.{concernsRead, Joinable}
 use Rattle.machine.specs.declared.Answer.{Answer}
 use Rattle.machine.specs.declared.Answer.the-variants as answer
 use Rattle.machine.proofs.RefusalLaws.{table, Applies, refused-exactly}
@@ -73,6 +75,7 @@ use Rattle.machine.proofs.TickLaws.{Lent, tickAt, ticksAt, ticking-ends
 use Rattle.machine.proofs.WaitingLaws.{Waits, waits, next-tick}
 use Rattle.machine.proofs.FrameOfParty.{EachItsFrame, reply-frame, always-known, timeout-frame}
 use Rattle.machine.proofs.Histories.{product, afterCalls, toldBy, ledgerOf, accounted}
+use Rattle.machine.proofs.ClosedLaws.{open-exactly, not-stale, joins-exactly}
 use Rattle.machine.proofs.StateLaws.{Origin, attached-exactly, clock-exactly, issue-origin}
 
 -- Tender 3, the sum: accepted = answered by a reply + answered by timeout + dropped by a leaving + dropped by a lost link + held in the party places; each accepted
@@ -266,6 +269,26 @@ module _ (v : Value) (xs : List Call) where
         a .frame ∙ ap (λ (y : Rewritten). over (laid 0 (y .bytes)) o) r,
         a .says ∙ ap (λ (y : Rewritten). answer.Answered (record { 0 = e .id }) (length f) (length (e .parties)) (y .partial) (y .value)) r,
       )
+
+  -- Request #102: nothing joins a read any more once a request was issued that spoils it, by unit, table and range, or "other"; which those are is said in plain numbers by
+  -- `spoils-exactly` of SpoilingLaws of `pdu`. A live entry is open exactly if nothing that spoils it was issued since its own issue.
+  pub what-is-open : (k : ℕ) (e : Live What Note) → at (afterCalls v xs .book) k ≡ some e
+      → (e .note .closed ≡ false) ↔ ((p : Party) × (lastOf (concernsRead (e .id) (e .what)) (toldBy v xs) ≡ some (issued (e .id) (e .what) (e .deadline) p)))
+  what-is-open = open-exactly v xs
+
+  -- A read after a write is not stale: where any request was issued, and later one joins that it spoils, the entry that this one joins was issued after it, and is live since.
+  pub a-read-after-a-write-is-not-stale : (before later : List (Event What)) (j : ℕ) (w : What) (d : ℕ) (p : Party) → toldBy v xs ≡ before ++ (issued j w d p ∷ later)
+      → (c t : ℕ) (f o : List ℕ) (i : ProxyId) → outcome (afterCalls v xs) (request c t f o) .says ≡ answer.Joined i → spoils w (asking f) ≡ true
+      → (d′ : ℕ) × (p′ : Party) × (lastOf (touches (i .0)) later ≡ some (issued (i .0) (asking f) d′ p′))
+  a-read-after-a-write-is-not-stale = not-stale v xs
+
+  -- And closing everything is no way out: a legal 01 to 04 that is not refused, with joining on, joins exactly where some live entry asks the same, has room for one more
+  -- party and a deadline later than now, and nothing that spoils it was issued since its issue; of several the smallest id.
+  pub a-read-joins-exactly : (c t : ℕ) (f o : List ℕ) → refusal (afterCalls v xs) (request c t f o) ≡ 0 → legal (settings (afterCalls v xs)) f ≡ true
+      → ((getD f 7 0 ≡ 1) ⊎ (getD f 7 0 ≡ 2)) ⊎ ((getD f 7 0 ≡ 3) ⊎ (getD f 7 0 ≡ 4)) → v .join ≡ 1 → (i : ProxyId)
+      → (outcome (afterCalls v xs) (request c t f o) .says ≡ answer.Joined i)
+      ↔ (Joinable (afterCalls v xs .book) (toldBy v xs) t f (i .0) × ((id : ℕ) → Joinable (afterCalls v xs .book) (toldBy v xs) t f id → i .0 ≤ id))
+  a-read-joins-exactly = joins-exactly v xs
 
   -- Document 01: link lost returns the former set, client by client those that were attached, and nobody is attached after it.
   pub link-lost-says-who-was-attached : (s : ℕ) × (outcome (afterCalls v xs) linkLost .says ≡ answer.Lost s)

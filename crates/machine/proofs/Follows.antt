@@ -19,18 +19,18 @@ use Rattle.wire.specs.Frame.{idOf}
 use Rattle.pdu.specs.Requests.{faultOf}
 use Rattle.pdu.specs.Replies.{What, what}
 use Rattle.book.specs.Book.{Party, Live, Move, Good, at}
-use Rattle.book.specs.Book.Move.{pass, join, issue, reply as replies, expire, strike, wipe}
+use Rattle.book.specs.Book.Move.{pass, join, issue, reply as replies, expire, strike, wipe, mark}
 use Rattle.book.specs.Book.Event.{passed, replied, expired, left, lost}
 use Rattle.book.specs.Desk.{Open, freePlace, freeId, idPlace, duePlace}
 use Rattle.book.specs.Machine.{tells, applies, AllFit}
 use Rattle.book.proofs.PlaceLaws.{at-low}
 use Rattle.book.proofs.GoodLaws.{good-move}
 use Rattle.book.proofs.DeskLaws.{join-found, free-found, due-found, next-free}
-use Rattle.machine.specs.Machine.{Machine, Note, Live-book, rules, settings, clocked}
+use Rattle.machine.specs.Machine.{Machine, Note, opened, Live-book, rules, settings, clocked}
 use Rattle.machine.specs.Calls.{Call, Outcome, done, outOf, listOf}
 use Rattle.machine.specs.Calls.Call.{attach, detach, request, reply, tick, linkLost}
 use Rattle.machine.specs.Refusals.{refusal, entryFor}
-use Rattle.machine.specs.Requests.{wanted, partyOf, joins, joiningPlace, canJoin, exhausted, excepted, joinedTo, issuedTo, served, admitted}
+use Rattle.machine.specs.Requests.{wanted, partyOf, joins, closing, joiningPlace, canJoin, exhausted, excepted, joinedTo, issuedTo, served, admitted}
 use Rattle.machine.specs.Replies.{pairs, answeredTo, answered, expiredTo, ticked}
 use Rattle.machine.specs.Outcomes.{granted, outcome}
 use Rattle.machine.specs.Numbers.{numbers}
@@ -45,7 +45,7 @@ use Rattle.machine.proofs.JoinLaws.{joins-exact}
 abbrev pub Moves : Type 0
 Moves = List (Move Value What Note)
 
--- the moves that a legal request makes once the clock is set: joining, else issuing, else none
+-- the moves that a legal request makes once the clock is set: joining, else issuing and closing what it spoils, else none
 unfoldable pub joining : Machine → ℕ → ℕ → List ℕ → Option (Live What Note) → Moves
 joining m k c f none = []
 joining m k c f (some e) = join k e (wanted f) (partyOf c f) ∷ []
@@ -54,7 +54,7 @@ unfoldable pub serving : Machine → ℕ → List ℕ → Moves
 serving m c f =
     cond (canJoin m f) (joining m (joiningPlace m f) c f (at (m .book) (joiningPlace m f)))
     (cond (exhausted m c) []
-    (issue (freePlace rules (m .book)) (freeId rules (m .book)) (wanted f) tt (m .book .clock + settings m .timeout) (partyOf c f) ∷ []))
+    (issue (freePlace rules (m .book)) (freeId rules (m .book)) (wanted f) opened (m .book .clock + settings m .timeout) (partyOf c f) ∷ mark (closing (wanted f)) ∷ []))
 
 unfoldable pub ending : (Live What Note → Move Value What Note) → Option (Live What Note) → Moves
 ending x none = []
@@ -127,7 +127,7 @@ follows m x =
 
 joined-fits : (m : Machine) (k c : ℕ) (f : List ℕ) (e : Live What Note) → at (m .book) k ≡ some e → Open rules (m .book) (joins (settings m) (wanted f)) e → AllFit rules (m .book) (joining m k c f (some e))
 unfolding joining AllFit
-joined-fits m k c f e h o = ((h, o .1, o .2, joins-exact (settings m) (wanted f) (e .what) (o .0)), tt)
+joined-fits m k c f e h o = ((h, o .1, o .2, joins-exact (settings m) (wanted f) (e .what) (e .note) (o .0) .1), tt)
 
 served-fits : (m : Machine) (c : ℕ) (f : List ℕ) → Good rules (m .book) → AllFit rules (m .book) (serving m c f)
 unfolding serving AllFit exhausted
@@ -139,7 +139,7 @@ served-fits m c f g =
     (λ (t : canJoin m f ≡ false). rw t
     (⊎-elim
     (λ (u : ltb (freePlace rules (m .book)) places ≡ true). rw u
-    ((ltb-true (freePlace rules (m .book)) places u, free-found rules (m .book) (ltb-true (freePlace rules (m .book)) places u) .0, next-free rules (m .book) g, refl), tt))
+    ((ltb-true (freePlace rules (m .book)) places u, free-found rules (m .book) (ltb-true (freePlace rules (m .book)) places u) .0, next-free rules (m .book) g, refl), (tt, tt)))
     (λ (u : ltb (freePlace rules (m .book)) places ≡ false). rw u tt)
     (true-or (ltb (freePlace rules (m .book)) places))))
     (true-or (canJoin m f))

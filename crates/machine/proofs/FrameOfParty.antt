@@ -22,16 +22,16 @@ use Rattle.pdu.proofs.RequestLaws.{Known, known}
 use Rattle.pdu.proofs.ReplyLaws.{excepts-exact, answers-exact, exception-excepts}
 use Rattle.rewrite.specs.Frames.{returned}
 use Rattle.rewrite.proofs.FrameLaws.{length-returned, returned-framed, returned-answers, laid-answers}
-use Rattle.book.specs.Book.{Party, Live, at, struck}
-use Rattle.book.specs.Desk.{duePlace}
+use Rattle.book.specs.Book.{Party, Live, at, newEntry, struck, marked}
+use Rattle.book.specs.Desk.{freePlace, freeId, duePlace}
 use Rattle.book.specs.Ledger.{Ticket, Ledger, under}
 use Rattle.book.specs.Machine.{after}
 use Rattle.book.proofs.PlaceLaws.{set-cases, map-each, nothing-there}
-use Rattle.machine.specs.Machine.{Machine, Note, made, rules, settings, clocked}
+use Rattle.machine.specs.Machine.{Machine, Note, opened, made, rules, settings, clocked}
 use Rattle.machine.specs.Calls.{Call}
 use Rattle.machine.specs.Calls.Call.{attach, detach, request, reply, tick, linkLost}
 use Rattle.machine.specs.Refusals.{rows, refusal}
-use Rattle.machine.specs.Requests.{joiningPlace, canJoin, exhausted, excepted, joinedTo, issuedTo, served, admitted}
+use Rattle.machine.specs.Requests.{wanted, partyOf, closing, joiningPlace, canJoin, exhausted, excepted, joinedTo, issuedTo, served, admitted}
 use Rattle.machine.specs.Replies.{answeredTo, answered, expiredTo, ticked}
 use Rattle.machine.specs.Outcomes.{granted, outcome}
 use Rattle.machine.specs.Numbers.{numbers}
@@ -127,7 +127,10 @@ served-known m c f o n a =
     (λ (t : canJoin m f ≡ false). rw t
     (⊎-elim
     (λ (u : exhausted m c ≡ true). rw u a)
-    (λ (u : exhausted m c ≡ false). rw u (placed-known (m .book .places) _ _ n a))
+    (λ (u : exhausted m c ≡ false).
+    let k = freePlace rules (m .book) in
+    let x : Live What Note = newEntry (freeId rules (m .book)) (wanted f) opened (m .book .clock + settings m .timeout) (partyOf c f) in
+    rw u (map-each (λ e. Known (e .what .function)) (set (m .book .places) k (some x)) (marked (closing (wanted f))) (placed-known (m .book .places) k x n a)))
     (true-or (exhausted m c))))
     (true-or (canJoin m f))
   where

@@ -1,18 +1,20 @@
--- What a request joins: nothing but what it asks itself, and only a read with joining on; and what that is in plain numbers and bytes.
+-- What a request joins: nothing but what it asks itself and is not closed, and only a read with joining on; and what that is in plain numbers and bytes.
 -- Assumes nothing.
 use Prim.Native.Nat.{ℕ, _<_}
 use mathlib.Core.Path.{_≡_, refl, ap, sym, _∙_}
 use mathlib.Core.Logic.{⊎-elim, _⊎_, inl, inr, _↔_}
-use mathlib.Core.Bool.{Bool, true, false, cond, _&&_, _||_, false≢true, true≢false, and-true, and-false}
+use mathlib.Core.Bool.{Bool, true, false, cond, not, _&&_, _||_, false≢true, true≢false, and-true, and-false}
 use mathlib.Core.List.{List}
 use lib.ListN.{length, getD}
 use lib.Dec.{eqb}
 use borrow.Author.Tests.{eq-eqb, eqb-true}
 use Rattle.laws.specs.Numbers.{room}
 use Rattle.laws.proofs.Choice.{true-or, and-left, and-right, never}
-use Rattle.laws.proofs.TestLaws.{holds-eq, holds-and, holds-or}
+use Rattle.laws.proofs.TestLaws.{holds-eq, holds-not, holds-and, holds-or}
 use Rattle.settings.specs.Grammar.{Value}
 use Rattle.pdu.specs.Replies.{What, what}
+use Rattle.pdu.specs.Spoiling.{sameTable}
+use Rattle.pdu.proofs.SpoilingLaws.{same-table}
 use Rattle.pdu.specs.declared.Table.{Table}
 use Rattle.pdu.specs.declared.Table.the-variants.{Bits, Registers}
 use Rattle.pdu.specs.declared.Asked.{Asked}
@@ -20,7 +22,7 @@ use Rattle.pdu.specs.declared.Asked.the-variants.{Read, SingleWrite, MultipleWr
 use Rattle.book.specs.Book.{Live}
 use Rattle.book.specs.Desk.{Open}
 use Rattle.machine.specs.Machine.{Machine, Note, rules, settings, clocked}
-use Rattle.machine.specs.Requests.{wanted, sameTable, sameRead, joins}
+use Rattle.machine.specs.Requests.{wanted, sameRead, alike, joins}
 use Rattle.machine.specs.Spelled.{spelled, asking}
 use Rattle.machine.proofs.SpelledLaws.{asked-spelled, wanted-spelled, kept-as-asked}
 
@@ -29,14 +31,6 @@ whats p q r = rw (p, q, r)
 
 what-same : (w u : What) → w .unit ≡ u .unit → w .function ≡ u .function → w .asked ≡ u .asked → w ≡ u
 what-same w u p q r = whats p q r
-
--- Two tables are the same exactly where they are equal.
-pub same-table : (t r : Table) → (sameTable t r ≡ true) ↔ (t ≡ r)
-unfolding sameTable
-same-table Bits Bits = (λ e. refl, λ e. refl)
-same-table Bits Registers = (λ e. absurd (false≢true e), λ e. never (cc))
-same-table Registers Bits = (λ e. absurd (false≢true e), λ e. never (cc))
-same-table Registers Registers = (λ e. refl, λ e. refl)
 
 same-read : (a b : Asked) → sameRead a b ≡ true → a ≡ b
 unfolding sameRead
@@ -50,10 +44,9 @@ same-read (SingleWrite t a v) b e = absurd (false≢true e)
 same-read (MultipleWrite t s q) b e = absurd (false≢true e)
 same-read Other b e = absurd (false≢true e)
 
--- A request joins nothing but what it asks itself.
-pub joins-exact : (v : Value) (w u : What) → joins v w u ≡ true → w ≡ u
-unfolding joins
-joins-exact v w u t =
+alike-exact : (v : Value) (w u : What) → alike v w u ≡ true → w ≡ u
+unfolding alike
+alike-exact v w u t =
     let on = eqb (v .join) 1 in
     let units = eqb (w .unit) (u .unit) in
     let functions = eqb (w .function) (u .function) in
@@ -62,13 +55,29 @@ joins-exact v w u t =
     let t₂ = and-right units (functions && reads) t₁ in
     what-same w u (eqb-true _ _ (and-left units (functions && reads) t₁)) (eqb-true _ _ (and-left functions reads t₂)) (same-read _ _ (and-right functions reads t₂))
 
+-- A request joins nothing but what is not closed and asks what it asks itself.
+joins-both : (v : Value) (w u : What) (n : Note) → (joins v w u n ≡ true) ↔ ((n .closed ≡ false) × (alike v w u ≡ true))
+unfolding joins
+joins-both v w u n = holds-and (not (n .closed)) (alike v w u) (holds-not (n .closed)) (λ e. e, λ e. e)
+
+pub joins-exact : (v : Value) (w u : What) (n : Note) → joins v w u n ≡ true → (n .closed ≡ false) × (w ≡ u)
+joins-exact v w u n t = let b = joins-both v w u n .0 t in (b .0, alike-exact v w u (b .1))
+
+-- And that it joins, if it may join its like.
+pub joins-like : (v : Value) (w : What) (n : Note) → n .closed ≡ false → alike v w w ≡ true → joins v w w n ≡ true
+joins-like v w n e t = joins-both v w w n .1 (e, t)
+
 -- A request that may not join its like joins nothing.
-pub joins-none : (v : Value) (w u : What) → joins v w w ≡ false → joins v w u ≡ false
-joins-none v w u off = ⊎-elim (λ t. absurd (true≢false (sym t ∙ ap (joins v w) (sym (joins-exact v w u t)) ∙ off))) (λ t. t) (true-or (joins v w u))
+alike-none : (v : Value) (w u : What) → alike v w w ≡ false → alike v w u ≡ false
+alike-none v w u off = ⊎-elim (λ t. absurd (true≢false (sym t ∙ ap (alike v w) (sym (alike-exact v w u t)) ∙ off))) (λ t. t) (true-or (alike v w u))
+
+pub joins-none : (v : Value) (w u : What) (n : Note) → alike v w w ≡ false → joins v w u n ≡ false
+unfolding joins
+joins-none v w u n off = simp (alike-none v w u off, and-false)
 
 -- A read may join its like when joining is on.
-pub joins-read : (v : Value) (w : What) (t : Table) (s q : ℕ) → w .asked ≡ Read t s q → joins v w w ≡ eqb (v .join) 1
-unfolding joins sameRead
+pub joins-read : (v : Value) (w : What) (t : Table) (s q : ℕ) → w .asked ≡ Read t s q → alike v w w ≡ eqb (v .join) 1
+unfolding alike sameRead
 joins-read v w t s q e =
     rw (e, eq-eqb (w .unit) (w .unit) refl, eq-eqb (w .function) (w .function) refl, same-table t t .1 refl, eq-eqb s s refl, eq-eqb q q refl) (and-true (eqb (v .join) 1))
 
@@ -80,21 +89,23 @@ reads-other (MultipleWrite t s q) b other = refl
 reads-other Other b other = refl
 
 -- What is no read joins nothing.
-pub joins-other : (v : Value) (w u : What) → ((t : Table) (s q : ℕ) → w .asked ≡ Read t s q → ⊥) → joins v w u ≡ false
-unfolding joins
+pub joins-other : (v : Value) (w u : What) → ((t : Table) (s q : ℕ) → w .asked ≡ Read t s q → ⊥) → alike v w u ≡ false
+unfolding alike
 joins-other v w u other = simp (reads-other (w .asked) (u .asked) other, and-false)
 
--- the entry may be joined by the request f at the time t: joining is on, f is a read (01 to 04), the entry asks what f asks, has room for one more party, and is due later
+-- the entry may be joined by the request f at the time t: joining is on, f is a read (01 to 04), the entry is not closed, asks what f asks, has room for one more party, and is due
+-- later; when an entry is closed is said of the history in ClosedLaws
 pub record MayJoin (m : Machine) (t : ℕ) (f : List ℕ) (e : Live What Note) : Type 0 where
   pub on : settings m .join ≡ 1
   pub reads : ((getD f 7 0 ≡ 1) ⊎ (getD f 7 0 ≡ 2)) ⊎ ((getD f 7 0 ≡ 3) ⊎ (getD f 7 0 ≡ 4))
+  pub unclosed : e .note .closed ≡ false
   pub same : e .what ≡ asking f
   pub fewer : length (e .parties) < room
   pub later : t < e .deadline
 
-joins-on : (v : Value) (w u : What) → joins v w u ≡ true → v .join ≡ 1
-unfolding joins
-joins-on v w u t = eqb-true (v .join) 1 (and-left (eqb (v .join) 1) _ t)
+alike-on : (v : Value) (w u : What) → alike v w u ≡ true → v .join ≡ 1
+unfolding alike
+alike-on v w u t = eqb-true (v .join) 1 (and-left (eqb (v .join) 1) _ t)
 
 one-of : (n a b : ℕ) → ((eqb n a || eqb n b) ≡ true) ↔ ((n ≡ a) ⊎ (n ≡ b))
 one-of n a b = holds-or (eqb n a) (eqb n b) (holds-eq n a) (holds-eq n b)
@@ -111,8 +122,8 @@ no-read f x y t s q = rw (x, y) (by (eqb (getD f 7 0) 5) (eqb (getD f 7 0) 6) (e
     by false false false true a b e = never (cc)
     by false false false false a b e = never (cc)
 
-joins-reads : (v : Value) (f : List ℕ) (u : What) → joins v (wanted f) u ≡ true → ((getD f 7 0 ≡ 1) ⊎ (getD f 7 0 ≡ 2)) ⊎ ((getD f 7 0 ≡ 3) ⊎ (getD f 7 0 ≡ 4))
-joins-reads v f u t =
+alike-reads : (v : Value) (f : List ℕ) (u : What) → alike v (wanted f) u ≡ true → ((getD f 7 0 ≡ 1) ⊎ (getD f 7 0 ≡ 2)) ⊎ ((getD f 7 0 ≡ 3) ⊎ (getD f 7 0 ≡ 4))
+alike-reads v f u t =
     let n = getD f 7 0 in
     ⊎-elim
     (λ x. inl (one-of n 1 2 .0 x))
@@ -123,7 +134,7 @@ joins-reads v f u t =
     (true-or (eqb n 1 || eqb n 2))
 
 -- a request that is a read may join its like
-reads-join : (v : Value) (f : List ℕ) → ((getD f 7 0 ≡ 1) ⊎ (getD f 7 0 ≡ 2)) ⊎ ((getD f 7 0 ≡ 3) ⊎ (getD f 7 0 ≡ 4)) → joins v (wanted f) (wanted f) ≡ eqb (v .join) 1
+reads-join : (v : Value) (f : List ℕ) → ((getD f 7 0 ≡ 1) ⊎ (getD f 7 0 ≡ 2)) ⊎ ((getD f 7 0 ≡ 3) ⊎ (getD f 7 0 ≡ 4)) → alike v (wanted f) (wanted f) ≡ eqb (v .join) 1
 reads-join v f =
     let k = kept-as-asked 0 f in
     ⊎-elim (λ h. joins-read v (wanted f) Bits _ _ (k .reads-bits h)) (λ h. joins-read v (wanted f) Registers _ _ (k .reads h))
@@ -132,15 +143,17 @@ reads-join v f =
 pub may-join : (m : Machine) (t : ℕ) (f : List ℕ) (e : Live What Note) → clocked m t .book .clock ≡ t → Open rules (clocked m t .book) (joins (settings m) (wanted f)) e ↔ MayJoin m t f e
 may-join m t f e k = (
   λ o.
+      let b = joins-both (settings m) (wanted f) (e .what) (e .note) .0 (o .0) in
       record {
-        on = joins-on (settings m) (wanted f) (e .what) (o .0);
-        reads = joins-reads (settings m) f (e .what) (o .0);
-        same = sym (joins-exact (settings m) (wanted f) (e .what) (o .0)) ∙ wanted-spelled f;
+        on = alike-on (settings m) (wanted f) (e .what) (b .1);
+        reads = alike-reads (settings m) f (e .what) (b .1);
+        unclosed = b .0;
+        same = sym (alike-exact (settings m) (wanted f) (e .what) (b .1)) ∙ wanted-spelled f;
         fewer = o .1;
         later = rw k at (o .2);
       },
   λ j. (
-    rw (j .same ∙ sym (wanted-spelled f)) (reads-join (settings m) f (j .reads) ∙ eq-eqb (settings m .join) 1 (j .on)),
+    rw (j .same ∙ sym (wanted-spelled f)) (joins-like (settings m) (wanted f) (e .note) (j .unclosed) (reads-join (settings m) f (j .reads) ∙ eq-eqb (settings m .join) 1 (j .on))),
     j .fewer,
     rw k (j .later),
   ),

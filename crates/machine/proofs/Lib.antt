@@ -16,4 +16,5 @@ pub mod StateLaws
 pub mod TickLaws
 pub mod WaitingLaws
 pub mod FrameOfParty
+pub mod ClosedLaws
 pub mod Claims

@@ -53,7 +53,7 @@ numbers-tell (TimedOut i k) = record { refused = tells-refused (TimedOut i k); d
 numbers-tell NothingDue = record { refused = tells-refused NothingDue; done = λ e. absurd (omega (arith, e)); issued = λ e. absurd (omega (arith, e)); joined = λ e. absurd (omega (arith, e)); excepted = λ e. absurd (omega (arith, e)); answered = λ e. absurd (omega (arith, e)); timed-out = λ e. absurd (omega (arith, e)); nothing-due = λ e. refl }
 numbers-tell (Lost s) = record { refused = tells-refused (Lost s); done = λ e. inl refl; issued = λ e. absurd (omega (arith, e)); joined = λ e. absurd (omega (arith, e)); excepted = λ e. absurd (omega (arith, e)); answered = λ e. absurd (omega (arith, e)); timed-out = λ e. absurd (omega (arith, e)); nothing-due = λ e. absurd (omega (arith, e)) }
 
--- A report says a refusal n, and an exception with the code n, exactly if the answer does.
+-- A report says a refusal n, an exception with the code n, and a join under the id n, exactly if the answer does.
 pub refusal-exactly : (a : Answer) (n : ℕ) → (n ≡ 0 → ⊥) → (numbers a .refusal ≡ n) ↔ (a ≡ Refused n)
 unfolding numbers
 refusal-exactly a n h = (λ e. numbers-tell a .refused (λ z. h (sym e ∙ z)) ∙ ap Refused e, λ e. ap (λ (b : Answer). numbers b .refusal) e)
@@ -61,6 +61,13 @@ refusal-exactly a n h = (λ e. numbers-tell a .refused (λ z. h (sym e ∙ z)) �
 pub exception-exactly : (a : Answer) (n : ℕ) → ((numbers a .outcome ≡ isException) × (numbers a .code ≡ n)) ↔ (a ≡ Excepted n)
 unfolding numbers
 exception-exactly a n = (λ e. numbers-tell a .excepted (e .0) ∙ ap Excepted (e .1), λ e. (ap (λ (b : Answer). numbers b .outcome) e, ap (λ (b : Answer). numbers b .code) e))
+
+pub join-exactly : (a : Answer) (n : ℕ) → ((numbers a .outcome ≡ isJoined) × (numbers a .id ≡ n)) ↔ (a ≡ Joined (record { 0 = n }))
+unfolding numbers
+join-exactly a n = (
+  λ e. numbers-tell a .joined (e .0) ∙ ap (λ (i : ℕ). Joined (record { 0 = i })) (e .1),
+  λ e. (ap (λ (b : Answer). numbers b .outcome) e, ap (λ (b : Answer). numbers b .id) e),
+)
 
 -- what is no refusal reports none
 pub no-refusal : (a : Answer) → isRefusal a ≡ false → numbers a .refusal ≡ 0

@@ -9,3 +9,4 @@ pub mod Granted
 pub mod Numbers
 pub mod Spelled
 pub mod Histories
+pub mod Closed

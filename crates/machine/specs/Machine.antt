@@ -1,6 +1,7 @@
 -- The machine: the book of live requests with the settings in force, its cursor and its clock, and the set of attached clients.
 -- Assumes nothing.
 use Prim.Native.Nat.{ℕ, _<_}
+use mathlib.Core.Bool.{Bool, false}
 use lib.Dec.{lit<}
 use Rattle.laws.specs.Numbers.{ids, places, room}
 use Rattle.settings.specs.Grammar.{Value}
@@ -8,9 +9,12 @@ use Rattle.pdu.specs.Replies.{What}
 use Rattle.book.specs.Book.{Rules, Book, Move, fresh, apply}
 use Rattle.book.specs.Book.Move.{pass}
 
--- nothing else is kept of a live request
-abbrev pub Note : Type 0
-Note = Unit {0}
+-- what else is kept of a live request: whether it is closed, so that nothing joins it any more; it is issued open
+pub record Note : Type 0 where
+  pub closed : Bool
+
+abbrev pub opened : Note
+opened = record { closed = false }
 
 abbrev pub Live-book : Type 0
 Live-book = Book Value What Note

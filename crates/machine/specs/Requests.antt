@@ -1,7 +1,7 @@
 -- A request that was not refused: the exceptions 03 and 02, joining, issuing, and exception 04, in document 01's order.
 -- Assumes nothing.
 use Prim.Native.Nat.{ℕ, _+_}
-use mathlib.Core.Bool.{Bool, true, false, cond, not, _&&_}
+use mathlib.Core.Bool.{Bool, false, cond, not, _&&_, _||_}
 use mathlib.Core.Option.{Option, some, none}
 use mathlib.Core.List.{List, []}
 use lib.ListN.{length}
@@ -12,15 +12,14 @@ use Rattle.wire.specs.Frame.{idOf, unitOf, functionOf, laid, exception}
 use Rattle.settings.specs.Grammar.{Value}
 use Rattle.pdu.specs.Requests.{askedOf, faultOf}
 use Rattle.pdu.specs.Replies.{What, what}
-use Rattle.pdu.specs.declared.Table.{Table}
-use Rattle.pdu.specs.declared.Table.the-variants.{Bits, Registers}
+use Rattle.pdu.specs.Spoiling.{sameTable, spoils}
 use Rattle.pdu.specs.declared.Asked.{Asked}
 use Rattle.pdu.specs.declared.Asked.the-variants.{Read, SingleWrite, MultipleWrite, Other}
 use Rattle.rewrite.specs.Frames.{forwarded}
 use Rattle.book.specs.Book.{Party, Live, at}
-use Rattle.book.specs.Book.Move.{join, issue}
+use Rattle.book.specs.Book.Move.{join, issue, mark}
 use Rattle.book.specs.Desk.{joinPlace, freePlace, freeId}
-use Rattle.machine.specs.Machine.{Machine, Note, rules, settings, clocked, moved}
+use Rattle.machine.specs.Machine.{Machine, Note, opened, rules, settings, clocked, moved}
 use Rattle.machine.specs.Calls.{Outcome, done}
 use Rattle.machine.specs.declared.Answer.the-variants.{Issued, Joined, Excepted}
 
@@ -30,13 +29,6 @@ wanted f = what (unitOf f) (functionOf f) (askedOf f)
 
 abbrev pub partyOf : ℕ → List ℕ → Party
 partyOf c f = record { client = c; original = idOf f }
-
--- both of bits, or both of registers
-unfoldable pub sameTable : Table → Table → Bool
-sameTable Bits Bits = true
-sameTable Bits Registers = false
-sameTable Registers Bits = false
-sameTable Registers Registers = true
 
 -- 01 to 04, when joining is on: equal unit, function, start and quantity; equal functions have the same table
 unfoldable pub sameRead : Asked → Asked → Bool
@@ -48,8 +40,16 @@ sameRead (SingleWrite t a v) x = false
 sameRead (MultipleWrite t s q) x = false
 sameRead Other x = false
 
-unfoldable pub joins : Value → What → What → Bool
-joins s w v = eqb (s .join) 1 && (eqb (w .unit) (v .unit) && (eqb (w .function) (v .function) && sameRead (w .asked) (v .asked)))
+unfoldable pub alike : Value → What → What → Bool
+alike s w v = eqb (s .join) 1 && (eqb (w .unit) (v .unit) && (eqb (w .function) (v .function) && sameRead (w .asked) (v .asked)))
+
+-- and it is not closed
+unfoldable pub joins : Value → What → What → Note → Bool
+joins s w v n = not (n .closed) && alike s w v
+
+-- what is kept of the request r once w is issued: w closes what it spoils, and what is closed stays so
+unfoldable pub closing : What → What → Note → Note
+closing w r n = record { closed = n .closed || spoils w r }
 
 -- where a request would join: the smallest proxy id of those that it may join; and the place for an issue, if fewer than 256 are live
 abbrev pub joiningPlace : Machine → List ℕ → ℕ
@@ -71,13 +71,13 @@ unfoldable pub joinedTo : Machine → ℕ → ℕ → List ℕ → List ℕ → 
 joinedTo m k c f o none = excepted m deviceFailure f o
 joinedTo m k c f o (some e) = done (Joined (record { 0 = e .id })) (moved m (join k e (wanted f) (partyOf c f))) o []
 
--- step 4: issue; the frame goes out with the proxy id and its payload rewritten
+-- step 4: issue, and close the reads that the request spoils; the frame goes out with the proxy id and its payload rewritten
 unfoldable pub issuedTo : Machine → ℕ → List ℕ → List ℕ → Outcome
 issuedTo m c f o =
     let id = freeId rules (m .book) in
     let sent = forwarded (settings m .tags) (askedOf f) f in
     done (Issued (record { 0 = id }) (length f) (sent .partial) (sent .value))
-    (moved m (issue (freePlace rules (m .book)) id (wanted f) tt (m .book .clock + settings m .timeout) (partyOf c f)))
+    (moved (moved m (issue (freePlace rules (m .book)) id (wanted f) opened (m .book .clock + settings m .timeout) (partyOf c f))) (mark (closing (wanted f))))
     (over (laid id (sent .bytes)) o)
     []
 

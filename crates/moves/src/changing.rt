@@ -9,6 +9,7 @@ ghost use lib.ListN.{getD, set};
 ghost use Rattle.laws.specs.Numbers.{places, room};
 ghost use Rattle.pdu.specs.Words.{wordOf, whatOf, Proper};
 ghost use Rattle.book.specs.Book.{entry};
+ghost use Rattle.machine.specs.Machine.{opened};
 ghost use Rattle.table.specs.Columns.{columns, tableOf, party, Sound};
 ghost use Rattle.table.specs.Changes.{Runs, Joined, blank};
 
@@ -43,7 +44,7 @@ pub fn issue<'a>(
     requires { ⌜ Proper (whatOf word) × (wordOf (whatOf word) ≡ word) ⌝ }
     ensures { λ r. ⌜ tableOf (columns (now (ids .exit)) (now (asked .exit)) (now (callers .exit)) (now (deadlines .exit)) (now (counts .exit)) (now (clients .exit)) (now (originals .exit)) (now (top .exit)))
         ≡ set (tableOf (columns (now (ids .entry)) (now (asked .entry)) (now (callers .entry)) (now (deadlines .entry)) (now (counts .entry)) (now (clients .entry)) (now (originals .entry)) (now (top .entry))))
-        place (some (entry (id .0) (whatOf word) client tt deadline (party client (original .0) ∷ []))) ⌝ }
+        place (some (entry (id .0) (whatOf word) client opened deadline (party client (original .0) ∷ []))) ⌝ }
     ensures { λ r. ⌜ Sound (columns (now (ids .exit)) (now (asked .exit)) (now (callers .exit)) (now (deadlines .exit)) (now (counts .exit)) (now (clients .exit)) (now (originals .exit)) (now (top .exit))) ⌝ }
 {
     ids[place] = id.0 as u32 + 1;

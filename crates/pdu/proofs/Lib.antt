@@ -1,3 +1,4 @@
 pub mod RequestLaws
 pub mod ReplyLaws
 pub mod WordLaws
+pub mod SpoilingLaws

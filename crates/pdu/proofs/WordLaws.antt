@@ -3,14 +3,19 @@
 use Prim.Native.Nat.{ℕ, _+_, _*_, _/_, _%_, _^_, _≤_, _<_}
 use mathlib.Core.Path.{_≡_, refl, ap, sym, _∙_}
 use mathlib.Core.Logic.{_↔_, ⊎-elim}
-use native.Mathlib.Nat.{mod-eq-of-lt}
+use mathlib.Core.Bool.{true, false}
+use native.Mathlib.Nat.{mod-eq-of-lt, add-assoc}
 use native.Mathlib.Omega.{arith}
 use lib.Arith.{digits-div, digits-mod, digits-lt}
-use Rattle.pdu.specs.Requests.{mostReadOf, mostWrittenOf}
+use lib.Dec.{eqb}
+use Rattle.laws.specs.Bits.{has}
+use Rattle.pdu.specs.Requests.{classOf, mostReadOf, mostWrittenOf}
 use Rattle.pdu.specs.Replies.{What}
-use Rattle.pdu.specs.Words.{kept, wordOf, whatOf, whatIn, entryOf, Lawful, Proper}
+use Rattle.pdu.specs.Words.{kept, keptIn, wordOf, whatOf, whatIn, entryOf, Lawful, Proper}
 use Rattle.pdu.specs.declared.Table.{Table}
 use Rattle.pdu.specs.declared.Table.the-variants.{Bits, Registers}
+use Rattle.pdu.specs.declared.Class.{Class}
+use Rattle.pdu.specs.declared.Class.the-variants.{Reads, WritesOne, WritesMany, Others}
 use Rattle.pdu.specs.declared.Asked.{Asked}
 use Rattle.pdu.specs.declared.Asked.the-variants.{Read, SingleWrite, MultipleWrite, Other}
 use Rattle.pdu.specs.declared.ProxyId.{ProxyId}
@@ -18,8 +23,8 @@ use Rattle.pdu.specs.declared.Entry.{Entry}
 use Rattle.pdu.proofs.RequestLaws.{known}
 
 -- two fields of 16 bits fit 32 bits
-two-low : {s q : ℕ} → s < 65536 → q < 65536 → s * 65536 + q < 281474976710656
-two-low h l = let t = digits-lt h l in omega arith
+two-low : {s q : ℕ} → s < 65536 → q < 65536 → s * 65536 + q < 4294967296
+two-low h l = digits-lt {m = 65536} h l
 
 -- no request reads or writes more than 2,000
 most-read : (t : Table) → mostReadOf t ≤ 2000
@@ -30,8 +35,8 @@ most-written : (t : Table) → mostWrittenOf t ≤ 2000
 most-written Bits = omega arith
 most-written Registers = omega arith
 
--- what a legal request keeps fits 48 bits
-kept-low : (a : Asked) → Lawful a → kept a < 281474976710656
+-- what a legal request keeps fits 32 of the 48 bits
+kept-low : (a : Asked) → Lawful a → kept a < 4294967296
 unfolding kept Lawful
 kept-low (Read t s q) h = two-low (omega (arith, h)) (omega (arith, h, most-read t))
 kept-low (SingleWrite Bits a v) h = two-low (h .0) (⊎-elim (λ e. omega arith) (λ e. omega arith) (h .1))
@@ -39,28 +44,58 @@ kept-low (SingleWrite Registers a v) h = two-low (h .0) (h .1)
 kept-low (MultipleWrite t s q) h = two-low (omega (arith, h)) (omega (arith, h, most-written t))
 kept-low Other h = omega arith
 
+first-marked : (n : ℕ) → (n + 4294967296) / 65536 % 65536 ≡ n / 65536 % 65536
+first-marked n = omega arith
+
+second-marked : (n : ℕ) → (n + 4294967296) % 65536 ≡ n % 65536
+second-marked n = omega arith
+
+-- a class looks at none of the bits above those
+kept-marked : (c : Class) (n : ℕ) → keptIn c (n + 4294967296) ≡ keptIn c n
+unfolding keptIn
+kept-marked (Reads t) n = rw (first-marked n, second-marked n)
+kept-marked (WritesOne t) n = rw (first-marked n, second-marked n)
+kept-marked (WritesMany t) n = rw (first-marked n, second-marked n)
+kept-marked Others n = refl
+
 module _ (w : What) (p : Proper w) where
   function-low : w .function < 256
   function-low = omega (arith, known (w .function) .0 (p .function))
 
-  above : wordOf w / 281474976710656 ≡ w .unit * 256 + w .function
-  unfolding wordOf
-  above = digits-div (w .unit * 256 + w .function) (kept-low (w .asked) (p .lawful))
-
-  under : wordOf w % 281474976710656 ≡ kept (w .asked)
-  unfolding wordOf
-  under = digits-mod (w .unit * 256 + w .function) (kept-low (w .asked) (p .lawful))
+  -- the word of what was asked with a number in place of what is kept, from which the class has what was asked
+  of-word : (n : ℕ) → n < 281474976710656 → keptIn (classOf (w .function)) n ≡ w .asked → whatOf ((w .unit * 256 + w .function) * 281474976710656 + n) ≡ w
+  unfolding whatOf
+  of-word n h e =
+      let high = w .unit * 256 + w .function in
+      rw (digits-div high h, digits-mod high h, digits-div (w .unit) function-low, digits-mod (w .unit) function-low, mod-eq-of-lt (p .unit), e)
 
   -- What was asked comes back from its word.
   pub word-back : whatOf (wordOf w) ≡ w
-  unfolding whatOf
-  word-back =
-      rw (above, under, digits-div (w .unit) function-low, digits-mod (w .unit) function-low, mod-eq-of-lt (p .unit), p .class)
+  unfolding wordOf
+  word-back = of-word (kept (w .asked)) (let l = kept-low (w .asked) (p .lawful) in omega arith) (p .class)
+
+  -- And from its word with bit 32 set, which it does not have.
+  pub marked-back : whatOf (wordOf w + 4294967296) ≡ w
+  unfolding wordOf
+  marked-back =
+      let l = kept-low (w .asked) (p .lawful) in
+      rw add-assoc (of-word (kept (w .asked) + 4294967296) (omega arith) (kept-marked (classOf (w .function)) (kept (w .asked)) ∙ p .class))
+
+  bit-32 : (n x : ℕ) → n < 281474976710656 → n / 4294967296 ≡ x → x < 2 → has ((w .unit * 256 + w .function) * 281474976710656 + n) 32 ≡ eqb x 1
+  bit-32 n x h e l = let same : ((w .unit * 256 + w .function) * 281474976710656 + n) / 4294967296 % 2 ≡ x = omega arith in ap (λ (y : ℕ). eqb y 1) same
+
+  pub word-unmarked : has (wordOf w) 32 ≡ false
+  unfolding wordOf
+  word-unmarked = let l = kept-low (w .asked) (p .lawful) in bit-32 (kept (w .asked)) 0 (omega arith) (omega arith) (omega arith)
+
+  pub word-marked : has (wordOf w + 4294967296) 32 ≡ true
+  unfolding wordOf
+  word-marked = let l = kept-low (w .asked) (p .lawful) in rw add-assoc (bit-32 (kept (w .asked) + 4294967296) 1 (omega arith) (omega arith) (omega arith))
 
   -- A word fits 64 bits.
   pub word-low : wordOf w < 2 ^ 64
   unfolding wordOf
-  word-low = digits-lt {m = 65536} (digits-lt {m = 256} (p .unit) function-low) (kept-low (w .asked) (p .lawful))
+  word-low = digits-lt {m = 65536} (digits-lt {m = 256} (p .unit) function-low) (let l = kept-low (w .asked) (p .lawful) in omega arith)
 
 -- Two words are equal exactly where what was asked is: unit, function, and what the class keeps.
 pub words-tell : (w v : What) → Proper w → Proper v → (wordOf w ≡ wordOf v) ↔ (w ≡ v)

@@ -1,4 +1,5 @@
--- What was asked as one word: unit and function in the highest 16 bits, and 48 bits for what the function's class keeps.
+-- What was asked as one word: unit and function in the highest 16 bits, and 48 bits for what the function's class keeps. A class keeps 32 bits and looks at no other, so that
+-- bit 32 is free: the live table has it for a read that is closed.
 -- Assumes nothing.
 use Prim.Native.Nat.{ℕ, _+_, _*_, _/_, _%_, _≤_, _<_}
 use mathlib.Core.Path.{_≡_}

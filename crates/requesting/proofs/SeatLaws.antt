@@ -4,8 +4,8 @@ use Prim.Native.Nat.{ℕ, _+_, _-_, _≤_, _<_}
 use mathlib.Core.Path.{_≡_, refl, ap, sym, _∙_}
 use mathlib.Core.Logic.{⊎-elim}
 use mathlib.Core.Bool.{Bool, true, false, cond, not, _&&_}
-use mathlib.Core.Option.{some}
-use mathlib.Core.List.{List, [], _∷_}
+use mathlib.Core.Option.{some, Option·map}
+use mathlib.Core.List.{List, [], _∷_, map}
 use native.Mathlib.Omega.{arith}
 use lib.ListN.{length, getD, set}
 use lib.Dec.{eqb, ltb}
@@ -30,11 +30,11 @@ use Rattle.rewrite.specs.Rewriting.{outcome as rewrote}
 use Rattle.rewrite.specs.Frames.{forwarded, under}
 use Rattle.rewrite.specs.Lent.{tagsOf, Sent}
 use Rattle.rewrite.proofs.RoomLaws.{legal-sent}
-use Rattle.book.specs.Book.{entry}
+use Rattle.book.specs.Book.{entry, marked}
 use Rattle.book.specs.Desk.{freePlace}
-use Rattle.machine.specs.Machine.{Machine, rules}
+use Rattle.machine.specs.Machine.{Machine, opened, rules}
 use Rattle.machine.specs.Calls.{done}
-use Rattle.machine.specs.Requests.{wanted, joins, joiningPlace, excepted, issuedTo, served}
+use Rattle.machine.specs.Requests.{wanted, alike, closing, joiningPlace, excepted, issuedTo, served}
 use Rattle.machine.specs.declared.Answer.{Answer}
 use Rattle.machine.specs.declared.Answer.the-variants.{Joined, Issued}
 use Rattle.table.specs.Columns.{Columns, party, tableOf, Sound}
@@ -53,7 +53,7 @@ word-stands {f} h = rw (h .same) (rw (word-back (wanted f) (h .proper)) (h .prop
 
 -- A request may join its like by its own settings and what it asks.
 pub may-join-own : (k : Kept) (f : List ℕ) {a : Asked} {joining : Bool} → checkedOf f ≡ Legal a
-    → ((v : Value) (w : What) → v .join ≡ k .join → w .asked ≡ a → joining ≡ joins v w w) → joining ≡ joins (valueIn k) (wanted f) (wanted f)
+    → ((v : Value) (w : What) → v .join ≡ k .join → w .asked ≡ a → joining ≡ alike v w w) → joining ≡ alike (valueIn k) (wanted f) (wanted f)
 unfolding valueIn
 may-join-own k f {a} legal h = h (valueIn k) (wanted f) refl (sym (legal-passed f a legal .asks))
 
@@ -74,7 +74,7 @@ free-here is {place} e l = eqb-true (getD is place 0) 0 (rw e (best-some (isFree
 pub record Seated (k : Kept) (c : Columns) (t : ℕ) (f : List ℕ) (joining : Bool) (word seat free : ℕ) : Type 0 where
   pub sound : Sound c
   pub asks : Asks f word
-  pub may : joining ≡ joins (valueIn k) (wanted f) (wanted f)
+  pub may : joining ≡ alike (valueIn k) (wanted f) (wanted f)
   pub scanned :
       (seat ≡ cond joining (best (isOpen (c .ids) (c .asked) (c .deadlines) (c .counts) word t) (isLower (c .ids)) places (c .top)) places)
       × (free ≡ best (isFree (c .ids)) (λ i j. false) places places)
@@ -134,11 +134,11 @@ module _ {k : Kept} {c : Columns} {t : ℕ} {f : List ℕ} {joining : Bool} {wor
       cursor = λ q. q;
     }
 
--- A new entry at the lowest free place, the cursor behind its id, and the frame sent on are the issue.
+-- A new entry at the lowest free place, what it spoils closed, the cursor behind its id, and the frame sent on are the issue.
 pub issued-there : (k : Kept) (c : Columns) (client : ℕ) (o : List ℕ) (id : ProxyId) {x t word place original x′ p v : ℕ} {f o′ : List ℕ} {c′ : Columns} {what : Asked}
     → Sound c → Asks f word → checkedOf f ≡ Legal what → Sound c′
     → id .0 ≡ freeIdFrom (c .ids) (c .top) x → id .0 < ids → x′ ≡ turn ids (id .0 + 1) → original ≡ idOf f → place ≡ best (isFree (c .ids)) (λ i j. false) places places
-    → tableOf c′ ≡ set (tableOf c) place (some (entry (id .0) (whatOf word) client tt (t + k .timeout) (party client original ∷ [])))
+    → tableOf c′ ≡ map (Option·map (marked (closing (whatOf word)))) (set (tableOf c) place (some (entry (id .0) (whatOf word) client opened (t + k .timeout) (party client original ∷ []))))
     → rewrote p v o′ ≡ under (id .0) o (forwarded (tagsOf (k .tagged) (k .tags)) what f)
     → Came (Issued id (length f) p v) k t c′ x′ o′ (λ m. issuedTo m client f o) c x
 unfolding valueIn

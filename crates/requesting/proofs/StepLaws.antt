@@ -17,13 +17,13 @@ use Rattle.pdu.specs.declared.Checked.the-variants.{Excepted as Faulty, Legal}
 use Rattle.rewrite.specs.Rewriting.{Rewritten, outcome as rewrote}
 use Rattle.rewrite.specs.Frames.{forwarded, under}
 use Rattle.book.specs.Book.{Live, at, apply}
-use Rattle.book.specs.Book.Move.{join, issue}
+use Rattle.book.specs.Book.Move.{join, issue, mark}
 use Rattle.book.specs.Desk.{freePlace, freeId}
-use Rattle.machine.specs.Machine.{Machine, Note, Live-book, machine, rules, settings, moved}
+use Rattle.machine.specs.Machine.{Machine, Note, opened, Live-book, machine, rules, settings, moved}
 use Rattle.machine.specs.Calls.{Outcome, done, outOf, listOf}
 use Rattle.machine.specs.Calls.Call.{request}
 use Rattle.machine.specs.Refusals.{refusal}
-use Rattle.machine.specs.Requests.{wanted, partyOf, joiningPlace, canJoin, exhausted, excepted, joinedTo, issuedTo, served, admitted}
+use Rattle.machine.specs.Requests.{wanted, partyOf, closing, joiningPlace, canJoin, exhausted, excepted, joinedTo, issuedTo, served, admitted}
 use Rattle.machine.specs.Numbers.{numbers}
 use Rattle.machine.specs.Outcomes.{granted, outcome}
 use Rattle.machine.specs.declared.Answer.{Answer}
@@ -83,14 +83,14 @@ module _ (m : Machine) (c : ℕ) (f o : List ℕ) where
   -- what is said, kept and written of an issue under an id into a place
   abbrev sent : ℕ → ℕ → Rewritten → Outcome
   sent id place r =
-      done (Issued (record { 0 = id }) (length f) (r .partial) (r .value)) (moved m (issue place id (wanted f) tt (m .book .clock + settings m .timeout) (partyOf c f)))
-      (r .bytes) []
+      done (Issued (record { 0 = id }) (length f) (r .partial) (r .value))
+      (moved (moved m (issue place id (wanted f) opened (m .book .clock + settings m .timeout) (partyOf c f))) (mark (closing (wanted f)))) (r .bytes) []
 
-  -- What is issued: the first free id, the lowest free place, the frame under that id with its registers rewritten, and both counts.
+  -- What is issued: the first free id, the lowest free place, what it spoils closed, the frame under that id with its registers rewritten, and both counts.
   pub issue-made : (id place : ℕ) (a : Asked) (p v : ℕ) (o′ : List ℕ) (b : Live-book)
       → id ≡ freeId rules (m .book) → place ≡ freePlace rules (m .book) → a ≡ askedOf f
       → rewrote p v o′ ≡ under id o (forwarded (settings m .tags) a f)
-      → b ≡ apply rules (m .book) (issue place id (wanted f) tt (m .book .clock + settings m .timeout) (partyOf c f))
+      → b ≡ apply rules (apply rules (m .book) (issue place id (wanted f) opened (m .book .clock + settings m .timeout) (partyOf c f))) (mark (closing (wanted f)))
       → done (Issued (record { 0 = id }) (length f) p v) (machine b (m .attached)) o′ [] ≡ issuedTo m c f o
   unfolding issuedTo
   issue-made id place a p v o′ b ei ep ea w eb =

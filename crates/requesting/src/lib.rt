@@ -18,7 +18,7 @@ ghost use Rattle.rewrite.specs.Lent.{TagWords};
 ghost use Rattle.machine.specs.Machine.{Machine};
 ghost use Rattle.machine.specs.Calls.{done};
 ghost use Rattle.machine.specs.Calls.Call.{request as asks};
-ghost use Rattle.machine.specs.Requests.{joins, excepted, issuedTo, served};
+ghost use Rattle.machine.specs.Requests.{alike, excepted, issuedTo, served};
 ghost use Rattle.table.specs.Columns.{columns, party, Sound};
 ghost use Rattle.table.specs.Changes.{Runs, Joined};
 ghost use Rattle.table.specs.Places.{isFree};
@@ -63,7 +63,7 @@ fn except_caller(out: &mut [u8], frame: &[u8], code: u8) -> Answer
 
 // Whether a request may join its like: a read, when joining is on.
 fn may_join(join: u32, what: Asked) -> bool
-    ensures { λ r. ⌜ ((v : Value) (w : What) → v .join ≡ join → w .asked ≡ what → r ≡ joins v w w) ⌝ }
+    ensures { λ r. ⌜ ((v : Value) (w : What) → v .join ≡ join → w .asked ≡ what → r ≡ alike v w w) ⌝ }
 {
     match what {
         Asked::Read {
@@ -117,7 +117,7 @@ fn join_request<'a>(
     Answer::Joined { id }
 }
 
-// Issues a legal request into the lowest free place, and sends its frame on.
+// Issues a legal request into the lowest free place, closes the reads that it spoils, and sends its frame on.
 fn issue_request<'a>(
     ids: &'a mut [u32; laws::PLACES],
     asked: &'a mut [u64; laws::PLACES],
@@ -167,6 +167,7 @@ fn issue_request<'a>(
         client,
         original,
     );
+    moves::closing::close(ids, asked, *top as usize, word);
     let next = id.next();
     *cursor = next.0;
     let raw = payloads::forward(out, frame, id, what, tags, tagged as usize);

@@ -56,7 +56,7 @@ module _ (is ws bs ds ns cs os : List ℕ) (top : ℕ) (sound : Sound (columns i
 
   -- A live place's word comes back, since the columns are sound.
   word-back : (k : ℕ) → k < places → (getD is k 0 ≡ 0 → ⊥) → getD (map wordIn rows) k 0 ≡ getD ws k 0
-  word-back k h live = ap (λ l. getD l k 0) (map-tab wordIn places row) ∙ getD-tab places _ k 0 h ∙ word-made _ _ _ _ _ ∙ sound .proper k live .1
+  word-back k h live = ap (λ l. getD l k 0) (map-tab wordIn places row) ∙ getD-tab places _ k 0 h ∙ word-made _ _ _ _ _ (sound .proper k live)
 
   -- So at every place stands what stood there.
   entry-back : (k : ℕ) → k < places → entryAt back k ≡ entryAt was k

@@ -1,16 +1,20 @@
--- A place that was made of its numbers in the columns has these numbers; of its word, what the word says was asked.
+-- A place that was made of its numbers in the columns has these numbers; its word, where that is one that a live place may have.
 -- Assumes nothing.
 use Prim.Native.Nat.{ℕ, _≤_}
-use mathlib.Core.Path.{_≡_, refl, ap}
+use mathlib.Core.Path.{_≡_, refl, sym, _∙_}
 use mathlib.Core.Logic.{⊎-elim}
 use mathlib.Core.Bool.{true, false}
+use native.Mathlib.Nat.{add-zero}
 use native.Mathlib.Omega.{arith}
 use lib.Dec.{eqb}
 use borrow.Author.Tests.{eqb-true, eqb-false}
 use Rattle.laws.specs.Numbers.{ids}
+use Rattle.laws.specs.Bits.{has, with}
 use Rattle.laws.proofs.Choice.{true-or}
 use Rattle.pdu.specs.Words.{wordOf, whatOf, entryOf}
-use Rattle.pdu.proofs.WordLaws.{entry-what}
+use Rattle.pdu.proofs.WordLaws.{entry-what, word-unmarked}
+use Rattle.table.specs.Columns.{noteOf, placeWord}
+use Rattle.table.proofs.ClosingLaws.{Fit}
 use Rattle.state.specs.Places.{placeOf, numberOf, wordIn, callerOf, deadlineOf, countOf, idIn}
 
 module _ (n w c d k : ℕ) where
@@ -23,10 +27,15 @@ module _ (n w c d k : ℕ) where
       (λ (t : eqb n 0 ≡ false). let z = eqb-false n 0 t in rw t (omega (arith, z)))
       (true-or (eqb n 0))
 
-  -- The word is that of what the word says.
-  pub word-made : wordIn (placeOf n w c d k) ≡ wordOf (whatOf w)
-  unfolding wordIn placeOf
-  word-made = ap wordOf (entry-what (idIn n) w d)
+  -- The word of a live place comes back: that of what was asked, with bit 32 where it is closed.
+  pub word-made : Fit w → wordIn (placeOf n w c d k) ≡ w
+  unfolding wordIn placeOf noteOf placeWord with
+  word-made f =
+      rw (entry-what (idIn n) w d)
+      (⊎-elim
+      (λ (t : has w 32 ≡ true). rw (t, word-unmarked (whatOf w) (f .0)) (rw t at (f .1)))
+      (λ (t : has w 32 ≡ false). rw t (sym (add-zero (wordOf (whatOf w))) ∙ (rw t at (f .1))))
+      (true-or (has w 32)))
 
   -- The other numbers come back as they are.
   pub caller-back : callerOf (placeOf n w c d k) ≡ c

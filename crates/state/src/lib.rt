@@ -10,10 +10,11 @@ ghost use Rattle.laws.specs.Numbers.{places};
 ghost use Rattle.state.specs.Places.{placeOf, numberOf, wordIn, callerOf, deadlineOf, countOf, idIn};
 ghost use Rattle.state.specs.States.{gathered};
 
-// A place of the table: whether it is live, its entry, the client that the entry was issued for, how many parties wait.
+// A place of the table: whether it is live, its entry, whether that is closed, the client that it was issued for, how many parties wait.
 pub struct Place {
     pub live: bool,
     pub entry: Entry,
+    pub closed: bool,
     pub caller: u8,
     pub count: u8,
 }
@@ -44,7 +45,11 @@ fn number_of(p: Place) -> u32
 fn word_in(p: Place) -> u64
     ensures { λ r. ⌜ r ≡ wordIn p ⌝ }
 {
-    checking::words::word_of_entry(p.entry)
+    let word = checking::words::word_of_entry(p.entry);
+    if p.closed {
+        return checking::words::closed_word(word);
+    }
+    word
 }
 
 // The id that a number in the column of ids stands for; 0 for a free place.
@@ -66,6 +71,7 @@ fn place_of(number: u32, word: u64, caller: u8, deadline: u64, count: u8) -> Pla
     Place {
         live: number != 0,
         entry,
+        closed: checking::words::is_closed(word),
         caller,
         count,
     }

@@ -15,13 +15,15 @@ use lib.Dec.{eqb}
 use borrow.Author.Tests.{eq-eqb, ne-eqb, eqb-true}
 use Rattle.laws.specs.Numbers.{ids, places, room, partyPlaces}
 use Rattle.laws.specs.Lists.{tab}
+use Rattle.laws.specs.Bits.{has}
 use Rattle.laws.proofs.Choice.{true-or, eq-or, lt-or}
 use Rattle.laws.proofs.ListLaws.{tab-ext, tab-set, getD-tab, getD-repeat, tab-repeat}
 use Rattle.pdu.specs.Replies.{What}
 use Rattle.pdu.specs.Words.{wordOf, whatOf, Proper}
 use Rattle.book.specs.Book.{Live, entry}
-use Rattle.machine.specs.Machine.{Note}
-use Rattle.table.specs.Columns.{Columns, columns, party, partiesAt, entryAt, tableOf, Sound}
+use Rattle.pdu.proofs.WordLaws.{word-unmarked}
+use Rattle.machine.specs.Machine.{Note, opened}
+use Rattle.table.specs.Columns.{Columns, columns, party, partiesAt, noteOf, placeWord, entryAt, tableOf, Sound}
 use Rattle.table.specs.Changes.{Runs, reach, blank}
 use Rattle.laws.proofs.StoreLaws.{set-each}
 use Rattle.table.proofs.PartyLaws.{put-here, put-elsewhere, put-runs}
@@ -38,12 +40,19 @@ table-at c k h = getD-tab places (entryAt c) k none h
 -- the entry of a live place
 abbrev pub held : Columns → ℕ → Live What Note
 held c k =
-    entry (getD (c .ids) k 0 - 1) (whatOf (getD (c .asked) k 0)) (getD (c .callers) k 0) tt (getD (c .deadlines) k 0)
+    entry (getD (c .ids) k 0 - 1) (whatOf (getD (c .asked) k 0)) (getD (c .callers) k 0) (noteOf (getD (c .asked) k 0)) (getD (c .deadlines) k 0)
     (partiesAt (c .counts) (c .clients) (c .originals) k)
 
 -- what stands at a live place of the table
 pub live-at : (c : Columns) (k : ℕ) → k < places → (getD (c .ids) k 0 ≡ 0 → ⊥) → getD (tableOf c) k none ≡ some (held c k)
 live-at c k h live = table-at c k h ∙ rw (ne-eqb (getD (c .ids) k 0) 0 live)
+
+-- A word of what may be asked is that of an open request, and its place's word.
+pub word-open : (n : ℕ) → Proper (whatOf n) × (wordOf (whatOf n) ≡ n) → (noteOf n ≡ opened) × (placeWord (whatOf n) (noteOf n) ≡ n)
+unfolding noteOf placeWord
+word-open n w =
+    let t : has n 32 ≡ false = rw (w .1) at (word-unmarked (whatOf n) (w .0)) in
+    (rw t, rw t (add-zero (wordOf (whatOf n)) ∙ w .1))
 
 -- two tables that agree but at one place
 pub table-set : (c c′ : Columns) (place : ℕ) (o : Option (Live What Note)) → place < places → entryAt c′ place ≡ o → ((k : ℕ) → (k ≡ place → ⊥) → entryAt c′ k ≡ entryAt c k)
@@ -68,8 +77,8 @@ module _ (c : Columns) (s : Sound c) (place id word deadline client original : �
   issued-runs : Runs (issuedAt .counts) (issuedAt .clients) (issuedAt .originals)
   issued-runs = rw add-zero at (put-runs place 0 client original (c .counts) (c .clients) (c .originals) (runs-of c s) low (omega arith))
 
-  issued-table : tableOf issuedAt ≡ set (tableOf c) place (some (entry id (whatOf word) client tt deadline (party client original ∷ [])))
-  issued-table =
+  issued-table : noteOf word ≡ opened → tableOf issuedAt ≡ set (tableOf c) place (some (entry id (whatOf word) client opened deadline (party client original ∷ [])))
+  issued-table unmarked =
       let a = s .ids-long in
       let b = s .asked-long in
       let n = s .callers-long in
@@ -81,6 +90,7 @@ module _ (c : Columns) (s : Sound c) (place id word deadline client original : �
         getD-set-same (c .asked) place word 0 (omega arith),
         getD-set-same (c .callers) place client 0 (omega arith),
         getD-set-same (c .deadlines) place deadline 0 (omega arith),
+        unmarked,
         issued-parties,
         ne-eqb (id + 1) 0 (λ z. omega arith),
         back,
@@ -93,7 +103,7 @@ module _ (c : Columns) (s : Sound c) (place id word deadline client original : �
         issued-elsewhere k ne,
       ))
 
-  issued-sound : Proper (whatOf word) × (wordOf (whatOf word) ≡ word) → Sound issuedAt
+  issued-sound : Proper (whatOf word) × (placeWord (whatOf word) (noteOf word) ≡ word) → Sound issuedAt
   issued-sound w =
       let a = s .ids-long in
       record {
@@ -117,8 +127,8 @@ module _ (c : Columns) (s : Sound c) (place id word deadline client original : �
 
   -- what is stored is a new entry, and the columns stay sound
   pub issued : Proper (whatOf word) × (wordOf (whatOf word) ≡ word)
-      → (tableOf issuedAt ≡ set (tableOf c) place (some (entry id (whatOf word) client tt deadline (party client original ∷ [])))) × Sound issuedAt
-  issued w = (issued-table, issued-sound w)
+      → (tableOf issuedAt ≡ set (tableOf c) place (some (entry id (whatOf word) client opened deadline (party client original ∷ [])))) × Sound issuedAt
+  issued w = let u = word-open word w in (issued-table (u .0), issued-sound (w .0, u .1))
 
 -- other parties, everything else as it was
 abbrev pub withParties : Columns → List ℕ → List ℕ → List ℕ → Columns

@@ -5,6 +5,7 @@ use mathlib.Core.Path.{_≡_, refl, ap, sym, _∙_}
 use mathlib.Core.Logic.{⊎-elim}
 use mathlib.Core.Bool.{Bool, true, false, cond, not, Bool·not-not}
 use mathlib.Core.Option.{Option, some, none}
+use native.Mathlib.Nat.{add-zero}
 use lib.ListN.{getD}
 use lib.Dec.{eqb}
 use borrow.Author.Tests.{eq-eqb, eqb-true, eqb-false, not-true}
@@ -23,11 +24,11 @@ use Rattle.book.specs.Book.{Live, at, hasId}
 use Rattle.book.specs.Desk.{isLive, lowerId, sooner, joinPlace, freePlace, duePlace, idPlace, freeId, isDue as isDueIn, isOpen as isOpenIn}
 use Rattle.machine.specs.Machine.{Note, machine, rules}
 use Rattle.machine.specs.Waiting.{noDeadline, deadlineOf, nextDeadline}
-use Rattle.machine.specs.Requests.{joins}
-use Rattle.table.specs.Columns.{Columns, entryAt, bookOf, Sound}
+use Rattle.machine.specs.Requests.{alike, joins}
+use Rattle.table.specs.Columns.{Columns, noteOf, placeWord, entryAt, bookOf, Sound}
 use Rattle.table.specs.Places.{isFree, isTaken, holds, isOpen, isDue, isLower, isSooner, freeIdFrom}
-use Rattle.pdu.proofs.WordLaws.{word-back}
-use Rattle.machine.proofs.JoinLaws.{joins-exact, joins-none}
+use Rattle.pdu.proofs.WordLaws.{word-back, word-unmarked}
+use Rattle.machine.proofs.JoinLaws.{joins-exact, joins-like, joins-none}
 use Rattle.table.proofs.ViewLaws.{at-place, entry-free, free-same, holds-same, due-same, lower-same, sooner-same, live-same}
 
 module _ (v : Value) (c : Columns) (x t : ℕ) (s : Sound c) where
@@ -81,15 +82,16 @@ module _ (v : Value) (c : Columns) (x t : ℕ) (s : Sound c) where
   pub free-id : freeIdFrom (c .ids) (c .top) x ≡ freeId rules (bookOf v c x t)
   free-id = ap (λ (n : ℕ). turn ids (x + n)) (first-ext _ _ places (λ j. ap not (sym (live-same c s (turn ids (x + j))))))
 
-  module _ (w : What) (proper : Proper w) (may : joins v w w ≡ true) where
-    -- At a live place, the word is that of a request exactly where the request joins what stands there.
-    word-same : (k : ℕ) → eqb (getD (c .ids) k 0) 0 ≡ false → eqb (getD (c .asked) k 0) (wordOf w) ≡ joins v w (whatOf (getD (c .asked) k 0))
+  module _ (w : What) (proper : Proper w) (may : alike v w w ≡ true) where
+    -- At a live place, the word is that of a request exactly where the request joins what stands there: the word of what is closed is that of no request.
+    word-same : (k : ℕ) → eqb (getD (c .ids) k 0) 0 ≡ false → eqb (getD (c .asked) k 0) (wordOf w) ≡ joins v w (whatOf (getD (c .asked) k 0)) (noteOf (getD (c .asked) k 0))
+    unfolding noteOf placeWord
     word-same k live =
         let n = getD (c .asked) k 0 in
         let held = s .proper k (eqb-false _ _ live) in
         same-test _ _
-        (λ e. rw (eqb-true n (wordOf w) e, word-back w proper) may)
-        (λ e. eq-eqb n (wordOf w) (sym (held .1) ∙ ap wordOf (sym (joins-exact v w (whatOf n) e))))
+        (λ e. rw (eqb-true n (wordOf w) e, word-back w proper) (joins-like v w (noteOf (wordOf w)) (word-unmarked w proper) may))
+        (λ e. let j = joins-exact v w (whatOf n) (noteOf n) e in eq-eqb n (wordOf w) (sym (held .1) ∙ rw (j .0, ← j .1) (add-zero (wordOf w))))
 
     open-same : (k : ℕ) → isOpen (c .ids) (c .asked) (c .deadlines) (c .counts) (wordOf w) t k ≡ isOpenIn room t (joins v w) (entryAt c k)
     open-same k =
@@ -105,15 +107,15 @@ module _ (v : Value) (c : Columns) (x t : ℕ) (s : Sound c) where
         (λ j k p q. lower-same c j k (not-true _ (and-left _ _ p)) (not-true _ (and-left _ _ q)))
 
   -- Where joining is off, or nothing is read, the book joins nothing.
-  pub join-none : (w : What) → joins v w w ≡ false → joinPlace rules (bookOf v c x t) (joins v w) ≡ places
+  pub join-none : (w : What) → alike v w w ≡ false → joinPlace rules (bookOf v c x t) (joins v w) ≡ places
   join-none w off = best-nothing _ _ places places (λ k h. closed k (at (bookOf v c x t) k))
     where
       closed : (k : ℕ) (o : Option (Live What Note)) → isOpenIn room t (joins v w) o ≡ false
       closed k none = refl
-      closed k (some e) = rw (joins-none v w (e .what) off)
+      closed k (some e) = rw (joins-none v w (e .what) (e .note) off)
 
   -- Both in one: the place that a request joins, where it may join at all.
-  pub join-seat : (w : What) → Proper w → (joining : Bool) → joining ≡ joins v w w
+  pub join-seat : (w : What) → Proper w → (joining : Bool) → joining ≡ alike v w w
       → cond joining (best (isOpen (c .ids) (c .asked) (c .deadlines) (c .counts) (wordOf w) t) (isLower (c .ids)) places (c .top)) places ≡ joinPlace rules (bookOf v c x t) (joins v w)
   join-seat w p true e = join-place w p (sym e)
   join-seat w p false e = sym (join-none w (sym e))

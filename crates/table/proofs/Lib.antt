@@ -4,3 +4,4 @@ pub mod PartyLaws
 pub mod EntryLaws
 pub mod StrikeLaws
 pub mod ChangeLaws
+pub mod ClosingLaws

@@ -2,13 +2,18 @@
 -- Assumes nothing.
 use Prim.Native.Nat.{ℕ, zero, suc, _+_, _≤_, _<_}
 use mathlib.Core.Path.{_≡_}
-use mathlib.Core.Bool.{cond}
-use mathlib.Core.List.{List, [], _∷_, _++_}
+use mathlib.Core.Bool.{cond, not, _&&_}
+use mathlib.Core.Option.{Option·map}
+use mathlib.Core.List.{List, [], _∷_, _++_, map}
 use lib.ListN.{length, getD, replicate}
 use lib.Dec.{eqb}
 use Rattle.laws.specs.Numbers.{places, room, partyPlaces}
-use Rattle.book.specs.Book.{Party, isOf, without}
-use Rattle.table.specs.Columns.{Columns, columns, run, partiesAt}
+use Rattle.laws.specs.Bits.{with}
+use Rattle.pdu.specs.Words.{whatOf}
+use Rattle.pdu.specs.Spoiling.{spoils}
+use Rattle.book.specs.Book.{Party, isOf, without, marked}
+use Rattle.machine.specs.Requests.{closing}
+use Rattle.table.specs.Columns.{Columns, columns, run, partiesAt, tableOf, Sound}
 
 -- the party columns have their lengths, and no place has more parties than there is room for
 pub record Runs (ns cs os : List ℕ) : Type 0 where
@@ -40,6 +45,16 @@ pub record Struck (top client : ℕ) (ns cs os ns′ cs′ os′ : List ℕ) : T
   pub below : (k : ℕ) → k < top → partiesAt ns′ cs′ os′ k ≡ without (isOf client) (partiesAt ns cs os k)
   pub above : (k : ℕ) → top ≤ k → partiesAt ns′ cs′ os′ k ≡ partiesAt ns cs os k
   pub runs : Runs ns′ cs′ os′
+
+-- the word of a place with that id once the request of `word` was issued: with bit 32 where the place is live and what is asked there is spoiled
+abbrev pub wordAfter : (word id held : ℕ) → ℕ
+wordAfter word id held = cond (not (eqb id 0) && spoils (whatOf word) (whatOf held)) (with held 32) held
+
+-- the request of `word` closes what it spoils, whatever the other columns are: the table has each entry so marked, and sound columns stay sound
+abbrev pub Closes : (word top : ℕ) (is ws ws′ : List ℕ) → Type 0
+Closes word top is ws ws′ =
+    (n d k c o : List ℕ) → Sound (columns is ws n d k c o top)
+    → (tableOf (columns is ws′ n d k c o top) ≡ map (Option·map (marked (closing (whatOf word)))) (tableOf (columns is ws n d k c o top))) × Sound (columns is ws′ n d k c o top)
 
 -- one past the last live place below n
 unfoldable pub reach : List ℕ → ℕ → ℕ

@@ -9,13 +9,14 @@ use lib.ListN.{length, getD}
 use lib.Dec.{eqb}
 use Rattle.laws.specs.Numbers.{ids, places, room, partyPlaces}
 use Rattle.laws.specs.Lists.{tab}
+use Rattle.laws.specs.Bits.{has}
 use Rattle.settings.specs.Grammar.{Value}
 use Rattle.pdu.specs.Replies.{What}
 use Rattle.pdu.specs.Words.{wordOf, whatOf, Proper}
 use Rattle.book.specs.Book.{Party, Live, book, entry}
 use Rattle.machine.specs.Machine.{Note, Live-book}
 
--- 0 in `ids` is a free place, else the proxy id + 1; `asked` is what was asked as one word; `callers` is the client that it was issued for; the parties of place k
+-- 0 in `ids` is a free place, else the proxy id + 1; `asked` is what was asked as one word, with bit 32 set where that is closed; `callers` is the client that it was issued for; the parties of place k
 -- stand from k × room on, `counts` of them; no place from `top` on is live
 pub record Columns : Type 0 where
   pub ids : List ℕ
@@ -40,11 +41,18 @@ run cs os base n = tab n (λ j. party (getD cs (base + j) 0) (getD os (base + j)
 abbrev pub partiesAt : (counts clients originals : List ℕ) → ℕ → List Party
 partiesAt ns cs os k = run cs os (k * room) (getD ns k 0)
 
+-- what a word says besides what was asked: bit 32, whether the request is closed; and the word that a live place has
+unfoldable pub noteOf : ℕ → Note
+noteOf n = record { closed = has n 32 }
+
+unfoldable pub placeWord : What → Note → ℕ
+placeWord w n = wordOf w + cond (n .closed) 4294967296 0
+
 -- what stands at the place k
 abbrev pub entryAt : Columns → ℕ → Option (Live What Note)
 entryAt c k =
     cond (eqb (getD (c .ids) k 0) 0) none
-    (some (entry (getD (c .ids) k 0 - 1) (whatOf (getD (c .asked) k 0)) (getD (c .callers) k 0) tt (getD (c .deadlines) k 0) (partiesAt (c .counts) (c .clients) (c .originals) k)))
+    (some (entry (getD (c .ids) k 0 - 1) (whatOf (getD (c .asked) k 0)) (getD (c .callers) k 0) (noteOf (getD (c .asked) k 0)) (getD (c .deadlines) k 0) (partiesAt (c .counts) (c .clients) (c .originals) k)))
 
 -- the table, place by place; and the book that it is, with the settings, the cursor and the clock
 unfoldable pub tableOf : Columns → List (Option (Live What Note))
@@ -54,7 +62,7 @@ abbrev pub bookOf : Value → Columns → (cursor clock : ℕ) → Live-book
 bookOf v c x t = book v (tableOf c) x t
 
 -- what every call keeps: the columns have their lengths, ids are ids, no place from top on is live, no place has more parties than there is room for, and a live
--- place's word is that of something that may be asked
+-- place's word is that of something that may be asked, with bit 32 where it is closed and no other bit besides
 pub record Sound (c : Columns) : Type 0 where
   pub ids-long : length (c .ids) ≡ places
   pub asked-long : length (c .asked) ≡ places
@@ -67,4 +75,4 @@ pub record Sound (c : Columns) : Type 0 where
   pub low : (k : ℕ) → getD (c .ids) k 0 ≤ ids
   pub above : (k : ℕ) → c .top ≤ k → getD (c .ids) k 0 ≡ 0
   pub roomy : (k : ℕ) → getD (c .counts) k 0 ≤ room
-  pub proper : (k : ℕ) → (getD (c .ids) k 0 ≡ 0 → ⊥) → Proper (whatOf (getD (c .asked) k 0)) × (wordOf (whatOf (getD (c .asked) k 0)) ≡ getD (c .asked) k 0)
+  pub proper : (k : ℕ) → (getD (c .ids) k 0 ≡ 0 → ⊥) → Proper (whatOf (getD (c .asked) k 0)) × (placeWord (whatOf (getD (c .asked) k 0)) (noteOf (getD (c .asked) k 0)) ≡ getD (c .asked) k 0)

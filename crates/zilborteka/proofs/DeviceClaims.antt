@@ -20,15 +20,17 @@ use Rattle.settings.specs.Values.{valueOf}
 use Rattle.settings.specs.TagWords.{kindOf}
 use Rattle.pdu.specs.Requests.{legal}
 use Rattle.pdu.specs.Replies.{What, excepts}
+use Rattle.pdu.specs.Words.{whatOf}
+use Rattle.pdu.specs.Spoiling.{spoils}
 use Rattle.pdu.specs.declared.Table.the-variants.{Registers}
 use Rattle.pdu.specs.declared.Asked.the-variants.{Read}
 use Rattle.rewrite.specs.Registers.{registersAt}
 use Rattle.rewrite.specs.Rewriting.{ownIn}
 use Rattle.rewrite.specs.Plain.{Whole}
-use Rattle.book.specs.Book.{Party}
+use Rattle.book.specs.Book.{Party, Event}
 use Rattle.book.specs.Book.Event.{issued}
 use Rattle.book.specs.Ledger.{Ticket, Apart, Differing, Anew, partiesOf}
-use Rattle.book.specs.Traced.{issuedId, behind, Outstanding}
+use Rattle.book.specs.Traced.{touches, issuedId, behind, Outstanding}
 use Rattle.book.specs.Desk.{AllLive}
 use Rattle.book.proofs.History.{always-sound}
 use Rattle.machine.specs.Machine.{Machine, rules, settings}
@@ -41,12 +43,13 @@ use Rattle.machine.specs.Numbers.{numbers, report, isDone, isIssued, isJoined, 
 use Rattle.machine.specs.Waiting.{nextDeadline}
 use Rattle.machine.specs.Spelled.{asker, asking}
 use Rattle.machine.specs.Histories.{Seen, seenOf}
+use Rattle.machine.specs.Closed.{concernsRead, Joinable}
 use Rattle.machine.specs.declared.Answer.{Answer}
 use Rattle.machine.specs.declared.Answer.the-variants as answer
 use Rattle.machine.specs.declared.Report.{Report}
 use Rattle.machine.specs.declared.NextDeadline.{NextDeadline}
 use Rattle.machine.proofs.RefusalLaws.{table, Applies}
-use Rattle.machine.proofs.NumberLaws.{refusal-told, refusal-exactly, exception-exactly}
+use Rattle.machine.proofs.NumberLaws.{refusal-told, refusal-exactly, exception-exactly, join-exactly}
 use Rattle.machine.proofs.RequestLaws.{NoneToJoin}
 use Rattle.machine.proofs.AskLaws.{Carries, Issues, Joins, Excepts}
 use Rattle.machine.proofs.PartyLaws.{Accepts, Stands}
@@ -54,7 +57,7 @@ use Rattle.machine.proofs.TickLaws.{Lent, tickAt, ticksAt}
 use Rattle.machine.proofs.Histories.{product, afterCalls, toldBy}
 use Rattle.machine.proofs.StateLaws.{IssuedBy, seen-issue}
 use Rattle.machine.proofs.Claims as claim
-use Rattle.table.specs.Columns.{partiesAt}
+use Rattle.table.specs.Columns.{partiesAt, noteOf}
 use Rattle.proxy.proofs.MakingLaws.{adopted-valid}
 use Rattle.device.specs.declared.Device.{Device}
 use Rattle.device.specs.Device.{Freshly, Awaited}
@@ -307,6 +310,34 @@ module _ (from : Settings) {r : Report} {d d′ : Device} (ls : List Line) (fres
   pub what-an-issue-is : (id : ℕ) (w : What) (u : ℕ) (p : Party) → List·Memᴰ (issued id w u p) (toldIn (inForce from) ls)
       → (ks : List Line) × (x : Line) × (ys : List Line) × (ls ≡ ks ++ x ∷ ys) × IssuedBy (inForce from) (x .saw) id w u p (x .call)
   what-an-issue-is id w u p m = let i = line-told v ls (issued id w u p) m in (i .0, i .1, i .2, i .3, seen-issue v (i .1 .saw) id w u p (i .1 .call) (i .4))
+
+  -- Request #102: a live place of the device is open, so that its word has no bit 32, exactly if nothing that spoils what it asks was issued since its own issue.
+  pub what-is-open : (k id : ℕ) → getD (d′ .ids) k 0 ≡ id + 1
+      → let w = whatOf (getD (d′ .asked) k 0) in
+      (has (getD (d′ .asked) k 0) 32 ≡ false) ↔ ((p : Party) × (lastOf (concernsRead id w) (toldIn (inForce from) ls) ≡ some (issued id w (getD (d′ .deadlines) k 0) p)))
+  unfolding noteOf
+  what-is-open k id e =
+      let i : getD (d′ .ids) k 0 - 1 ≡ id = omega arith in
+      rw (i, ← lived .told) at (claim.what-is-open v xs k _ (rw (lived .after) at (place-live d′ (lived .next) k (λ z. omega arith))))
+
+  -- A read after a write is not stale: where a line tells that any request was issued, and a later request joins that it spoils, what this one joins was issued after it, and is live
+  -- since.
+  pub a-read-after-a-write-is-not-stale : (before later : List (Event What)) (j : ℕ) (w : What) (u : ℕ) (p : Party) → toldIn (inForce from) ls ≡ before ++ (issued j w u p ∷ later)
+      → (c t : ℕ) (f o : List ℕ) {saw : Seen} {d″ : Device} → Called d′ (request c t f o) saw d″ → saw .report .outcome ≡ isJoined → spoils w (asking f) ≡ true
+      → (u′ : ℕ) × (p′ : Party) × (lastOf (touches (saw .report .id)) later ≡ some (issued (saw .report .id) (asking f) u′ p′))
+  a-read-after-a-write-is-not-stale before later j w u p told c t f o s e =
+      claim.a-read-after-a-write-is-not-stale v xs before later j w u p (sym (lived .told) ∙ told) c t f o _ (rw (lived .after) at (report-tells (request c t f o) s .joined e))
+
+  -- And closing everything is no way out: a legal 01 to 04 that is not refused, with joining on, reports a join of the id exactly if that is the smallest under which a live entry asks
+  -- the same, has room for one more party and a deadline later than now, and nothing that spoils it was issued since its issue.
+  pub a-read-joins-exactly : (c t : ℕ) (f o : List ℕ) {saw : Seen} {d″ : Device} → Called d′ (request c t f o) saw d″ → saw .report .refusal ≡ 0 → legal (inForce from) f ≡ true
+      → ((getD f 7 0 ≡ 1) ⊎ (getD f 7 0 ≡ 2)) ⊎ ((getD f 7 0 ≡ 3) ⊎ (getD f 7 0 ≡ 4)) → inForce from .join ≡ 1 → (id : ℕ)
+      → ((saw .report .outcome ≡ isJoined) × (saw .report .id ≡ id))
+      ↔ (Joinable (machineIn d′ .book) (toldIn (inForce from) ls) t f id × ((i : ℕ) → Joinable (machineIn d′ .book) (toldIn (inForce from) ls) t f i → id ≤ i))
+  a-read-joins-exactly c t f o s z l reads on id =
+      let x = request c t f o in
+      let same : legal (settings (afterCalls v xs)) f ≡ true = ap (λ (y : Value). legal y f) (always-sound (product v) xs) ∙ l in
+      rw (sees x s, lived .after, lived .told) (Iff·trans (join-exactly _ id) (claim.a-read-joins-exactly v xs c t f o (passes x s z) same reads on (record { 0 = id })))
 
   -- Tender 3: live proxy ids differ, place by place of the device.
   pub live-ids-differ : (i j : ℕ) → (getD (d′ .ids) i 0 ≡ 0 → ⊥) → getD (d′ .ids) i 0 ≡ getD (d′ .ids) j 0 → i ≡ j

@@ -1,4 +1,4 @@
--- `state::place_of` meets its contract: the entry is made of the id and the word, and the place is live where the number is not 0.
+-- `state::place_of` meets its contract: the entry is made of the id and the word, the place is live where the number is not 0 and closed by bit 32.
 -- Assumes nothing.
 use borrow.Author.Needs.{needs}
 use Rattle.state.specs.Places.{placeOf}
@@ -7,7 +7,7 @@ use Rattle.state.proofs.place_of.Tie as tie
 
 returns : tie.Need-returns
 unfolding placeOf
-returns c = rw (c .entry-of .ensures, c .before .id-in .ensures)
+returns c = rw (c .before .entry-of .ensures, c .before .before .id-in .ensures, c .is-closed .ensures)
 
 pub place-of-spec : {M : Type 1} → statement M
-place-of-spec = tie.close (tie.spec (λ c κs. search needs) (λ c κs. search needs) returns)
+place-of-spec = tie.close (tie.spec (λ c κs. search needs) (λ c κs. search needs) (λ c κs. search needs) returns)

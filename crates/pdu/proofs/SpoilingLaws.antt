@@ -1,0 +1,193 @@
+-- Which reads a request spoils, in plain numbers; a read spoils nothing, and nothing spoils itself.
+-- Assumes nothing.
+use Prim.Native.Nat.{ℕ, _+_, _≤_, _<_, max}
+use mathlib.Core.Path.{_≡_, refl, ap, sym, _∙_}
+use mathlib.Core.Logic.{_↔_, Iff·trans, ⊎-elim, ⊎-map, _⊎_, inl, inr}
+use mathlib.Core.Bool.{true, false, false≢true, and-false}
+use native.Mathlib.Omega.{arith}
+use lib.Dec.{eqb, ltb}
+use borrow.Author.Tests.{lt-ltb, ltb-true}
+use Rattle.laws.proofs.Choice.{eq-or, and-left, and-right, never}
+use Rattle.laws.proofs.TestLaws.{holds-eq, holds-and}
+use Rattle.pdu.specs.Requests.{classOf}
+use Rattle.pdu.specs.Replies.{What}
+use Rattle.pdu.specs.Words.{kept, keptIn, Lawful, Proper}
+use Rattle.pdu.specs.Spoiling.{sameTable, overlap, meets, spoils}
+use Rattle.pdu.specs.declared.Table.{Table}
+use Rattle.pdu.specs.declared.Table.the-variants.{Bits, Registers}
+use Rattle.pdu.specs.declared.Class.{Class}
+use Rattle.pdu.specs.declared.Class.the-variants.{Reads, WritesOne, WritesMany, Others}
+use Rattle.pdu.specs.declared.Asked.{Asked}
+use Rattle.pdu.specs.declared.Asked.the-variants.{Read, SingleWrite, MultipleWrite, Other}
+use Rattle.pdu.proofs.RequestLaws.{class-read-bits, class-read, class-single, class-multiple, class-other}
+
+-- Two tables are the same exactly where they are equal.
+pub same-table : (t r : Table) → (sameTable t r ≡ true) ↔ (t ≡ r)
+unfolding sameTable
+same-table Bits Bits = (λ e. refl, λ e. refl)
+same-table Bits Registers = (λ e. absurd (false≢true e), λ e. never (cc))
+same-table Registers Bits = (λ e. absurd (false≢true e), λ e. never (cc))
+same-table Registers Registers = (λ e. refl, λ e. refl)
+
+-- IN PLAIN NUMBERS
+
+-- the functions that read bits and registers, that write them, and that do neither
+abbrev pub Reading : Table → ℕ → Type 0
+Reading Bits n = (n ≡ 1) ⊎ (n ≡ 2)
+Reading Registers n = (n ≡ 3) ⊎ (n ≡ 4)
+
+abbrev pub Writing : Table → ℕ → Type 0
+Writing Bits n = (n ≡ 5) ⊎ (n ≡ 15)
+Writing Registers n = (n ≡ 6) ⊎ (n ≡ 16)
+
+abbrev pub Neither : ℕ → Type 0
+Neither n = (n ≡ 1 → ⊥) × (n ≡ 2 → ⊥) × (n ≡ 3 → ⊥) × (n ≡ 4 → ⊥) × (n ≡ 5 → ⊥) × (n ≡ 6 → ⊥) × (n ≡ 15 → ⊥) × (n ≡ 16 → ⊥)
+
+-- the address x is asked for: the address of 05 and 06; of the others as many as the quantity from the start on
+abbrev pub Covers : Asked → ℕ → Type 0
+Covers (Read t s q) x = (s ≤ x) × (x < s + q)
+Covers (SingleWrite t a v) x = x ≡ a
+Covers (MultipleWrite t s q) x = (s ≤ x) × (x < s + q)
+Covers Other x = ⊥
+
+-- both ask for some address
+abbrev pub Common : Asked → Asked → Type 0
+Common a b = (x : ℕ) × Covers a x × Covers b x
+
+-- r reads bits or registers, and w is "other", or writes those and has an address in common with r
+abbrev pub Meeting : What → What → Type 0
+Meeting w r = (t : Table) × Reading t (r .function) × (Neither (w .function) ⊎ (Writing t (w .function) × Common (w .asked) (r .asked)))
+
+-- BY CLASS
+
+-- the functions of a class
+abbrev Named : Class → ℕ → Type 0
+Named (Reads t) n = Reading t n
+Named (WritesOne Bits) n = n ≡ 5
+Named (WritesOne Registers) n = n ≡ 6
+Named (WritesMany Bits) n = n ≡ 15
+Named (WritesMany Registers) n = n ≡ 16
+Named Others n = Neither n
+
+named : (n : ℕ) → Named (classOf n) n
+named n =
+    ⊎-elim (λ e. by (class-read-bits n (inl e)) (inl e)) (λ a. ⊎-elim (λ e. by (class-read-bits n (inr e)) (inr e)) (λ b.
+    ⊎-elim (λ e. by (class-read n (inl e)) (inl e)) (λ c. ⊎-elim (λ e. by (class-read n (inr e)) (inr e)) (λ d.
+    ⊎-elim (λ e. by (ap classOf e ∙ class-single .0) e) (λ f. ⊎-elim (λ e. by (ap classOf e ∙ class-single .1) e) (λ g.
+    ⊎-elim (λ e. by (ap classOf e ∙ class-multiple .0) e) (λ h. ⊎-elim (λ e. by (ap classOf e ∙ class-multiple .1) e) (λ i.
+    by (class-other n a b c d f g h i) (a, b, c, d, f, g, h, i))
+    (eq-or n 16)) (eq-or n 15)) (eq-or n 6)) (eq-or n 5)) (eq-or n 4)) (eq-or n 3)) (eq-or n 2)) (eq-or n 1)
+  where
+    by : {c : Class} → classOf n ≡ c → Named c n → Named (classOf n) n
+    by e h = rw e h
+
+class-exact : (n : ℕ) (c : Class) → (classOf n ≡ c) ↔ Named c n
+class-exact n c = (λ e. rw e at (named n), back c)
+  where
+    back : (k : Class) → Named k n → classOf n ≡ k
+    back (Reads Bits) e = class-read-bits n e
+    back (Reads Registers) e = class-read n e
+    back (WritesOne Bits) e = ap classOf e ∙ class-single .0
+    back (WritesOne Registers) e = ap classOf e ∙ class-single .1
+    back (WritesMany Bits) e = ap classOf e ∙ class-multiple .0
+    back (WritesMany Registers) e = ap classOf e ∙ class-multiple .1
+    back Others e = class-other n (e .0) (e .1) (e .2) (e .3) (e .4) (e .5) (e .6) (e .7)
+
+-- the class that asks such a thing
+abbrev sortOf : Asked → Class
+sortOf (Read t s q) = Reads t
+sortOf (SingleWrite t a v) = WritesOne t
+sortOf (MultipleWrite t s q) = WritesMany t
+sortOf Other = Others
+
+sort-kept : (c : Class) (n : ℕ) → sortOf (keptIn c n) ≡ c
+unfolding keptIn
+sort-kept (Reads t) n = refl
+sort-kept (WritesOne t) n = refl
+sort-kept (WritesMany t) n = refl
+sort-kept Others n = refl
+
+sort-class : (w : What) → Proper w → classOf (w .function) ≡ sortOf (w .asked)
+sort-class w p = sym (sort-kept (classOf (w .function)) (kept (w .asked))) ∙ ap sortOf (p .class)
+
+-- two ranges that are not empty overlap exactly where they have an address in common
+overlaps : (s n u m : ℕ) → 1 ≤ n → 1 ≤ m → (overlap s n u m ≡ true) ↔ ((x : ℕ) × ((s ≤ x) × (x < s + n)) × ((u ≤ x) × (x < u + m)))
+overlaps s n u m h l = (
+  λ e.
+      let a = ltb-true s (u + m) (and-left (ltb s (u + m)) (ltb u (s + n)) e) in
+      let b = ltb-true u (s + n) (and-right (ltb s (u + m)) (ltb u (s + n)) e) in
+      (max s u, (omega arith, omega arith), (omega arith, omega arith)),
+  λ w. rw (lt-ltb s (u + m) (omega (arith, w .1, w .2))) (lt-ltb u (s + n) (omega (arith, w .1, w .2))),
+)
+
+-- what is said of functions, said of classes
+abbrev Sorted : Asked → Asked → Type 0
+Sorted a b = (t : Table) × (sortOf b ≡ Reads t) × ((sortOf a ≡ Others) ⊎ (((sortOf a ≡ WritesOne t) ⊎ (sortOf a ≡ WritesMany t)) × Common a b))
+
+meets-sorted : (a b : Asked) → Lawful a → Lawful b → (meets a b ≡ true) ↔ Sorted a b
+unfolding meets Lawful
+meets-sorted a (SingleWrite r b v) h l = (λ e. absurd (false≢true e), λ w. let z = w .1 in never (cc))
+meets-sorted a (MultipleWrite r s q) h l = (λ e. absurd (false≢true e), λ w. let z = w .1 in never (cc))
+meets-sorted a Other h l = (λ e. absurd (false≢true e), λ w. let z = w .1 in never (cc))
+meets-sorted (Read t u p) (Read r s q) h l = (λ e. absurd (false≢true e), λ w. ⊎-elim (λ z. never (cc)) (λ z. ⊎-elim (λ y. never (cc)) (λ y. never (cc)) (z .0)) (w .2))
+meets-sorted (SingleWrite t a v) (Read r s q) h l =
+    Iff·trans (holds-and (sameTable t r) (overlap a 1 s q) (same-table t r) (overlaps a 1 s q (omega arith) (l .0))) (
+      λ w. (r, refl, inr (inl (ap WritesOne (w .0)), (w .1 .0, omega (arith, w .1 .1), w .1 .2))),
+      λ w. ⊎-elim
+          (λ z. never (cc))
+          (λ (z : ((WritesOne t ≡ WritesOne (w .0)) ⊎ (WritesOne t ≡ WritesMany (w .0))) × Common (SingleWrite t a v) (Read r s q)).
+          let x = w .1 in
+          (⊎-elim (λ y. cc) (λ y. never (cc)) (z .0), (z .1 .0, (omega (arith, z .1 .1), omega (arith, z .1 .1)), z .1 .2)))
+          (w .2),
+    )
+meets-sorted (MultipleWrite t u p) (Read r s q) h l =
+    Iff·trans (holds-and (sameTable t r) (overlap u p s q) (same-table t r) (overlaps u p s q (h .0) (l .0))) (
+      λ w. (r, refl, inr (inr (ap WritesMany (w .0)), w .1)),
+      λ w. ⊎-elim
+          (λ z. never (cc))
+          (λ (z : ((WritesMany t ≡ WritesOne (w .0)) ⊎ (WritesMany t ≡ WritesMany (w .0))) × Common (MultipleWrite t u p) (Read r s q)).
+          let x = w .1 in
+          (⊎-elim (λ y. never (cc)) (λ y. cc) (z .0), z .1))
+          (w .2),
+    )
+meets-sorted Other (Read r s q) h l = (λ e. (r, refl, inl refl), λ w. refl)
+
+writes-class : (t : Table) (n : ℕ) → ((classOf n ≡ WritesOne t) ⊎ (classOf n ≡ WritesMany t)) ↔ Writing t n
+writes-class Bits n = (⊎-map (class-exact n (WritesOne Bits) .0) (class-exact n (WritesMany Bits) .0), ⊎-map (class-exact n (WritesOne Bits) .1) (class-exact n (WritesMany Bits) .1))
+writes-class Registers n = (⊎-map (class-exact n (WritesOne Registers) .0) (class-exact n (WritesMany Registers) .0), ⊎-map (class-exact n (WritesOne Registers) .1) (class-exact n (WritesMany Registers) .1))
+
+sorted-plainly : (w r : What) → Proper w → Proper r → Sorted (w .asked) (r .asked) ↔ Meeting w r
+sorted-plainly w r p q =
+    rw (← sort-class w p, ← sort-class r q) (
+      λ x. (x .0, class-exact (r .function) (Reads (x .0)) .0 (x .1), ⊎-map (class-exact (w .function) Others .0) (λ y. (writes-class (x .0) (w .function) .0 (y .0), y .1)) (x .2)),
+      λ x. (x .0, class-exact (r .function) (Reads (x .0)) .1 (x .1), ⊎-map (class-exact (w .function) Others .1) (λ y. (writes-class (x .0) (w .function) .1 (y .0), y .1)) (x .2)),
+    )
+
+-- A request spoils another exactly where the unit is equal, that one reads bits or registers, and the request is "other", or writes those with an address in common.
+pub spoils-exactly : (w r : What) → Proper w → Proper r → (spoils w r ≡ true) ↔ ((w .unit ≡ r .unit) × Meeting w r)
+unfolding spoils
+spoils-exactly w r p q =
+    holds-and (eqb (w .unit) (r .unit)) (meets (w .asked) (r .asked)) (holds-eq (w .unit) (r .unit))
+    (Iff·trans (meets-sorted (w .asked) (r .asked) (p .lawful) (q .lawful)) (sorted-plainly w r p q))
+
+-- A read spoils nothing.
+pub read-spoils-none : (w r : What) (t : Table) (s q : ℕ) → w .asked ≡ Read t s q → spoils w r ≡ false
+unfolding spoils meets
+read-spoils-none w r t s q e = rw (e, none (r .asked)) (and-false (eqb (w .unit) (r .unit)))
+  where
+    none : (b : Asked) → meets (Read t s q) b ≡ false
+    none (Read r u p) = refl
+    none (SingleWrite r a v) = refl
+    none (MultipleWrite r u p) = refl
+    none Other = refl
+
+-- Nothing spoils its like.
+pub spoils-itself : (w : What) → spoils w w ≡ false
+unfolding spoils meets
+spoils-itself w = rw (none (w .asked)) (and-false (eqb (w .unit) (w .unit)))
+  where
+    none : (a : Asked) → meets a a ≡ false
+    none (Read t s q) = refl
+    none (SingleWrite t a v) = refl
+    none (MultipleWrite t s q) = refl
+    none Other = refl
