@@ -19,7 +19,8 @@ enum {
     FIRST = 1000,
     TAGGED = TAGS / 2 * 3,
     PLAIN = 10, /* the registers of a plain read, below the tags */
-    FRAMES = 64 /* as many frames with other values take turns */
+    FRAMES = 64, /* as many frames with other values take turns */
+    TIMEOUT = 60000
 };
 
 typedef struct {
@@ -31,7 +32,7 @@ static zb_state device;
 static uint8_t out[MOST_FRAME];
 static uint16_t list[2 * PARTIES];
 static frame asking[FRAMES], answering[FRAMES];
-static const uint64_t now = 1;
+static uint64_t now = 1;
 
 /* FRAMES, FILLING THE TABLE: BEFORE THE CLOCK STARTS */
 
@@ -103,7 +104,7 @@ static void fail(const char *what)
 
 static void start_device(void)
 {
-    static zb_settings s = {.timeout = 60000, .join = 1, .tags = TAGS};
+    static zb_settings s = {.timeout = TIMEOUT, .join = 1, .tags = TAGS};
     for (unsigned k = 0; k < TAGS; k++) {
         s.addr[k] = (uint16_t)(FIRST + k / 2 * 3 + k % 2);
         s.width[k] = k % 2 ? 32 : 16;
@@ -217,19 +218,44 @@ static unsigned turn_tick(unsigned k)
     return is_other(zb_tick(&device, now, out, sizeof out, list, 2 * PARTIES), ZB_NOTHING_DUE);
 }
 
+/* every place is due at once, and each tick ends one */
+static unsigned ended(unsigned places)
+{
+    unsigned wrong = 0;
+    now += TIMEOUT;
+    for (unsigned k = 0; k < places; k++)
+        wrong += is_other(zb_tick(&device, now, out, sizeof out, list, 2 * PARTIES), ZB_TIMED_OUT);
+    return wrong;
+}
+
+static unsigned turn_few_due(unsigned k)
+{
+    (void)k;
+    return ended(FEW_PLACES);
+}
+
+static unsigned turn_all_due(unsigned k)
+{
+    (void)k;
+    return ended(ZB_PLACES);
+}
+
 static const struct {
     const char *name;
     void (*make)(void);
     unsigned (*turn)(unsigned k);
-    unsigned calls; /* of one turn */
+    unsigned calls;       /* of one turn */
+    void (*refill)(void); /* before each turn, while the clock stands; or none */
 } workloads[] = {
-    {"plain reads", make_reads, turn_alone, 2},
-    {"joined reads", make_reads, turn_joined, FEW_PARTIES + 1},
-    {"joined, full entry", make_reads, turn_full, PARTIES + 1},
-    {"03 with 60 tags", make_tag_reads, turn_alone, 2},
-    {"16 with 60 tags", make_tag_writes, turn_alone, 2},
-    {"ticks, 64 live", fill_few, turn_tick, 1},
-    {"ticks, full table", fill_table, turn_tick, 1},
+    {"plain reads", make_reads, turn_alone, 2, NULL},
+    {"joined reads", make_reads, turn_joined, FEW_PARTIES + 1, NULL},
+    {"joined, full entry", make_reads, turn_full, PARTIES + 1, NULL},
+    {"03 with 60 tags", make_tag_reads, turn_alone, 2, NULL},
+    {"16 with 60 tags", make_tag_writes, turn_alone, 2, NULL},
+    {"ticks, 64 live", fill_few, turn_tick, 1, NULL},
+    {"ticks, full table", fill_table, turn_tick, 1, NULL},
+    {"timeouts, 64 live", make_reads, turn_few_due, FEW_PLACES, fill_few},
+    {"timeouts, full table", make_reads, turn_all_due, ZB_PLACES, fill_table},
 };
 
 static double nanoseconds(void)
@@ -237,6 +263,21 @@ static double nanoseconds(void)
     struct timespec t;
     clock_gettime(CLOCK_PROCESS_CPUTIME_ID, &t);
     return 1e9 * (double)t.tv_sec + (double)t.tv_nsec;
+}
+
+/* the nanoseconds of so many turns */
+static double timed(size_t w, unsigned turns, unsigned *wrong)
+{
+    double began = nanoseconds();
+    for (unsigned k = 0; k < turns; k++) {
+        if (workloads[w].refill) {
+            double stopped = nanoseconds();
+            workloads[w].refill();
+            began += nanoseconds() - stopped;
+        }
+        *wrong += workloads[w].turn(k % FRAMES);
+    }
+    return nanoseconds() - began;
 }
 
 int main(int count, char **words)
@@ -247,12 +288,8 @@ int main(int count, char **words)
         unsigned turns = CALLS / workloads[w].calls + 1, wrong = 0;
         start_device();
         workloads[w].make();
-        for (unsigned k = 0; k < turns / 4; k++) /* warm */
-            wrong += workloads[w].turn(k % FRAMES);
-        double began = nanoseconds();
-        for (unsigned k = 0; k < turns; k++)
-            wrong += workloads[w].turn(k % FRAMES);
-        double took = nanoseconds() - began;
+        timed(w, turns / 4, &wrong); /* warm */
+        double took = timed(w, turns, &wrong);
         if (wrong)
             fail(workloads[w].name);
         printf("%s\t%s\t%u\t%.0f\n", count > 1 ? words[1] : "now", workloads[w].name, turns * workloads[w].calls, took);
