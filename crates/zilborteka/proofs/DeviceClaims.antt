@@ -11,6 +11,7 @@ use lib.ListN.{length, getD, take}
 use Rattle.laws.specs.Numbers.{ids, places, distance, latestTime, exceptionFrame}
 use Rattle.laws.specs.Lists.{lastGiven, lastOf}
 use Rattle.laws.specs.Bits.{has}
+use Rattle.laws.specs.Bytes.{over}
 use Rattle.wire.specs.Frame.{idOf, laid}
 use Rattle.bcd.specs.Bcd.{inRange}
 use Rattle.bcd.specs.Words.{numberOf}
@@ -26,7 +27,7 @@ use Rattle.pdu.specs.declared.Table.the-variants.{Registers}
 use Rattle.pdu.specs.declared.Asked.the-variants.{Read}
 use Rattle.rewrite.specs.Registers.{registersAt}
 use Rattle.rewrite.specs.Rewriting.{ownIn}
-use Rattle.rewrite.specs.Plain.{Whole}
+use Rattle.rewrite.specs.Plain.{Whole, OfBits}
 use Rattle.book.specs.Book.{Party, Event}
 use Rattle.book.specs.Book.Event.{issued}
 use Rattle.book.specs.Ledger.{Ticket, Apart, Differing, Anew, partiesOf}
@@ -51,7 +52,7 @@ use Rattle.machine.specs.declared.NextDeadline.{NextDeadline}
 use Rattle.machine.proofs.RefusalLaws.{table, Applies}
 use Rattle.machine.proofs.NumberLaws.{refusal-told, refusal-exactly, exception-exactly, join-exactly}
 use Rattle.machine.proofs.RequestLaws.{NoneToJoin}
-use Rattle.machine.proofs.AskLaws.{Carries, Issues, Joins, Excepts}
+use Rattle.machine.proofs.AskLaws.{Carries, bits-carry-none, Issues, Joins, Excepts}
 use Rattle.machine.proofs.PartyLaws.{Accepts, Stands}
 use Rattle.machine.proofs.TickLaws.{Lent, tickAt, ticksAt}
 use Rattle.machine.proofs.Histories.{product, afterCalls, toldBy}
@@ -212,6 +213,27 @@ module _ (from : Settings) {r : Report} {d d′ : Device} (ls : List Line) (fres
       let h = passes x s z in
       let due : outcome (afterCalls v xs) x .says ≡ answer.NothingDue → ⊥ = λ e. n (ap (λ (y : Seen). y .report .outcome) (sees x s) ∙ ap (λ (a : Answer). numbers a .outcome) e) in
       rw (lived .told, sees x s) (timed-out v xs t o l h due)
+
+  -- Request #101: no tag touches coils and discrete inputs. A request 01, 02, 05 or 15 that is issued goes out as it came, but for its id, and the report counts no tag;
+  pub bits-go-out-as-they-came : (c t : ℕ) (f o : List ℕ) {saw : Seen} {d″ : Device} → Called d′ (request c t f o) saw d″ → saw .report .outcome ≡ isIssued → OfBits (getD f 7 0)
+      → ((k : ℕ) → 2 ≤ k → k < length f → getD (saw .frame) k 0 ≡ getD f k 0) × (saw .report .partial ≡ 0) × (saw .report .value ≡ 0)
+  bits-go-out-as-they-came c t f o s e b =
+      let x = an-issue-is-this c t f o s e in
+      let u = x .0 .unchanged (bits-carry-none f b) in
+      (u .0, ap (λ (y : Report). y .partial) (x .1) ∙ u .1, ap (λ (y : Report). y .value) (x .1) ∙ u .2)
+
+  -- and a reply to what such a request asked, outstanding under the reply's id, is handed on as it came, under id 0.
+  pub bits-come-back-as-they-came : (t : ℕ) (f o l : List ℕ) {saw : Seen} {d″ : Device} → Called d′ (reply t f o l) saw d″ → saw .report .refusal ≡ 0
+      → (w : What) (client due : ℕ) → Outstanding (toldIn (inForce from) ls) (saw .report .id) w client due → OfBits (w .function)
+      → (saw .frame ≡ over (laid 0 f) o) × (saw .report .partial ≡ 0) × (saw .report .value ≡ 0)
+  unfolding numbers
+  bits-come-back-as-they-came t f o l s z w client due out b =
+      let h = passes (reply t f o l) s z in
+      let shown = sees (reply t f o l) s in
+      let same = answers-what v xs t f o l h w client due (rw (lived .told, shown) at out) in
+      let r = claim.bits-come-back-as-they-came v xs t f o l (claim.a-reply-goes-to-its-own v xs t f o l h .0) (rw same b) in
+      let told : (q : Report → ℕ) → _ = λ q. ap (λ (y : Seen). q (y .report)) shown ∙ ap (λ (y : Answer). q (numbers y)) (r .1) in
+      (ap (λ (y : Seen). y .frame) shown ∙ r .0, told (λ y. y .partial), told (λ y. y .value))
 
   -- When to tick (ours): a look at the next deadline leaves every field of the device as it was;
   pub a-look-changes-nothing : {n : NextDeadline} {e : Device} → Awaited d′ n e → e ≡ d′
