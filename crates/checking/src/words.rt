@@ -3,7 +3,7 @@ ghost use mathlib.Core.Path.{_≡_};
 ghost use Prim.Native.Nat.{_%_, _<_};
 ghost use Rattle.laws.specs.Bits.{has, with};
 ghost use Rattle.pdu.specs.Replies.{what};
-ghost use Rattle.pdu.specs.Words.{kept, keptIn, wordOf, whatOf, whatIn, entryOf};
+ghost use Rattle.pdu.specs.Words.{kept, keptIn, wordOf, whatOf, closedBit, whatIn, entryOf};
 use pdu::Asked;
 use pdu::Class;
 use pdu::Entry;
@@ -111,13 +111,13 @@ pub fn asked_in(word: u64) -> Asked
 
 // Whether a word has bit 32, and the word with it.
 pub fn is_closed(word: u64) -> bool
-    ensures { λ r. ⌜ r ≡ has word 32 ⌝ }
+    ensures { λ r. ⌜ r ≡ has word closedBit ⌝ }
 {
     word / CLOSED % 2 == 1
 }
 
 pub fn closed_word(word: u64) -> u64
-    ensures { λ r. ⌜ r ≡ with word 32 ⌝ }
+    ensures { λ r. ⌜ r ≡ with word closedBit ⌝ }
 {
     word | CLOSED
 }

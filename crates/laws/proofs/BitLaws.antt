@@ -129,6 +129,11 @@ or-with s c =
     rw t (omega arith))
     (true-or (has s c))
 
+-- a set that has c is the set with c already; of one that has not, that is 2 ^ c more
+pub with-there : (s c : ℕ) → has s c ≡ true → with s c ≡ s
+unfolding with
+with-there s c t = rw t
+
 with-new : (s c : ℕ) → has s c ≡ false → with s c ≡ s + 2 ^ c
 unfolding with
 with-new s c h = rw h

@@ -56,7 +56,7 @@ use Rattle.machine.specs.Granted.{grantedCalls, concerns}
 use Rattle.machine.specs.Waiting.{nextDeadline}
 use Rattle.machine.specs.Spelled.{asker, asking}
 use Rattle.machine.specs.Histories.{seenOf, events, told}
-use Rattle.machine.specs.Closed.{concernsRead, Joinable}
+use Rattle.machine.specs.Closed.{Unspoiled, Joinable}
 use Rattle.machine.specs.declared.Answer.{Answer}
 use Rattle.machine.specs.declared.Answer.the-variants as answer
 use Rattle.machine.proofs.RefusalLaws.{table, Applies, refused-exactly}
@@ -273,7 +273,7 @@ module _ (v : Value) (xs : List Call) where
   -- Request #102: nothing joins a read any more once a request was issued that spoils it, by unit, table and range, or "other"; which those are is said in plain numbers by
   -- `spoils-exactly` of SpoilingLaws of `pdu`. A live entry is open exactly if nothing that spoils it was issued since its own issue.
   pub what-is-open : (k : ℕ) (e : Live What Note) → at (afterCalls v xs .book) k ≡ some e
-      → (e .note .closed ≡ false) ↔ ((p : Party) × (lastOf (concernsRead (e .id) (e .what)) (toldBy v xs) ≡ some (issued (e .id) (e .what) (e .deadline) p)))
+      → (e .note .closed ≡ false) ↔ Unspoiled (toldBy v xs) (e .id) (e .what) (e .deadline)
   what-is-open = open-exactly v xs
 
   -- A read after a write is not stale: where any request was issued, and later one joins that it spoils, the entry that this one joins was issued after it, and is live since.

@@ -24,7 +24,7 @@ use Rattle.pdu.specs.declared.ProxyId.{ProxyId}
 use Rattle.pdu.proofs.SpoilingLaws.{spoils-itself}
 use Rattle.book.specs.Book.{Party, Live, Event, Move, Good, Fits, newEntry, liveIn, added, struck, marked, at, apply, tell}
 use Rattle.book.specs.Book.Move.{rest, pass, join, issue, reply as replies, expire, strike, wipe, mark, adopt}
-use Rattle.book.specs.Book.Event.{passed, joined, issued, replied, expired, left, lost}
+use Rattle.book.specs.Book.Event.{passed, joined, issued, replied, expired, left}
 use Rattle.book.specs.Desk.{duePlace}
 use Rattle.book.specs.Traced.{touches}
 use Rattle.book.specs.Machine.{tells, applies, AllFit, after, history}
@@ -35,7 +35,7 @@ use Rattle.machine.specs.Machine.{Machine, Note, opened, Live-book, made
 use Rattle.machine.specs.Calls.{Call, Outcome}
 use Rattle.machine.specs.Calls.Call.{attach, detach, request, reply, tick, linkLost}
 use Rattle.machine.specs.Refusals.{refusal, entryFor}
-use Rattle.machine.specs.Requests.{wanted, closing, canJoin, exhausted, joiningPlace, joinedTo}
+use Rattle.machine.specs.Requests.{closing, canJoin, exhausted, joiningPlace, joinedTo}
 use Rattle.machine.specs.Outcomes.{outcome}
 use Rattle.machine.specs.Spelled.{asking}
 use Rattle.machine.specs.declared.Answer.the-variants as answer

@@ -3,15 +3,15 @@
 use Prim.Native.Nat.{ℕ, _+_, _*_, _/_, _%_, _^_, _≤_, _<_}
 use mathlib.Core.Path.{_≡_, refl, ap, sym, _∙_}
 use mathlib.Core.Logic.{_↔_, ⊎-elim}
-use mathlib.Core.Bool.{true, false}
+use mathlib.Core.Bool.{false}
 use native.Mathlib.Nat.{mod-eq-of-lt, add-assoc}
 use native.Mathlib.Omega.{arith}
 use lib.Arith.{digits-div, digits-mod, digits-lt}
-use lib.Dec.{eqb}
-use Rattle.laws.specs.Bits.{has}
+use borrow.Author.Tests.{ne-eqb}
+use Rattle.laws.specs.Bits.{has, with}
 use Rattle.pdu.specs.Requests.{classOf, mostReadOf, mostWrittenOf}
 use Rattle.pdu.specs.Replies.{What}
-use Rattle.pdu.specs.Words.{kept, keptIn, wordOf, whatOf, whatIn, entryOf, Lawful, Proper}
+use Rattle.pdu.specs.Words.{kept, keptIn, wordOf, whatOf, closedBit, whatIn, entryOf, Lawful, Proper}
 use Rattle.pdu.specs.declared.Table.{Table}
 use Rattle.pdu.specs.declared.Table.the-variants.{Bits, Registers}
 use Rattle.pdu.specs.declared.Class.{Class}
@@ -74,23 +74,21 @@ module _ (w : What) (p : Proper w) where
   unfolding wordOf
   word-back = of-word (kept (w .asked)) (let l = kept-low (w .asked) (p .lawful) in omega arith) (p .class)
 
-  -- And from its word with bit 32 set, which it does not have.
-  pub marked-back : whatOf (wordOf w + 4294967296) ≡ w
+  -- and from a word with one bit more, above those that a class looks at
+  more-back : whatOf (wordOf w + 4294967296) ≡ w
   unfolding wordOf
-  marked-back =
+  more-back =
       let l = kept-low (w .asked) (p .lawful) in
       rw add-assoc (of-word (kept (w .asked) + 4294967296) (omega arith) (kept-marked (classOf (w .function)) (kept (w .asked)) ∙ p .class))
 
-  bit-32 : (n x : ℕ) → n < 281474976710656 → n / 4294967296 ≡ x → x < 2 → has ((w .unit * 256 + w .function) * 281474976710656 + n) 32 ≡ eqb x 1
-  bit-32 n x h e l = let same : ((w .unit * 256 + w .function) * 281474976710656 + n) / 4294967296 % 2 ≡ x = omega arith in ap (λ (y : ℕ). eqb y 1) same
-
-  pub word-unmarked : has (wordOf w) 32 ≡ false
+  -- A word has no mark of a closed request, and what was asked comes back from the marked word, too.
+  pub word-unmarked : has (wordOf w) closedBit ≡ false
   unfolding wordOf
-  word-unmarked = let l = kept-low (w .asked) (p .lawful) in bit-32 (kept (w .asked)) 0 (omega arith) (omega arith) (omega arith)
+  word-unmarked = let l = kept-low (w .asked) (p .lawful) in ne-eqb (wordOf w / 2 ^ closedBit % 2) 1 (λ z. omega arith)
 
-  pub word-marked : has (wordOf w + 4294967296) 32 ≡ true
-  unfolding wordOf
-  word-marked = let l = kept-low (w .asked) (p .lawful) in rw add-assoc (bit-32 (kept (w .asked) + 4294967296) 1 (omega arith) (omega arith) (omega arith))
+  pub marked-back : whatOf (with (wordOf w) closedBit) ≡ w
+  unfolding with
+  marked-back = rw word-unmarked more-back
 
   -- A word fits 64 bits.
   pub word-low : wordOf w < 2 ^ 64

@@ -36,6 +36,10 @@ unfoldable pub whatOf : ℕ → What
 whatOf n =
     what (n / 281474976710656 / 256 % 256) (n / 281474976710656 % 256) (keptIn (classOf (n / 281474976710656 % 256)) (n % 281474976710656))
 
+-- the bit of a live place's word that says that the request is closed
+abbrev pub closedBit : ℕ
+closedBit = 32
+
 -- what an entry keeps of its request, and the entry that a word makes with an id and a deadline
 abbrev pub whatIn : Entry → What
 whatIn e = what (e .unit) (e .function) (e .asked)

@@ -1,19 +1,17 @@
 -- A place that was made of its numbers in the columns has these numbers; its word, where that is one that a live place may have.
 -- Assumes nothing.
 use Prim.Native.Nat.{ℕ, _≤_}
-use mathlib.Core.Path.{_≡_, refl, sym, _∙_}
+use mathlib.Core.Path.{_≡_, refl}
 use mathlib.Core.Logic.{⊎-elim}
 use mathlib.Core.Bool.{true, false}
-use native.Mathlib.Nat.{add-zero}
 use native.Mathlib.Omega.{arith}
 use lib.Dec.{eqb}
 use borrow.Author.Tests.{eqb-true, eqb-false}
 use Rattle.laws.specs.Numbers.{ids}
-use Rattle.laws.specs.Bits.{has, with}
 use Rattle.laws.proofs.Choice.{true-or}
-use Rattle.pdu.specs.Words.{wordOf, whatOf, entryOf}
-use Rattle.pdu.proofs.WordLaws.{entry-what, word-unmarked}
-use Rattle.table.specs.Columns.{noteOf, placeWord}
+use Rattle.pdu.specs.Words.{entryOf}
+use Rattle.pdu.proofs.WordLaws.{entry-what}
+use Rattle.table.specs.Columns.{noteOf}
 use Rattle.table.proofs.ClosingLaws.{Fit}
 use Rattle.state.specs.Places.{placeOf, numberOf, wordIn, callerOf, deadlineOf, countOf, idIn}
 
@@ -29,13 +27,8 @@ module _ (n w c d k : ℕ) where
 
   -- The word of a live place comes back: that of what was asked, with bit 32 where it is closed.
   pub word-made : Fit w → wordIn (placeOf n w c d k) ≡ w
-  unfolding wordIn placeOf noteOf placeWord with
-  word-made f =
-      rw (entry-what (idIn n) w d)
-      (⊎-elim
-      (λ (t : has w 32 ≡ true). rw (t, word-unmarked (whatOf w) (f .0)) (rw t at (f .1)))
-      (λ (t : has w 32 ≡ false). rw t (sym (add-zero (wordOf (whatOf w))) ∙ (rw t at (f .1))))
-      (true-or (has w 32)))
+  unfolding wordIn placeOf noteOf
+  word-made f = rw (entry-what (idIn n) w d) (f .1)
 
   -- The other numbers come back as they are.
   pub caller-back : callerOf (placeOf n w c d k) ≡ c

@@ -4,9 +4,9 @@ use Prim.Native.Nat.{ℕ, _+_, _-_, _%_}
 use mathlib.Core.Bool.{cond, not}
 use lib.Dec.{eqb}
 use Rattle.laws.specs.Numbers.{ids}
-use Rattle.laws.specs.Bits.{has, with}
 use Rattle.pdu.specs.declared.ProxyId.{ProxyId}
-use Rattle.pdu.specs.Words.{wordOf, whatIn, entryOf}
+use Rattle.pdu.specs.Words.{whatIn, entryOf}
+use Rattle.table.specs.Columns.{noteOf, placeWord}
 use Rattle.state.specs.declared.Place.{Place}
 
 -- in the column of ids a free place is 0, a live one its proxy id + 1
@@ -15,7 +15,7 @@ numberOf p = cond (p .live) (p .entry .id .0 + 1) 0
 
 -- what was asked, as one word, with bit 32 where that is closed
 unfoldable pub wordIn : Place → ℕ
-wordIn p = cond (p .closed) (with (wordOf (whatIn (p .entry))) 32) (wordOf (whatIn (p .entry)))
+wordIn p = placeWord (whatIn (p .entry)) (record { closed = p .closed })
 
 abbrev pub callerOf : Place → ℕ
 callerOf p = p .caller
@@ -32,4 +32,4 @@ idIn n = record { 0 = (n - 1) % ids }
 
 -- the place that its numbers in the columns are
 unfoldable pub placeOf : (number word caller deadline count : ℕ) → Place
-placeOf n w c d k = record { live = not (eqb n 0); entry = entryOf (idIn n) w d; closed = has w 32; caller = c; count = k }
+placeOf n w c d k = record { live = not (eqb n 0); entry = entryOf (idIn n) w d; closed = noteOf w .closed; caller = c; count = k }

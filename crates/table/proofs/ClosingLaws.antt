@@ -3,10 +3,9 @@
 use Prim.Native.Nat.{ℕ, _+_, _≤_, _<_}
 use mathlib.Core.Path.{_≡_, refl, ap, sym, _∙_}
 use mathlib.Core.Logic.{⊎-elim}
-use mathlib.Core.Bool.{Bool, true, false, cond, not, _&&_, or-true, or-false, and-false}
+use mathlib.Core.Bool.{true, false, not, or-true, or-false, and-false}
 use mathlib.Core.Option.{Option·map}
 use mathlib.Core.List.{List, map}
-use native.Mathlib.Nat.{add-zero}
 use native.Mathlib.Omega.{arith}
 use lib.ListN.{length, getD, set, length-set}
 use lib.Seq.{getD-set-same, getD-set-other}
@@ -15,12 +14,13 @@ use borrow.Author.Tests.{ne-eqb, eqb-false}
 use Rattle.laws.specs.Numbers.{places}
 use Rattle.laws.specs.Bits.{has, with}
 use Rattle.laws.proofs.Choice.{true-or, eq-or, lt-or}
+use Rattle.laws.proofs.BitLaws.{with-there, in-with}
 use Rattle.laws.proofs.ListLaws.{tab-ext, map-tab}
-use Rattle.pdu.specs.Words.{wordOf, whatOf, Proper}
+use Rattle.pdu.specs.Words.{wordOf, whatOf, closedBit, Proper}
 use Rattle.pdu.specs.Spoiling.{spoils}
 use Rattle.pdu.specs.declared.Table.{Table}
 use Rattle.pdu.specs.declared.Asked.the-variants.{Read}
-use Rattle.pdu.proofs.WordLaws.{marked-back, word-marked}
+use Rattle.pdu.proofs.WordLaws.{marked-back}
 use Rattle.pdu.proofs.SpoilingLaws.{read-spoils-none}
 use Rattle.book.specs.Book.{marked}
 use Rattle.machine.specs.Requests.{closing}
@@ -31,17 +31,23 @@ use Rattle.table.specs.Changes.{wordAfter, Closes}
 abbrev pub Fit : ℕ → Type 0
 Fit n = Proper (whatOf n) × (placeWord (whatOf n) (noteOf n) ≡ n)
 
--- a word with bit 32 asks the same, and is that of a closed request
-marked-word : (n : ℕ) → Fit n → (whatOf (with n 32) ≡ whatOf n) × (noteOf (with n 32) ≡ record { closed = true }) × Fit (with n 32)
-unfolding with noteOf placeWord
-marked-word n f =
-    let w = whatOf n in
+-- such a word, marked, is the marked word of what it asks, whether it was marked before or not
+marked-is : (n : ℕ) → Fit n → with (wordOf (whatOf n)) closedBit ≡ with n closedBit
+unfolding noteOf placeWord
+marked-is n f =
     ⊎-elim
-    (λ (t : has n 32 ≡ true). rw t (refl, rw t, f))
-    (λ (t : has n 32 ≡ false).
-    let e : with n 32 ≡ wordOf w + 4294967296 = rw t (ap (λ (x : ℕ). x + 4294967296) (sym (f .1) ∙ rw t (add-zero (wordOf w)))) in
-    rw e (marked-back w (f .0), rw (word-marked w (f .0)), (rw (marked-back w (f .0)) (f .0), rw (marked-back w (f .0), word-marked w (f .0)))))
-    (true-or (has n 32))
+    (λ (t : has n closedBit ≡ true). (rw t at (f .1)) ∙ sym (with-there n closedBit t))
+    (λ (t : has n closedBit ≡ false). ap (λ (x : ℕ). with x closedBit) (rw t at (f .1)))
+    (true-or (has n closedBit))
+
+-- and the marked word asks the same, and is that of a closed request
+marked-word : (n : ℕ) → Fit n → (whatOf (with n closedBit) ≡ whatOf n) × (noteOf (with n closedBit) ≡ record { closed = true }) × Fit (with n closedBit)
+unfolding noteOf placeWord
+marked-word n f =
+    let e = marked-is n f in
+    let a : whatOf (with n closedBit) ≡ whatOf n = rw e at (marked-back (whatOf n) (f .0)) in
+    let t : has (with n closedBit) closedBit ≡ true = in-with n closedBit closedBit ∙ or-true (has n closedBit) in
+    (a, rw t, (rw a (f .0), rw (a, t) e))
 
 -- the word m asks what n asked, and says besides what becomes of that once the request of `word` was issued
 abbrev Becomes : (word n m : ℕ) → Type 0

@@ -19,7 +19,7 @@ use Rattle.laws.specs.Bits.{has}
 use Rattle.laws.proofs.Choice.{true-or, eq-or, lt-or}
 use Rattle.laws.proofs.ListLaws.{tab-ext, tab-set, getD-tab, getD-repeat, tab-repeat}
 use Rattle.pdu.specs.Replies.{What}
-use Rattle.pdu.specs.Words.{wordOf, whatOf, Proper}
+use Rattle.pdu.specs.Words.{wordOf, whatOf, closedBit, Proper}
 use Rattle.book.specs.Book.{Live, entry}
 use Rattle.pdu.proofs.WordLaws.{word-unmarked}
 use Rattle.machine.specs.Machine.{Note, opened}
@@ -51,8 +51,8 @@ live-at c k h live = table-at c k h ∙ rw (ne-eqb (getD (c .ids) k 0) 0 live)
 pub word-open : (n : ℕ) → Proper (whatOf n) × (wordOf (whatOf n) ≡ n) → (noteOf n ≡ opened) × (placeWord (whatOf n) (noteOf n) ≡ n)
 unfolding noteOf placeWord
 word-open n w =
-    let t : has n 32 ≡ false = rw (w .1) at (word-unmarked (whatOf n) (w .0)) in
-    (rw t, rw t (add-zero (wordOf (whatOf n)) ∙ w .1))
+    let t : has n closedBit ≡ false = rw (w .1) at (word-unmarked (whatOf n) (w .0)) in
+    (rw t, rw t (w .1))
 
 -- two tables that agree but at one place
 pub table-set : (c c′ : Columns) (place : ℕ) (o : Option (Live What Note)) → place < places → entryAt c′ place ≡ o → ((k : ℕ) → (k ≡ place → ⊥) → entryAt c′ k ≡ entryAt c k)

@@ -5,7 +5,6 @@ use mathlib.Core.Path.{_≡_, refl, ap, sym, _∙_}
 use mathlib.Core.Logic.{⊎-elim}
 use mathlib.Core.Bool.{Bool, true, false, cond, not, Bool·not-not}
 use mathlib.Core.Option.{Option, some, none}
-use native.Mathlib.Nat.{add-zero}
 use lib.ListN.{getD}
 use lib.Dec.{eqb}
 use borrow.Author.Tests.{eq-eqb, eqb-true, eqb-false, not-true}
@@ -91,7 +90,7 @@ module _ (v : Value) (c : Columns) (x t : ℕ) (s : Sound c) where
         let held = s .proper k (eqb-false _ _ live) in
         same-test _ _
         (λ e. rw (eqb-true n (wordOf w) e, word-back w proper) (joins-like v w (noteOf (wordOf w)) (word-unmarked w proper) may))
-        (λ e. let j = joins-exact v w (whatOf n) (noteOf n) e in eq-eqb n (wordOf w) (sym (held .1) ∙ rw (j .0, ← j .1) (add-zero (wordOf w))))
+        (λ e. let j = joins-exact v w (whatOf n) (noteOf n) e in eq-eqb n (wordOf w) (sym (held .1) ∙ rw (j .0, ← j .1)))
 
     open-same : (k : ℕ) → isOpen (c .ids) (c .asked) (c .deadlines) (c .counts) (wordOf w) t k ≡ isOpenIn room t (joins v w) (entryAt c k)
     open-same k =

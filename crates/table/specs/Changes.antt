@@ -9,7 +9,7 @@ use lib.ListN.{length, getD, replicate}
 use lib.Dec.{eqb}
 use Rattle.laws.specs.Numbers.{places, room, partyPlaces}
 use Rattle.laws.specs.Bits.{with}
-use Rattle.pdu.specs.Words.{whatOf}
+use Rattle.pdu.specs.Words.{whatOf, closedBit}
 use Rattle.pdu.specs.Spoiling.{spoils}
 use Rattle.book.specs.Book.{Party, isOf, without, marked}
 use Rattle.machine.specs.Requests.{closing}
@@ -48,7 +48,7 @@ pub record Struck (top client : ℕ) (ns cs os ns′ cs′ os′ : List ℕ) : T
 
 -- the word of a place with that id once the request of `word` was issued: with bit 32 where the place is live and what is asked there is spoiled
 abbrev pub wordAfter : (word id held : ℕ) → ℕ
-wordAfter word id held = cond (not (eqb id 0) && spoils (whatOf word) (whatOf held)) (with held 32) held
+wordAfter word id held = cond (not (eqb id 0) && spoils (whatOf word) (whatOf held)) (with held closedBit) held
 
 -- the request of `word` closes what it spoils, whatever the other columns are: the table has each entry so marked, and sound columns stay sound
 abbrev pub Closes : (word top : ℕ) (is ws ws′ : List ℕ) → Type 0

@@ -9,10 +9,10 @@ use lib.ListN.{length, getD}
 use lib.Dec.{eqb}
 use Rattle.laws.specs.Numbers.{ids, places, room, partyPlaces}
 use Rattle.laws.specs.Lists.{tab}
-use Rattle.laws.specs.Bits.{has}
+use Rattle.laws.specs.Bits.{has, with}
 use Rattle.settings.specs.Grammar.{Value}
 use Rattle.pdu.specs.Replies.{What}
-use Rattle.pdu.specs.Words.{wordOf, whatOf, Proper}
+use Rattle.pdu.specs.Words.{wordOf, whatOf, closedBit, Proper}
 use Rattle.book.specs.Book.{Party, Live, book, entry}
 use Rattle.machine.specs.Machine.{Note, Live-book}
 
@@ -43,10 +43,10 @@ partiesAt ns cs os k = run cs os (k * room) (getD ns k 0)
 
 -- what a word says besides what was asked: bit 32, whether the request is closed; and the word that a live place has
 unfoldable pub noteOf : ℕ → Note
-noteOf n = record { closed = has n 32 }
+noteOf n = record { closed = has n closedBit }
 
 unfoldable pub placeWord : What → Note → ℕ
-placeWord w n = wordOf w + cond (n .closed) 4294967296 0
+placeWord w n = cond (n .closed) (with (wordOf w) closedBit) (wordOf w)
 
 -- what stands at the place k
 abbrev pub entryAt : Columns → ℕ → Option (Live What Note)

@@ -15,7 +15,7 @@ abbrev pub isFree : List ℕ → ℕ → Bool
 isFree is k = eqb (getD is k 0) 0
 
 abbrev pub isTaken : List ℕ → ℕ → Bool
-isTaken is k = not (eqb (getD is k 0) 0)
+isTaken is k = not (isFree is k)
 
 abbrev pub holds : List ℕ → ℕ → ℕ → Bool
 holds is id k = eqb (getD is k 0) (id + 1)
@@ -23,15 +23,15 @@ holds is id k = eqb (getD is k 0) (id + 1)
 -- it is live, asks that word, has room for one more party, and its deadline is later than now
 abbrev pub isOpen : (ids asked deadlines counts : List ℕ) → (word time : ℕ) → ℕ → Bool
 isOpen is ws ds ns word time k =
-    not (eqb (getD is k 0) 0) && (eqb (getD ws k 0) word && (ltb (getD ns k 0) room && ltb time (getD ds k 0)))
+    isTaken is k && (eqb (getD ws k 0) word && (ltb (getD ns k 0) room && ltb time (getD ds k 0)))
 
 -- it is live and its deadline is at or before now
 abbrev pub isDue : (ids deadlines : List ℕ) → ℕ → ℕ → Bool
-isDue is ds time k = not (eqb (getD is k 0) 0) && leb (getD ds k 0) time
+isDue is ds time k = isTaken is k && leb (getD ds k 0) time
 
 -- it is live and has that deadline
 abbrev pub isDueAt : (ids deadlines : List ℕ) → ℕ → ℕ → Bool
-isDueAt is ds deadline k = not (eqb (getD is k 0) 0) && eqb (getD ds k 0) deadline
+isDueAt is ds deadline k = isTaken is k && eqb (getD ds k 0) deadline
 
 -- a smaller id; an earlier deadline, and of equal deadlines a smaller id
 abbrev pub isLower : List ℕ → ℕ → ℕ → Bool

@@ -21,7 +21,7 @@ use Rattle.settings.specs.Values.{valueOf}
 use Rattle.settings.specs.TagWords.{kindOf}
 use Rattle.pdu.specs.Requests.{legal}
 use Rattle.pdu.specs.Replies.{What, excepts}
-use Rattle.pdu.specs.Words.{whatOf}
+use Rattle.pdu.specs.Words.{whatOf, closedBit}
 use Rattle.pdu.specs.Spoiling.{spoils}
 use Rattle.pdu.specs.declared.Table.the-variants.{Registers}
 use Rattle.pdu.specs.declared.Asked.the-variants.{Read}
@@ -44,7 +44,7 @@ use Rattle.machine.specs.Numbers.{numbers, report, isDone, isIssued, isJoined, 
 use Rattle.machine.specs.Waiting.{nextDeadline}
 use Rattle.machine.specs.Spelled.{asker, asking}
 use Rattle.machine.specs.Histories.{Seen, seenOf}
-use Rattle.machine.specs.Closed.{concernsRead, Joinable}
+use Rattle.machine.specs.Closed.{Unspoiled, Joinable}
 use Rattle.machine.specs.declared.Answer.{Answer}
 use Rattle.machine.specs.declared.Answer.the-variants as answer
 use Rattle.machine.specs.declared.Report.{Report}
@@ -336,7 +336,7 @@ module _ (from : Settings) {r : Report} {d d′ : Device} (ls : List Line) (fres
   -- Request #102: a live place of the device is open, so that its word has no bit 32, exactly if nothing that spoils what it asks was issued since its own issue.
   pub what-is-open : (k id : ℕ) → getD (d′ .ids) k 0 ≡ id + 1
       → let w = whatOf (getD (d′ .asked) k 0) in
-      (has (getD (d′ .asked) k 0) 32 ≡ false) ↔ ((p : Party) × (lastOf (concernsRead id w) (toldIn (inForce from) ls) ≡ some (issued id w (getD (d′ .deadlines) k 0) p)))
+      (has (getD (d′ .asked) k 0) closedBit ≡ false) ↔ Unspoiled (toldIn (inForce from) ls) id w (getD (d′ .deadlines) k 0)
   unfolding noteOf
   what-is-open k id e =
       let i : getD (d′ .ids) k 0 - 1 ≡ id = omega arith in

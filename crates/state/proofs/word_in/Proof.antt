@@ -1,16 +1,17 @@
 -- `state::word_in` meets its contract: the word is that of the place's entry, with bit 32 where it is closed.
 -- Assumes nothing.
 use borrow.Author.Needs.{needs}
+use Rattle.table.specs.Columns.{placeWord}
 use Rattle.state.specs.Places.{wordIn}
 use Rattle.state.proofs.word_in.Statement.{statement}
 use Rattle.state.proofs.word_in.Tie as tie
 
 returns : tie.Need-returns
-unfolding wordIn
+unfolding wordIn placeWord
 returns c = rw (c .before .if1 .taken, ← c .before .before .word-of-entry .ensures) (c .closed-word .ensures)
 
 returns-2 : tie.Need-returns-2
-unfolding wordIn
+unfolding wordIn placeWord
 returns-2 c = rw (c .if1 .left) (c .before .word-of-entry .ensures)
 
 pub word-in-spec : {M : Type 1} → statement M
