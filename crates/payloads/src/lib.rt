@@ -6,8 +6,8 @@ ghost use mathlib.Core.Bool.{false};
 ghost use Prim.Native.Nat.{ℕ};
 ghost use Rattle.pdu.specs.Replies.{what, excepts};
 ghost use Rattle.rewrite.specs.Rewriting.{outcome};
-ghost use Rattle.rewrite.specs.Frames.{singleBase, forwarded, returnedBy, returned, under};
-ghost use Rattle.rewrite.specs.Lent.{tagsOf, TagWords, Run, Sent, Brought, Framed};
+ghost use Rattle.rewrite.specs.Frames.{singleBase, passing, forwarded, returnedBy, returned, under};
+ghost use Rattle.rewrite.specs.Lent.{tagsOf, TagWords, Run, RunOf, Sent, Brought, Framed};
 use pdu::Asked;
 use pdu::ProxyId;
 use pdu::Table;
@@ -21,41 +21,54 @@ const SINGLE_BASE: usize = 10;
 
 const MULTIPLE_BASE: usize = 13;
 
+// What a frame carries from byte base on: registers are rewritten in place, bits pass as they are.
+fn pass(
+    frame: &mut [u8],
+    table: Table,
+    base: usize,
+    start: u16,
+    quantity: u16,
+    way: Way,
+    tags: &[u64; laws::MOST_TAGS],
+    tagged: usize,
+) -> Raw
+    requires { ⌜ RunOf table base start quantity (now frame) ⌝ }
+    requires { ⌜ TagWords tagged (now tags) ⌝ }
+    ensures { λ r. ⌜ outcome (r .partial) (r .value) (now (frame .exit)) ≡ passing table way base start quantity (tagsOf tagged (now (tags .entry))) (now (frame .entry)) ⌝ }
+{
+    match table {
+        Table::Bits => rewrite::NOT_RAW,
+        Table::Registers => registers::rewrite(frame, base, start, quantity, way, tags, tagged),
+    }
+}
+
 // A request's registers to BCD, in its own frame.
 fn send(frame: &mut [u8], asked: Asked, tags: &[u64; laws::MOST_TAGS], tagged: usize) -> Raw
     requires { ⌜ Sent asked (now frame) ⌝ }
     requires { ⌜ TagWords tagged (now tags) ⌝ }
     ensures { λ r. ⌜ outcome (r .partial) (r .value) (now (frame .exit)) ≡ forwarded (tagsOf tagged (now (tags .entry))) asked (now (frame .entry)) ⌝ }
 {
+    let way = Way::ToBcd;
     match asked {
         Asked::SingleWrite {
             table,
             address,
             value: _,
-        } => match table {
-            Table::Bits => rewrite::NOT_RAW,
-            Table::Registers => {
-                registers::rewrite(frame, SINGLE_BASE, address, 1, Way::ToBcd, tags, tagged)
-            }
-        },
+        } => pass(frame, table, SINGLE_BASE, address, 1, way, tags, tagged),
         Asked::MultipleWrite {
             table,
             start,
             quantity,
-        } => match table {
-            Table::Bits => rewrite::NOT_RAW,
-            Table::Registers => {
-                registers::rewrite(
-                    frame,
-                    MULTIPLE_BASE,
-                    start,
-                    quantity,
-                    Way::ToBcd,
-                    tags,
-                    tagged,
-                )
-            }
-        },
+        } => pass(
+            frame,
+            table,
+            MULTIPLE_BASE,
+            start,
+            quantity,
+            way,
+            tags,
+            tagged,
+        ),
         Asked::Read {
             table: _,
             start: _,
@@ -103,20 +116,16 @@ fn bring(
             table,
             start,
             quantity,
-        } => match table {
-            Table::Bits => rewrite::NOT_RAW,
-            Table::Registers => {
-                registers::rewrite(
-                    frame,
-                    READ_BASE,
-                    start,
-                    quantity,
-                    Way::ToBinary,
-                    tags,
-                    tagged,
-                )
-            }
-        },
+        } => pass(
+            frame,
+            table,
+            READ_BASE,
+            start,
+            quantity,
+            Way::ToBinary,
+            tags,
+            tagged,
+        ),
         Asked::SingleWrite {
             table,
             address,

@@ -7,9 +7,11 @@ use Rattle.laws.specs.Bytes.{over}
 use Rattle.wire.specs.Frame.{laid}
 use Rattle.settings.specs.Grammar.{Tag}
 use Rattle.pdu.specs.Replies.{What, excepts}
+use Rattle.pdu.specs.declared.Table.{Table}
 use Rattle.pdu.specs.declared.Table.the-variants.{Bits, Registers}
 use Rattle.pdu.specs.declared.Asked.{Asked}
 use Rattle.pdu.specs.declared.Asked.the-variants.{Read, SingleWrite, MultipleWrite, Other}
+use Rattle.rewrite.specs.declared.Way.{Way}
 use Rattle.rewrite.specs.declared.Way.the-variants.{ToBcd, ToBinary}
 use Rattle.rewrite.specs.Rewriting.{verdict, isRewritten, Rewritten, outcome, rewriting}
 
@@ -23,12 +25,15 @@ singleBase = 10
 abbrev pub multipleBase : ℕ
 multipleBase = 13
 
+-- the registers that a frame carries are rewritten; bits pass unchanged
+abbrev pub passing : Table → Way → (base start quantity : ℕ) → List Tag → List ℕ → Rewritten
+passing Bits way base start quantity tags f = outcome 0 0 f
+passing Registers way base start quantity tags f = rewriting way base start quantity tags f
+
 unfoldable pub forwarded : List Tag → Asked → List ℕ → Rewritten
 forwarded tags (Read t s q) f = outcome 0 0 f
-forwarded tags (SingleWrite Bits a v) f = outcome 0 0 f
-forwarded tags (SingleWrite Registers a v) f = rewriting ToBcd singleBase a 1 tags f
-forwarded tags (MultipleWrite Bits s q) f = outcome 0 0 f
-forwarded tags (MultipleWrite Registers s q) f = rewriting ToBcd multipleBase s q tags f
+forwarded tags (SingleWrite t a v) f = passing t ToBcd singleBase a 1 tags f
+forwarded tags (MultipleWrite t s q) f = passing t ToBcd multipleBase s q tags f
 forwarded tags Other f = outcome 0 0 f
 
 -- the request 06 that wrote the value v to the address a was re-encoded: a tag's verdict over that one register is that it is rewritten
@@ -38,8 +43,7 @@ reencoded (t ∷ ts) a v = isRewritten (verdict ToBcd a (v ∷ []) t) || reencod
 
 -- the echo of 06 is decoded where the request was re-encoded, and passes unchanged where it was not
 unfoldable pub returnedBy : List Tag → Asked → List ℕ → Rewritten
-returnedBy tags (Read Bits s q) f = outcome 0 0 f
-returnedBy tags (Read Registers s q) f = rewriting ToBinary readBase s q tags f
+returnedBy tags (Read t s q) f = passing t ToBinary readBase s q tags f
 returnedBy tags (SingleWrite Bits a v) f = outcome 0 0 f
 returnedBy tags (SingleWrite Registers a v) f = cond (reencoded tags a v) (rewriting ToBinary singleBase a 1 tags f) (outcome 0 0 f)
 returnedBy tags (MultipleWrite t s q) f = outcome 0 0 f

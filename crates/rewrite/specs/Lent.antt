@@ -10,6 +10,7 @@ use lib.Dec.{leb}
 use Rattle.laws.specs.Numbers.{mostTags, addresses, leastFrame}
 use Rattle.settings.specs.Grammar.{Tag}
 use Rattle.settings.specs.TagWords.{tagOf, lastOf, Ascending}
+use Rattle.pdu.specs.declared.Table.{Table}
 use Rattle.pdu.specs.declared.Table.the-variants.{Bits, Registers}
 use Rattle.pdu.specs.declared.Asked.{Asked}
 use Rattle.pdu.specs.declared.Asked.the-variants.{Read, SingleWrite, MultipleWrite, Other}
@@ -32,20 +33,21 @@ pub record Run (base start quantity : ℕ) (d : List ℕ) : Type 0 where
   pub room : base + 2 * quantity ≤ length d
   pub low : start + quantity ≤ addresses
 
+-- the same of what is carried, where that is registers; nothing of bits
+abbrev pub RunOf : Table → (base start quantity : ℕ) → List ℕ → Type 0
+RunOf Bits base start quantity d = Unit {0}
+RunOf Registers base start quantity d = Run base start quantity d
+
 -- the registers that a request carries, and those that a reply carries, are in the frame
 abbrev pub Sent : Asked → List ℕ → Type 0
 Sent (Read t s q) f = Unit {0}
-Sent (SingleWrite Bits a v) f = Unit {0}
-Sent (SingleWrite Registers a v) f = Run singleBase a 1 f
-Sent (MultipleWrite Bits s q) f = Unit {0}
-Sent (MultipleWrite Registers s q) f = Run multipleBase s q f
+Sent (SingleWrite t a v) f = RunOf t singleBase a 1 f
+Sent (MultipleWrite t s q) f = RunOf t multipleBase s q f
 Sent Other f = Unit {0}
 
 abbrev pub Brought : Asked → List ℕ → Type 0
-Brought (Read Bits s q) f = Unit {0}
-Brought (Read Registers s q) f = Run readBase s q f
-Brought (SingleWrite Bits a v) f = Unit {0}
-Brought (SingleWrite Registers a v) f = Run singleBase a 1 f
+Brought (Read t s q) f = RunOf t readBase s q f
+Brought (SingleWrite t a v) f = RunOf t singleBase a 1 f
 Brought (MultipleWrite t s q) f = Unit {0}
 Brought Other f = Unit {0}
 

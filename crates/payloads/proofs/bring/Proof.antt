@@ -26,13 +26,12 @@ by-asked c unit =
     let a = c .before .before .before .before .args in
     returned-other (tagsOf (a .tagged) (now (a .tags))) (now (a .frame)) (what unit (a .function) (a .asked)) (plain c)
 
-rewrite-requires : tie.Need-rewrite-requires
-rewrite-requires c κs =
-    let table = c .before in
-    let asked = table .before .before .before in
+pass-requires : tie.Need-pass-requires
+pass-requires c κs =
+    let asked = c .before .before in
     let left = asked .before .before in
     let p = left .before .before .before .before .pre in
-    (rw (asked .asked .given .1, table .enum-told2 .given .1) at (p .0 (plain left)), p .1)
+    (rw (asked .asked .given .1) at (p .0 (plain left)), p .1)
 
 bring-echo-requires : tie.Need-bring-echo-requires
 bring-echo-requires c κs =
@@ -40,47 +39,39 @@ bring-echo-requires c κs =
     let asked = table .before .before .before in
     let left = asked .before .before in
     let p = left .before .before .before .before .pre in
-    (rw (asked .asked2 .given .1, table .enum-told4 .given .1) at (p .0 (plain left)), p .1)
+    (rw (asked .asked2 .given .1, table .enum-told2 .given .1) at (p .0 (plain left)), p .1)
 
 returns-2 : tie.Need-returns-2
 unfolding returnedBy
 returns-2 c unit =
-    let asked = c .before .before .before in
-    rw (by-asked (asked .before .before) unit, asked .asked .given .1, c .enum-told .given .1)
+    let run = c .before .before in
+    let asked = run .before .before .before in
+    rw (by-asked (asked .before .before) unit, asked .asked .given .1) (run .pass .ensures)
 
 returns-3 : tie.Need-returns-3
 unfolding returnedBy
 returns-3 c unit =
-    let run = c .before .before in
-    let table = run .before .before in
-    let asked = table .before .before .before in
-    rw (by-asked (asked .before .before) unit, asked .asked .given .1, table .enum-told2 .given .1) (run .rewrite .ensures)
+    let asked = c .before .before .before in
+    rw (by-asked (asked .before .before) unit, asked .asked2 .given .1, c .enum-told .given .1)
 
 returns-4 : tie.Need-returns-4
-unfolding returnedBy
 returns-4 c unit =
-    let asked = c .before .before .before in
-    rw (by-asked (asked .before .before) unit, asked .asked2 .given .1, c .enum-told3 .given .1)
-
-returns-5 : tie.Need-returns-5
-returns-5 c unit =
     let run = c .before .before in
     let table = run .before .before in
     let asked = table .before .before .before in
-    rw (by-asked (asked .before .before) unit, asked .asked2 .given .1, table .enum-told4 .given .1) (run .bring-echo .ensures)
+    rw (by-asked (asked .before .before) unit, asked .asked2 .given .1, table .enum-told2 .given .1) (run .bring-echo .ensures)
+
+returns-5 : tie.Need-returns-5
+unfolding returnedBy
+returns-5 c unit = rw (by-asked (c .before .before) unit, c .enum-told3 .given .1)
 
 returns-6 : tie.Need-returns-6
 unfolding returnedBy
-returns-6 c unit = rw (by-asked (c .before .before) unit, c .enum-told5 .given .1)
-
-returns-7 : tie.Need-returns-7
-unfolding returnedBy
-returns-7 c unit = rw (by-asked (c .before .before) unit, c .enum-told6 .given .1)
+returns-6 c unit = rw (by-asked (c .before .before) unit, c .enum-told4 .given .1)
 
 pub bring-spec : {M : Type 1} → statement M
 bring-spec =
     tie.close
-    (tie.spec (λ c κs. search needs) (λ c. search needs) returns (λ c. search needs) (λ c. search needs) (λ c. search needs) rewrite-requires
-    (λ c. search needs) (λ c. search needs) (λ c. search needs) bring-echo-requires (λ c. search needs) (λ c. search needs) (λ c. search needs) returns-2
-    (λ c. search needs) returns-3 (λ c. search needs) returns-4 (λ c. search needs) returns-5 (λ c. search needs) returns-6 (λ c. search needs)
-    returns-7)
+    (tie.spec (λ c κs. search needs) (λ c. search needs) returns (λ c. search needs) pass-requires (λ c. search needs) (λ c. search needs)
+    (λ c. search needs) bring-echo-requires (λ c. search needs) (λ c. search needs) (λ c. search needs) returns-2 (λ c. search needs) returns-3
+    (λ c. search needs) returns-4 (λ c. search needs) returns-5 (λ c. search needs) returns-6)
