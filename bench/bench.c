@@ -15,7 +15,7 @@ enum {
     FEW_PARTIES = 8, /* as many parties, and places, as document 01 has: the same work for every archive */
     FEW_PLACES = 64,
     MOST_FRAME = 260,
-    TAGS = 60, /* from FIRST on, of width 16 and 32 by turns */
+    TAGS = 60, /* from FIRST on, of width 16 and 32 by turns, none signed */
     FIRST = 1000,
     TAGGED = TAGS / 2 * 3,
     PLAIN = 10, /* the registers of a plain read, below the tags */

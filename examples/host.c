@@ -117,10 +117,14 @@ static int received(const char *call, uint64_t now, const uint8_t *piece, size_t
 
 int main(void)
 {
-    static const char text[] = "version=1\ntimeout=3000\njoin=1\ntags=2\naddr=1024\nwidth=16\naddr=1026\nwidth=32\n";
+    /* a level of four digits, a counter of eight, and a drive's torque: a sign and three digits */
+    static const char text[] = "version=2\ntimeout=3000\njoin=1\ntags=3\naddr=1024\nwidth=16\nsign=0\n"
+                               "addr=1026\nwidth=32\nsign=0\naddr=1028\nwidth=16\nsign=1\n";
     static const uint8_t read_3[] = {0x12, 0x34, 0, 0, 0, 6, 1, 3, 4, 0, 0, 1};
     static const uint8_t read_5[] = {0x00, 0x07, 0, 0, 0, 6, 1, 3, 4, 0, 0, 1};
     static const uint8_t reply[] = {0, 0, 0, 0, 0, 5, 1, 3, 2, 0x12, 0x34};
+    static const uint8_t read_torque[] = {0x12, 0x35, 0, 0, 0, 6, 1, 3, 4, 4, 0, 1};
+    static const uint8_t torque[] = {0, 1, 0, 0, 0, 5, 1, 3, 2, 0xF0, 0x12}; /* minus 12: FF F4 in binary */
     static const uint8_t noise[] = {0, 0, 0, 9, 0, 5};
 
     zb_read settings = zb_settings_read((const uint8_t *)text, strlen(text));
@@ -134,6 +138,8 @@ int main(void)
     received("half of a reply arrives", 149, reply, 5);
     received("the other half", 150, reply + 5, sizeof reply - 5);
     received("the same reply again", 151, reply, sizeof reply);
+    told("screen 3 reads 1028 at 160", zb_request(&device, 3, 160, read_torque, sizeof read_torque, out, sizeof out));
+    received("the drive's torque arrives", 161, torque, sizeof torque);
     told("screen 3 reads 1024 at 200", zb_request(&device, 3, 200, read_3, sizeof read_3, out, sizeof out));
     told("tick at 3199", zb_tick(&device, 3199, out, sizeof out, list, ZB_LIST_BUFFER));
     slept();

@@ -23,6 +23,7 @@ extern "C" {
 #define ZB_MOST_TAGS 256
 #define ZB_FRAME_BUFFER 260  /* bytes that a frame buffer `out` has at least */
 #define ZB_LIST_BUFFER 64    /* numbers that a list has at least */
+#define ZB_MOST_TEXT 6952    /* bytes of the longest settings text: no value needs more to be written */
 
 /* One device's state, which only these calls make and change; the host owns the memory and lends it for each call.
    The fields are spelled out so that a host can place a device statically. They are not for the host to read or
@@ -42,7 +43,7 @@ typedef struct zb_state {
     uint32_t timeout;
     uint32_t join;
     uint32_t tagged;                     /* how many tags */
-    uint64_t tags[ZB_MOST_TAGS];         /* a word a tag */
+    uint64_t tags[ZB_MOST_TAGS];         /* a word a tag: its address and its kind */
 } zb_state;
 
 #define ZB_STATE_SIZE 32296
@@ -56,7 +57,11 @@ typedef struct {
     uint32_t tags;        /* 0 to ZB_MOST_TAGS: how many of the places below count */
     uint16_t addr[ZB_MOST_TAGS];
     uint16_t width[ZB_MOST_TAGS];  /* 16 or 32 */
+    uint16_t sign[ZB_MOST_TAGS];   /* 0 or 1; 1 with width 16 alone: the top nibble is 0 for plus and F for minus, three
+                                      digits follow, and the binary form is two's complement, -999 to 999 */
 } zb_settings;
+
+ZB_STATIC_ASSERT(sizeof(zb_settings) == 1548, "zb_settings has the size that the core was proved for");
 
 /* What a call reports. A field that a call does not speak of is 0. */
 typedef struct {
@@ -107,8 +112,10 @@ typedef struct { zb_answer answer; zb_settings settings; } zb_read;
    written; what zb_settings_write is lent is as long as the text. Whatever is lent is used during the call alone; bytes
    and numbers beyond those written stay. */
 
+/* Texts of version 1, which have no sign lines, are read as unsigned. */
 zb_read   zb_settings_read(const uint8_t *text, size_t text_len);
-/* Settings are lent for the call alone and never written; they are aligned to 4 bytes. */
+/* The text is of version 2, whatever version the value was read from. Settings are lent for the call alone and never
+   written; they are aligned to 4 bytes. */
 zb_answer zb_settings_write(const zb_settings *from, uint8_t *text, size_t text_len);
 /* An invalid value: ZB_REFUSED_SETTINGS, and the state is made nevertheless, for timeout 3000, join 1 and no tags.
    Whatever the value, nobody is attached afterwards, nothing is live, and ids are issued from 0 on: the old link's

@@ -1,5 +1,6 @@
-/* Shows document 01's examples from C, each refusal of each call by a case written by hand, and that the header's
-   structs lie as the archive has them. Every call also goes to the model, with guard bytes around what is lent. */
+/* Shows document 01's examples from C, with those of requests #102, #105 and #106, each refusal of each call by a case
+   written by hand, and that the header's structs lie as the archive has them. Every call also goes to the model, with
+   guard bytes around what is lent. */
 #include "pair.h"
 #include <stdbool.h>
 #include <stddef.h>
@@ -94,6 +95,8 @@ static bool is_issued(zb_answer a, uint32_t id)
 
 static const char text_of_the_document[] =
     "version=1\ntimeout=3000\njoin=1\ntags=2\naddr=1024\nwidth=16\naddr=1026\nwidth=32\n";
+static const char text_written_of_the_document[] =
+    "version=2\ntimeout=3000\njoin=1\ntags=2\naddr=1024\nwidth=16\nsign=0\naddr=1026\nwidth=32\nsign=0\n";
 
 static zb_settings settings_of_the_document(void)
 {
@@ -115,6 +118,7 @@ static void sizes_and_offsets(void)
 {
     /* document 01's numbers and #104's; that they are the archive's is seen where buffers, parties and places run short */
     EXPECT(ZB_PLACES == 256 && PARTIES == 32 && ZB_CLIENTS == 32 && ZB_FRAME_BUFFER == 260 && ZB_LIST_BUFFER == 64);
+    EXPECT(ZB_MOST_TAGS == 256 && ZB_MOST_TEXT == 6952);
     EXPECT(zb_state_size() == 32296 && sizeof(zb_state) == 32296 && ZB_STATE_SIZE == 32296 && _Alignof(zb_state) == 8);
     EXPECT(offsetof(zb_state, ids) == 0 && sizeof((zb_state *)0)->ids == 1024);
     EXPECT(offsetof(zb_state, asked) == 1024 && sizeof((zb_state *)0)->asked == 2048);
@@ -131,15 +135,15 @@ static void sizes_and_offsets(void)
     EXPECT(offsetof(zb_state, join) == 30236 && sizeof((zb_state *)0)->join == 4);
     EXPECT(offsetof(zb_state, tagged) == 30240 && sizeof((zb_state *)0)->tagged == 4);
     EXPECT(offsetof(zb_state, tags) == 30248 && sizeof((zb_state *)0)->tags == 2048);
-    EXPECT(sizeof(zb_settings) == 1036 && _Alignof(zb_settings) == 4);
+    EXPECT(sizeof(zb_settings) == 1548 && _Alignof(zb_settings) == 4);
     EXPECT(offsetof(zb_settings, timeout) == 0 && offsetof(zb_settings, join) == 4 && offsetof(zb_settings, tags) == 8);
-    EXPECT(offsetof(zb_settings, addr) == 12 && offsetof(zb_settings, width) == 524);
+    EXPECT(offsetof(zb_settings, addr) == 12 && offsetof(zb_settings, width) == 524 && offsetof(zb_settings, sign) == 1036);
     EXPECT(sizeof(zb_answer) == 40 && offsetof(zb_answer, refusal) == 0 && offsetof(zb_answer, line) == 4);
     EXPECT(offsetof(zb_answer, outcome) == 8 && offsetof(zb_answer, length) == 12);
     EXPECT(offsetof(zb_answer, parties) == 16);
     EXPECT(offsetof(zb_answer, partial) == 20 && offsetof(zb_answer, value) == 24 && offsetof(zb_answer, set) == 28);
     EXPECT(offsetof(zb_answer, id) == 32 && offsetof(zb_answer, code) == 36);
-    EXPECT(sizeof(zb_read) == 1076 && offsetof(zb_read, answer) == 0 && offsetof(zb_read, settings) == 40);
+    EXPECT(sizeof(zb_read) == 1588 && offsetof(zb_read, answer) == 0 && offsetof(zb_read, settings) == 40);
     EXPECT(sizeof(zb_next) == 16 && offsetof(zb_next, time) == 0 && offsetof(zb_next, live) == 8);
 }
 
@@ -349,6 +353,324 @@ static void single_writes(void)
     EXPECT(wrote(a, "00 00 00 00 00 06 01 06 04 03 27 10") && raw(a, 0, 0));
     a = request(3, 0, "00 01 00 00 00 0D 01 10 04 00 00 03 06 27 10 00 00 00 01");
     EXPECT(wrote(a, "00 03 00 00 00 0D 01 10 04 00 00 03 06 27 10 00 00 00 01") && raw(a, 1, 1));
+}
+
+/* Signed tags (#105): one at 1028, between two of width 32, whose neighbours at 1026, 1027 and 1029, 1030 a range can cut */
+
+static const char text_with_a_sign[] =
+    "version=2\ntimeout=3000\njoin=1\ntags=4\naddr=1024\nwidth=16\nsign=0\naddr=1026\nwidth=32\nsign=0\n"
+    "addr=1028\nwidth=16\nsign=1\naddr=1029\nwidth=32\nsign=0\n";
+
+static void begin_signed(void)
+{
+    const zb_read r = zb_settings_read((const uint8_t *)text_with_a_sign, strlen(text_with_a_sign));
+    EXPECT(r.answer.outcome == ZB_DONE && r.settings.sign[2] == 1);
+    EXPECT(pair_fresh(&r.settings).outcome == ZB_DONE && pair_attach(3).outcome == ZB_DONE);
+}
+
+static void put_word(uint8_t *bytes, uint32_t word)
+{
+    bytes[0] = (uint8_t)(word >> 8);
+    bytes[1] = (uint8_t)word;
+}
+
+static uint32_t word_of_out(size_t at)
+{
+    return (uint32_t)pair_out()[at] << 8 | pair_out()[at + 1];
+}
+
+/* Writes the signed tag by 06 and by 16; the answer is the request's. */
+static zb_answer write_by_06(uint32_t word)
+{
+    uint8_t frame[] = {0x12, 0x34, 0, 0, 0, 6, 1, 6, 4, 4, 0, 0};
+    put_word(frame + 10, word);
+    return pair_request(3, 0, frame, sizeof frame, ZB_FRAME_BUFFER);
+}
+
+static zb_answer write_by_16(uint32_t word)
+{
+    uint8_t frame[] = {0x12, 0x34, 0, 0, 0, 9, 1, 16, 4, 4, 0, 1, 2, 0, 0};
+    put_word(frame + 13, word);
+    return pair_request(3, 0, frame, sizeof frame, ZB_FRAME_BUFFER);
+}
+
+/* The controller says this word to the 06 that was issued so; the answer is the reply's. */
+static zb_answer echo(zb_answer issued, uint32_t word)
+{
+    uint8_t frame[] = {0, 0, 0, 0, 0, 6, 1, 6, 4, 4, 0, 0};
+    put_word(frame, issued.id);
+    put_word(frame + 10, word);
+    return pair_reply(0, frame, sizeof frame, ZB_FRAME_BUFFER, ZB_LIST_BUFFER);
+}
+
+static zb_answer acknowledge(zb_answer issued)
+{
+    uint8_t frame[] = {0, 0, 0, 0, 0, 6, 1, 16, 4, 4, 0, 1};
+    put_word(frame, issued.id);
+    return pair_reply(0, frame, sizeof frame, ZB_FRAME_BUFFER, ZB_LIST_BUFFER);
+}
+
+/* Reads the signed tag by a function, and the controller says this word; the answer is the reply's. */
+static zb_answer read_signed(uint8_t function, uint32_t word)
+{
+    uint8_t request[] = {0x12, 0x34, 0, 0, 0, 6, 1, 0, 4, 4, 0, 1}, frame[] = {0, 0, 0, 0, 0, 5, 1, 0, 2, 0, 0};
+    request[7] = frame[7] = function;
+    put_word(frame, pair_request(3, 0, request, sizeof request, ZB_FRAME_BUFFER).id);
+    put_word(frame + 9, word);
+    return pair_reply(0, frame, sizeof frame, ZB_FRAME_BUFFER, ZB_LIST_BUFFER);
+}
+
+/* What is written, as 16 bits, and what is sent for it; what is in no range is sent as it is. */
+static void signed_writes(void)
+{
+    static const struct { const char *number; uint16_t written, sent; uint32_t value; } rows[] = {
+        {"0", 0x0000, 0x0000, 0}, {"1", 0x0001, 0x0001, 0}, {"10", 0x000A, 0x0010, 0}, {"999", 0x03E7, 0x0999, 0},
+        {"-1", 0xFFFF, 0xF001, 0}, {"-10", 0xFFF6, 0xF010, 0}, {"-999", 0xFC19, 0xF999, 0},
+        {"1000", 0x03E8, 0x03E8, 1}, {"-1000", 0xFC18, 0xFC18, 1}, {"9999", 0x270F, 0x270F, 1},
+        {"32767", 0x7FFF, 0x7FFF, 1}, {"-32768", 0x8000, 0x8000, 1}, {"-32767", 0x8001, 0x8001, 1},
+        {"2457, which looks like 999 in digits", 0x0999, 0x0999, 1},
+        {"-4096, which looks like minus 0", 0xF000, 0xF000, 1},
+        {"-4095, which looks like -1 in digits", 0xF001, 0xF001, 1},
+    };
+    begin_signed();
+    for (size_t n = 0; n < sizeof rows / sizeof *rows; n++) {
+        zb_answer a = write_by_06(rows[n].written);
+        bool good = a.outcome == ZB_ISSUED && raw(a, 0, rows[n].value) && word_of_out(10) == rows[n].sent;
+        expect(good, rows[n].number, __LINE__);
+        a = echo(a, rows[n].sent);
+        good = a.outcome == ZB_ANSWERED && raw(a, 0, 0) && word_of_out(10) == rows[n].written;
+        expect(good, rows[n].number, __LINE__);
+        a = write_by_16(rows[n].written);
+        good = a.outcome == ZB_ISSUED && raw(a, 0, rows[n].value) && word_of_out(13) == rows[n].sent;
+        expect(good, rows[n].number, __LINE__);
+        a = acknowledge(a);
+        expect(wrote(a, "00 00 00 00 00 06 01 10 04 04 00 01") && raw(a, 0, 0), rows[n].number, __LINE__);
+    }
+}
+
+/* What the controller says, and what the client reads; what is no number is read as it is. */
+static void signed_reads(void)
+{
+    static const struct { uint16_t said, read; uint32_t value; } rows[] = {
+        {0x0000, 0x0000, 0}, {0x0001, 0x0001, 0}, {0x0010, 0x000A, 0}, {0x0999, 0x03E7, 0},
+        {0xF001, 0xFFFF, 0}, {0xF010, 0xFFF6, 0}, {0xF999, 0xFC19, 0},
+        {0xF000, 0xF000, 1}, {0x1000, 0x1000, 1}, {0x1999, 0x1999, 1}, {0x8000, 0x8000, 1}, {0x9999, 0x9999, 1},
+        {0xA999, 0xA999, 1}, {0xE001, 0xE001, 1}, {0xE999, 0xE999, 1}, {0x0A00, 0x0A00, 1}, {0x00A0, 0x00A0, 1},
+        {0x000A, 0x000A, 1}, {0xFA00, 0xFA00, 1}, {0xF0A0, 0xF0A0, 1}, {0xF00A, 0xF00A, 1}, {0xFFFF, 0xFFFF, 1},
+        {0xFC19, 0xFC19, 1},
+    };
+    begin_signed();
+    for (size_t n = 0; n < sizeof rows / sizeof *rows; n++)
+        for (uint8_t function = 3; function <= 4; function++) {
+            zb_answer a = read_signed(function, rows[n].said);
+            char name[16];
+            snprintf(name, sizeof name, "0x%04X by %02u", rows[n].said, function);
+            expect(a.outcome == ZB_ANSWERED && raw(a, 0, rows[n].value) && word_of_out(9) == rows[n].read, name, __LINE__);
+        }
+}
+
+/* The echo of what was re-encoded is decoded, whatever it is; that of what went out raw passes (#106). */
+static void signed_echoes(void)
+{
+    static const struct { const char *what; uint16_t written, echoed, back; uint32_t value; } rows[] = {
+        {"-5, echoed", 0xFFFB, 0xF005, 0xFFFB, 0}, {"-5, and another number", 0xFFFB, 0x0007, 0x0007, 0},
+        {"-5, and minus 999", 0xFFFB, 0xF999, 0xFC19, 0}, {"-5, and minus 0", 0xFFFB, 0xF000, 0xF000, 1},
+        {"-5, and top nibble 1", 0xFFFB, 0x1000, 0x1000, 1}, {"-5, and a nibble above 9", 0xFFFB, 0x0A00, 0x0A00, 1},
+        {"5, and minus 5", 0x0005, 0xF005, 0xFFFB, 0}, {"0, and minus 0", 0x0000, 0xF000, 0xF000, 1},
+        {"1000, echoed", 0x03E8, 0x03E8, 0x03E8, 0}, {"1000, and minus 1", 0x03E8, 0xF001, 0xF001, 0},
+        {"1000, and minus 0", 0x03E8, 0xF000, 0xF000, 0}, {"-1000, echoed", 0xFC18, 0xFC18, 0xFC18, 0},
+        {"-1000, and 999", 0xFC18, 0x0999, 0x0999, 0}, {"-32768, echoed", 0x8000, 0x8000, 0x8000, 0},
+        {"-4095, whose word is minus 1 in digits, echoed", 0xF001, 0xF001, 0xF001, 0},
+    };
+    begin_signed();
+    for (size_t n = 0; n < sizeof rows / sizeof *rows; n++) {
+        zb_answer a = echo(write_by_06(rows[n].written), rows[n].echoed);
+        bool good = a.outcome == ZB_ANSWERED && raw(a, 0, rows[n].value) && word_of_out(10) == rows[n].back;
+        expect(good, rows[n].what, __LINE__);
+    }
+    zb_answer a = write_by_06(0xFFFB);
+    EXPECT(is_issued(a, 15));
+    a = reply(0, "00 0F 00 00 00 03 01 86 04");
+    EXPECT(wrote(a, "00 00 00 00 00 03 01 86 04") && raw(a, 0, 0));
+}
+
+/* The signed tag first, last and inside, with what the range cuts beside it. */
+static void signed_beside_cut_tags(void)
+{
+    begin_signed();
+    request(3, 0, "00 01 00 00 00 06 01 03 04 03 00 02");
+    zb_answer a = reply(0, "00 00 00 00 00 07 01 03 04 12 34 F0 05");
+    EXPECT(wrote(a, "00 00 00 00 00 07 01 03 04 12 34 FF FB") && raw(a, 1, 0)); /* last */
+    request(3, 0, "00 01 00 00 00 06 01 04 04 04 00 02");
+    a = reply(0, "00 01 00 00 00 07 01 04 04 F0 05 12 34");
+    EXPECT(wrote(a, "00 00 00 00 00 07 01 04 04 FF FB 12 34") && raw(a, 1, 0)); /* first */
+    request(3, 0, "00 01 00 00 00 06 01 03 04 03 00 03");
+    a = reply(0, "00 02 00 00 00 09 01 03 06 12 34 F0 00 12 34");
+    EXPECT(wrote(a, "00 00 00 00 00 09 01 03 06 12 34 F0 00 12 34") && raw(a, 2, 1)); /* between two cut ones */
+    request(3, 0, "00 01 00 00 00 06 01 03 04 00 00 07");
+    a = reply(0, "00 03 00 00 00 11 01 03 0E 12 34 12 34 56 78 12 34 F9 99 56 78 12 34");
+    EXPECT(wrote(a, "00 00 00 00 00 11 01 03 0E 04 D2 12 34 61 4E 00 BC FC 19 61 4E 00 BC") && raw(a, 0, 0)); /* all */
+    request(3, 0, "00 01 00 00 00 06 01 03 04 00 00 07");
+    a = reply(0, "00 04 00 00 00 11 01 03 0E F0 01 F0 01 F0 01 00 00 F0 01 00 00 F0 01");
+    EXPECT(wrote(a, "00 00 00 00 00 11 01 03 0E F0 01 F0 01 F0 01 00 00 FF FF 00 00 F0 01") && raw(a, 0, 3));
+    a = request(3, 0, "00 01 00 00 00 0B 01 10 04 03 00 02 04 00 05 FF FB");
+    EXPECT(wrote(a, "00 05 00 00 00 0B 01 10 04 03 00 02 04 00 05 F0 05") && raw(a, 1, 0));
+    a = request(3, 0, "00 01 00 00 00 0B 01 10 04 04 00 02 04 FF FB 00 05");
+    EXPECT(wrote(a, "00 06 00 00 00 0B 01 10 04 04 00 02 04 F0 05 00 05") && raw(a, 1, 0));
+    a = request(3, 0, "00 01 00 00 00 0D 01 10 04 03 00 03 06 00 05 03 E8 00 05");
+    EXPECT(wrote(a, "00 07 00 00 00 0D 01 10 04 03 00 03 06 00 05 03 E8 00 05") && raw(a, 2, 1));
+    a = request(3, 0, "00 01 00 00 00 15 01 10 04 00 00 07 0E 04 D2 00 05 61 4E 00 BC FC 19 61 4E 00 BC");
+    EXPECT(wrote(a, "00 08 00 00 00 15 01 10 04 00 00 07 0E 12 34 00 05 56 78 12 34 F9 99 56 78 12 34") && raw(a, 0, 0));
+    a = request(3, 0, "00 01 00 00 00 06 01 06 04 05 FF FB"); /* beside it: a half of width 32 */
+    EXPECT(wrote(a, "00 09 00 00 00 06 01 06 04 05 FF FB") && raw(a, 1, 0));
+    a = request(3, 0, "00 01 00 00 00 06 01 06 04 00 FF FB"); /* and width 16 without a sign: -5 is 65,531 */
+    EXPECT(wrote(a, "00 0A 00 00 00 06 01 06 04 00 FF FB") && raw(a, 0, 1));
+}
+
+/* All 65,536 words, both ways: what is written comes back when it is echoed, and what is decoded is sent again for the
+   number that was read. There are 1,999 numbers. */
+static void every_signed_word(void)
+{
+    unsigned encoded = 0, decoded = 0, astray = 0;
+    begin_signed();
+    for (uint32_t word = 0; word < 65536; word++) {
+        zb_answer a = write_by_06(word);
+        encoded += a.value == 0;
+        a = echo(a, word_of_out(10));
+        astray += a.outcome != ZB_ANSWERED || !raw(a, 0, 0) || word_of_out(10) != word;
+        a = read_signed(3, word);
+        if (a.value) {
+            astray += word_of_out(9) != word;
+            continue;
+        }
+        decoded++;
+        a = write_by_06(word_of_out(9));
+        astray += a.value != 0 || word_of_out(10) != word;
+        echo(a, word);
+    }
+    EXPECT(encoded == 1999 && decoded == 1999 && astray == 0);
+}
+
+/* A read after a write is not stale (#102): registers 16 to 19 are read */
+
+typedef struct {
+    const char *what;
+    uint32_t client;
+    const char *frame;
+    uint32_t outcome, id;
+} step;
+
+static void take_steps(const step *steps, size_t count)
+{
+    for (size_t n = 0; n < count; n++) {
+        zb_answer a = request(steps[n].client, 0, steps[n].frame);
+        expect(a.outcome == steps[n].outcome && a.id == steps[n].id && a.refusal == 0, steps[n].what, __LINE__);
+    }
+}
+
+#define TAKE(steps) take_steps(steps, sizeof steps / sizeof *steps)
+
+static void writes_close_what_they_meet(void)
+{
+    static const step steps[] = {
+        {"a read", 3, "20 01 00 00 00 06 01 03 00 10 00 04", ZB_ISSUED, 0},
+        {"a write that ends one before it", 3, "20 02 00 00 00 0D 01 10 00 0D 00 03 06 00 00 00 00 00 00", ZB_ISSUED, 1},
+        {"closes nothing", 5, "20 03 00 00 00 06 01 03 00 10 00 04", ZB_JOINED, 0},
+        {"one behind it", 3, "20 04 00 00 00 06 01 06 00 14 00 07", ZB_ISSUED, 2},
+        {"closes nothing either", 5, "20 05 00 00 00 06 01 03 00 10 00 04", ZB_JOINED, 0},
+        {"one that meets it from the left", 3, "20 06 00 00 00 0D 01 10 00 0E 00 03 06 00 00 00 00 00 00", ZB_ISSUED, 3},
+        {"the next equal read is issued", 5, "20 07 00 00 00 06 01 03 00 10 00 04", ZB_ISSUED, 4},
+        {"and joined, the smaller id is closed", 3, "20 08 00 00 00 06 01 03 00 10 00 04", ZB_JOINED, 4},
+        {"one from the right", 3, "20 09 00 00 00 0D 01 10 00 13 00 03 06 00 00 00 00 00 00", ZB_ISSUED, 5},
+        {"closes", 5, "20 0A 00 00 00 06 01 03 00 10 00 04", ZB_ISSUED, 6},
+        {"one inside", 3, "20 0B 00 00 00 06 01 06 00 11 00 00", ZB_ISSUED, 7},
+        {"closes", 5, "20 0C 00 00 00 06 01 03 00 10 00 04", ZB_ISSUED, 8},
+        {"one around", 3, "20 0D 00 00 00 13 01 10 00 0F 00 06 0C 00 00 00 00 00 00 00 00 00 00 00 00", ZB_ISSUED, 9},
+        {"closes", 5, "20 0E 00 00 00 06 01 03 00 10 00 04", ZB_ISSUED, 10},
+        {"one in another unit", 3, "20 0F 00 00 00 06 02 06 00 10 00 07", ZB_ISSUED, 11},
+        {"closes nothing", 5, "20 10 00 00 00 06 01 03 00 10 00 04", ZB_JOINED, 10},
+    };
+    begin();
+    TAKE(steps);
+}
+
+static void writes_close_both_reads_of_their_table(void)
+{
+    static const step steps[] = {
+        {"03", 3, "20 01 00 00 00 06 01 03 00 10 00 04", ZB_ISSUED, 0},
+        {"04", 3, "20 02 00 00 00 06 01 04 00 10 00 04", ZB_ISSUED, 1},
+        {"01", 3, "20 03 00 00 00 06 01 01 00 10 00 04", ZB_ISSUED, 2},
+        {"02", 3, "20 04 00 00 00 06 01 02 00 10 00 04", ZB_ISSUED, 3},
+        {"a register is written", 3, "20 05 00 00 00 06 01 06 00 12 00 07", ZB_ISSUED, 4},
+        {"03 is closed", 5, "20 06 00 00 00 06 01 03 00 10 00 04", ZB_ISSUED, 5},
+        {"04 is closed", 5, "20 07 00 00 00 06 01 04 00 10 00 04", ZB_ISSUED, 6},
+        {"01 is not", 5, "20 08 00 00 00 06 01 01 00 10 00 04", ZB_JOINED, 2},
+        {"nor 02", 5, "20 09 00 00 00 06 01 02 00 10 00 04", ZB_JOINED, 3},
+        {"a coil is written", 3, "20 0A 00 00 00 06 01 05 00 12 FF 00", ZB_ISSUED, 7},
+        {"01 is closed", 5, "20 0B 00 00 00 06 01 01 00 10 00 04", ZB_ISSUED, 8},
+        {"02 is closed", 5, "20 0C 00 00 00 06 01 02 00 10 00 04", ZB_ISSUED, 9},
+        {"03 is not", 3, "20 0D 00 00 00 06 01 03 00 10 00 04", ZB_JOINED, 5},
+        {"nor 04", 3, "20 0E 00 00 00 06 01 04 00 10 00 04", ZB_JOINED, 6},
+        {"coils are written up to the first bit", 3, "20 0F 00 00 00 09 01 0F 00 08 00 09 02 00 00", ZB_ISSUED, 10},
+        {"01 is closed again", 5, "20 10 00 00 00 06 01 01 00 10 00 04", ZB_ISSUED, 11},
+        {"coils are written up to the one before", 3, "20 11 00 00 00 08 01 0F 00 08 00 08 01 00", ZB_ISSUED, 12},
+        {"01 is not closed", 5, "20 12 00 00 00 06 01 01 00 10 00 04", ZB_JOINED, 11},
+        {"a read of another unit", 3, "20 13 00 00 00 06 02 03 00 10 00 04", ZB_ISSUED, 13},
+        {"function 0x2B", 3, "20 14 00 00 00 02 01 2B", ZB_ISSUED, 14},
+        {"03 is closed by it", 5, "20 15 00 00 00 06 01 03 00 10 00 04", ZB_ISSUED, 15},
+        {"01 too", 5, "20 16 00 00 00 06 01 01 00 10 00 04", ZB_ISSUED, 16},
+        {"the other unit's is not", 5, "20 17 00 00 00 06 02 03 00 10 00 04", ZB_JOINED, 13},
+    };
+    begin();
+    TAKE(steps);
+}
+
+static void unissued_writes_close_nothing(void)
+{
+    uint8_t write[] = {0x20, 9, 0, 0, 0, 6, 1, 6, 0, 0x10, 0, 7};
+    static const step steps[] = {
+        {"a read of the last register", 3, "20 01 00 00 00 06 01 03 FF FF 00 01", ZB_ISSUED, 0},
+        {"a write of none gets 03", 3, "20 02 00 00 00 07 01 10 FF FF 00 00 00", ZB_EXCEPTION, 0},
+        {"and closes nothing", 5, "20 03 00 00 00 06 01 03 FF FF 00 01", ZB_JOINED, 0},
+        {"a write beyond the last gets 02", 3, "20 04 00 00 00 0B 01 10 FF FF 00 02 04 00 00 00 00", ZB_EXCEPTION, 0},
+        {"and closes nothing", 5, "20 05 00 00 00 06 01 03 FF FF 00 01", ZB_JOINED, 0},
+        {"another read", 3, "20 06 00 00 00 06 01 03 FF FE 00 02", ZB_ISSUED, 1},
+        {"closes nothing", 5, "20 07 00 00 00 06 01 03 FF FF 00 01", ZB_JOINED, 0},
+    };
+    begin();
+    TAKE(steps);
+    for (uint32_t n = 2; n < ZB_PLACES; n++)
+        EXPECT(is_issued(pair_request(3, 0, write, sizeof write, ZB_FRAME_BUFFER), n));
+    EXPECT(is_exception(request(3, 0, "20 0A 00 00 00 06 01 06 FF FF 00 07"), 4, "20 0A 00 00 00 03 01 86 04"));
+    EXPECT(request(5, 0, "20 0B 00 00 00 06 01 03 FF FF 00 01").outcome == ZB_JOINED);
+}
+
+/* A closed read keeps its parties, is answered past its deadline too, and times out; left by all it stays closed. */
+static void closed_reads_end_as_before(void)
+{
+    static const uint16_t pairs[] = {3, 0x2001, 5, 0x2002};
+    static const step steps[] = {
+        {"a read", 3, "20 01 00 00 00 06 01 03 00 10 00 04", ZB_ISSUED, 0},
+        {"is joined", 5, "20 02 00 00 00 06 01 03 00 10 00 04", ZB_JOINED, 0},
+        {"and closed", 3, "20 03 00 00 00 06 01 06 00 10 00 07", ZB_ISSUED, 1},
+        {"the next is issued", 5, "20 04 00 00 00 06 01 03 00 10 00 04", ZB_ISSUED, 2},
+    };
+    static const char words[] = "00 00 00 00 00 0B 01 03 08 00 01 00 02 00 03 00 04";
+    begin();
+    TAKE(steps);
+    zb_answer a = reply(4000, words);
+    EXPECT(a.outcome == ZB_ANSWERED && wrote(a, words) && listed(a, 2, pairs));
+    begin();
+    TAKE(steps);
+    a = tick(3000);
+    EXPECT(a.outcome == ZB_TIMED_OUT && a.id == 0 && listed(a, 2, pairs));
+    begin();
+    TAKE(steps);
+    EXPECT(pair_detach(3).outcome == ZB_DONE && pair_detach(5).outcome == ZB_DONE && pair_attach(5).outcome == ZB_DONE);
+    a = request(5, 0, "20 05 00 00 00 06 01 03 00 10 00 04");
+    EXPECT(a.outcome == ZB_JOINED && a.id == 2); /* behind the write, though all have left it */
+    a = reply(0, words);
+    EXPECT(a.outcome == ZB_ANSWERED && a.parties == 0 && wrote(a, words));
 }
 
 /* The mistakes that document 01 rules out */
@@ -570,10 +892,18 @@ static bool is_wrong_at(zb_answer a, uint32_t line)
     return memcmp(&a, &whole, sizeof a) == 0;
 }
 
+/* Read without a refusal, or wrong at the line. */
+static bool is_read_so(zb_answer a, uint32_t line)
+{
+    const zb_answer done = {.outcome = ZB_DONE};
+    return line ? is_wrong_at(a, line) : memcmp(&a, &done, sizeof a) == 0;
+}
+
 static void texts(void)
 {
     static const struct { const char *text; uint32_t line; } rows[] = {
-        {"", 1}, {"version=2\n", 1}, {"version=1", 1}, {"version=01\n", 1}, {" version=1\n", 1}, {"version=1\n", 2},
+        {"", 1}, {"version=0\n", 1}, {"version=3\n", 1}, {"version=1", 1}, {"version=01\n", 1}, {" version=1\n", 1},
+        {"version=1\n", 2},
         {"version=1\ntimeout=99\n", 2}, {"version=1\ntimeout=60001\n", 2}, {"version=1\r\ntimeout=100\n", 1},
         {"version=1\ntimeout=0100\n", 2}, {"version=1\ntimeout=100\njoin=2\n", 3},
         {"version=1\ntimeout=100\njoin=\n", 3},
@@ -590,52 +920,170 @@ static void texts(void)
         {"version=1\ntimeout=100\njoin=0\ntags=3\naddr=5\nwidth=32\naddr=7\nwidth=16\n", 9},
         {"version=1\ntimeout=4294967396\njoin=0\ntags=0\n", 2}, {"version=1\njoin=0\ntimeout=100\ntags=0\n", 2},
     };
-    for (size_t n = 0; n < sizeof rows / sizeof *rows; n++) {
-        zb_answer a = read_text(rows[n].text);
-        bool good = rows[n].line ? is_wrong_at(a, rows[n].line) : a.outcome == ZB_DONE && a.refusal == 0 && a.line == 0;
-        expect(good, rows[n].text, __LINE__);
-    }
+    for (size_t n = 0; n < sizeof rows / sizeof *rows; n++)
+        expect(is_read_so(read_text(rows[n].text), rows[n].line), rows[n].text, __LINE__);
 }
 
+#define VERSION_1 "version=1\ntimeout=100\njoin=0\n"
+#define VERSION_2 "version=2\ntimeout=100\njoin=0\n"
+
+/* A sign line behind each width line in version 2, and none in version 1. */
+static void texts_with_signs(void)
+{
+    static const struct { const char *text; uint32_t line; } rows[] = {
+        {"version=2", 1}, {"version=02\n", 1}, {"version=2\n", 2}, {"version=12\n", 1}, {"version=20\n", 1},
+        {VERSION_2, 4}, {VERSION_2 "tags=0\n", 0}, {VERSION_2 "tags=0\nsign=0\n", 5},
+        {VERSION_2 "tags=1\naddr=5\nwidth=16\n", 7}, {VERSION_2 "tags=1\naddr=5\nwidth=16\nsign=0\n", 0},
+        {VERSION_2 "tags=1\naddr=5\nwidth=16\nsign=1\n", 0}, {VERSION_2 "tags=1\naddr=5\nwidth=16\nsign=2\n", 7},
+        {VERSION_2 "tags=1\naddr=5\nwidth=32\nsign=0\n", 0}, {VERSION_2 "tags=1\naddr=5\nwidth=32\nsign=1\n", 7},
+        {VERSION_2 "tags=1\naddr=5\nwidth=24\nsign=0\n", 6}, {VERSION_2 "tags=1\naddr=65536\nwidth=16\nsign=0\n", 5},
+        {VERSION_2 "tags=1\naddr=65535\nwidth=16\nsign=1\n", 0}, {VERSION_2 "tags=1\naddr=65535\nwidth=32\nsign=0\n", 6},
+        {VERSION_2 "tags=1\naddr=5\nwidth=16\nsign=0", 7}, {VERSION_2 "tags=1\naddr=5\nwidth=16\nsign=0\n\n", 8},
+        {VERSION_2 "tags=1\naddr=5\nwidth=16\nsign=0\nsign=0\n", 8}, {VERSION_2 "tags=1\naddr=5\nsign=0\nwidth=16\n", 6},
+        {VERSION_2 "tags=1\naddr=5\nwidth=16\nsign=\n", 7}, {VERSION_2 "tags=1\naddr=5\nwidth=16\nsign=01\n", 7},
+        {VERSION_2 "tags=1\naddr=5\nwidth=16\nsign=00\n", 7}, {VERSION_2 "tags=1\naddr=5\nwidth=16\nsign=-1\n", 7},
+        {VERSION_2 "tags=1\naddr=5\nwidth=16\nsign=+1\n", 7}, {VERSION_2 "tags=1\naddr=5\nwidth=16\nsign=10\n", 7},
+        {VERSION_2 "tags=1\naddr=5\nwidth=16\nsign=256\n", 7}, {VERSION_2 "tags=1\naddr=5\nwidth=16\nsign=65537\n", 7},
+        {VERSION_2 "tags=1\naddr=5\nwidth=16\nsign=4294967297\n", 7},
+        {VERSION_2 "tags=1\naddr=5\nwidth=16\nSign=0\n", 7}, {VERSION_2 "tags=1\naddr=5\nwidth=16\nsign=0\r\n", 7},
+        {VERSION_2 "tags=2\naddr=5\nwidth=16\naddr=6\nwidth=16\n", 7},
+        {VERSION_2 "tags=2\naddr=5\nwidth=16\nsign=1\naddr=5\nwidth=16\nsign=0\n", 8},
+        {VERSION_2 "tags=2\naddr=5\nwidth=16\nsign=1\naddr=6\nwidth=8\nsign=0\n", 9},
+        {VERSION_2 "tags=2\naddr=5\nwidth=16\nsign=1\naddr=6\nwidth=32\nsign=1\n", 10},
+        {VERSION_2 "tags=2\naddr=5\nwidth=16\nsign=1\naddr=6\nwidth=16\n", 10},
+        {VERSION_2 "tags=2\naddr=5\nwidth=16\nsign=1\naddr=6\nwidth=16\nsign=1\n", 0},
+        {VERSION_2 "tags=2\naddr=5\nwidth=32\nsign=0\naddr=6\nwidth=16\nsign=1\n", 8},
+        {VERSION_2 "tags=2\naddr=5\nwidth=32\nsign=0\naddr=7\nwidth=16\nsign=1\n", 0},
+        {VERSION_2 "tags=2\naddr=5\nwidth=16\nsign=1\naddr=6\nwidth=16\nsign=1\nx", 11},
+        {VERSION_2 "tags=3\naddr=5\nwidth=16\nsign=1\naddr=6\nwidth=16\nsign=1\n", 11},
+        {VERSION_1 "tags=1\naddr=5\nwidth=16\nsign=0\n", 7},
+        {VERSION_1 "tags=2\naddr=5\nwidth=16\nsign=0\naddr=6\nwidth=16\nsign=0\n", 7},
+        {VERSION_1 "tags=2\naddr=5\nwidth=16\naddr=6\nwidth=16\nsign=0\n", 9},
+    };
+    for (size_t n = 0; n < sizeof rows / sizeof *rows; n++)
+        expect(is_read_so(read_text(rows[n].text), rows[n].line), rows[n].text, __LINE__);
+}
+
+/* A right text with one line replaced, cut short at its end, left out or there twice: wrong at that line, or behind it. */
+static void damage_each_line(const char *text, uint32_t lines)
+{
+    const char *line = text;
+    char damaged[256];
+    EXPECT(read_text(text).outcome == ZB_DONE);
+    for (uint32_t n = 1; n <= lines; n++) {
+        const char *end = strchr(line, '\n') + 1;
+        int before = (int)(line - text), size = (int)(end - line);
+        snprintf(damaged, sizeof damaged, "%.*sx=1\n%s", before, text, end);
+        expect(is_wrong_at(read_text(damaged), n), damaged, __LINE__);
+        snprintf(damaged, sizeof damaged, "%.*s", before + size - 1, text);
+        expect(is_wrong_at(read_text(damaged), n), damaged, __LINE__);
+        snprintf(damaged, sizeof damaged, "%.*s%s", before, text, end);
+        expect(is_wrong_at(read_text(damaged), n), damaged, __LINE__);
+        snprintf(damaged, sizeof damaged, "%.*s%.*s%s", before + size, text, size, line, end);
+        expect(is_wrong_at(read_text(damaged), n + 1), damaged, __LINE__);
+        line = end;
+    }
+    EXPECT(*line == 0);
+}
+
+static void wrong_at_each_line(void)
+{
+    damage_each_line(text_of_the_document, 8);
+    damage_each_line(text_written_of_the_document, 10);
+    damage_each_line(text_with_a_sign, 16);
+}
+
+/* Document 01's text is of version 1 and has 75 bytes; what is written of its value is of version 2 and has 89. */
 static void text_of_75_bytes(void)
 {
-    const uint8_t *text = (const uint8_t *)text_of_the_document;
-    uint8_t written[76] = {0};
-    EXPECT(strlen(text_of_the_document) == 75);
-    zb_read r = zb_settings_read(text, 75);
+    const uint8_t *text = (const uint8_t *)text_of_the_document, *newer = (const uint8_t *)text_written_of_the_document;
+    uint8_t written[90] = {0};
+    EXPECT(strlen(text_of_the_document) == 75 && strlen(text_written_of_the_document) == 89);
+    zb_read r = zb_settings_read(text, 75), again = zb_settings_read(newer, 89);
     EXPECT(r.answer.outcome == ZB_DONE && r.settings.timeout == 3000 && r.settings.join == 1 && r.settings.tags == 2);
-    EXPECT(r.settings.addr[0] == 1024 && r.settings.width[0] == 16);
-    EXPECT(r.settings.addr[1] == 1026 && r.settings.width[1] == 32 && r.settings.addr[2] == 0);
-    EXPECT(pair_settings_write(&r.settings, 75).length == 75);
-    EXPECT_REFUSED(pair_settings_write(&r.settings, 74), ZB_REFUSED_BUFFER);
-    EXPECT(zb_settings_write(&r.settings, written, 75).length == 75 && memcmp(written, text, 76) == 0);
+    EXPECT(r.settings.addr[0] == 1024 && r.settings.width[0] == 16 && r.settings.sign[0] == 0);
+    EXPECT(r.settings.addr[1] == 1026 && r.settings.width[1] == 32 && r.settings.sign[1] == 0);
+    EXPECT(r.settings.addr[2] == 0 && r.settings.width[2] == 0 && r.settings.sign[2] == 0);
+    EXPECT(again.answer.outcome == ZB_DONE && memcmp(&again.settings, &r.settings, sizeof r.settings) == 0);
+    EXPECT(pair_settings_write(&r.settings, 89).length == 89);
+    EXPECT_REFUSED(pair_settings_write(&r.settings, 88), ZB_REFUSED_BUFFER);
+    EXPECT_REFUSED(pair_settings_write(&r.settings, 75), ZB_REFUSED_BUFFER);
+    EXPECT(zb_settings_write(&r.settings, written, 89).length == 89 && memcmp(written, newer, 90) == 0);
     r = zb_settings_read(text, 74);
     EXPECT(is_wrong_at(r.answer, 8) && r.settings.timeout == 3000 && r.settings.join == 1 && r.settings.tags == 0);
+    r = zb_settings_read(newer, 88);
+    EXPECT(is_wrong_at(r.answer, 10) && r.settings.timeout == 3000 && r.settings.join == 1 && r.settings.tags == 0);
 }
 
-/* 256 tags with five digits each: the longest text. */
-static void longest_text(void)
+/* A text with a sign is written as it was read; the same with sign 0 is another, of the same length. */
+static void text_with_a_sign_comes_back(void)
 {
-    static uint8_t text[5161];
+    uint8_t written[256] = {0};
+    size_t size = strlen(text_with_a_sign);
+    zb_read r = zb_settings_read((const uint8_t *)text_with_a_sign, size);
+    EXPECT(r.answer.outcome == ZB_DONE && r.settings.tags == 4 && r.settings.sign[1] == 0 && r.settings.sign[3] == 0);
+    EXPECT(r.settings.addr[2] == 1028 && r.settings.width[2] == 16 && r.settings.sign[2] == 1);
+    EXPECT(pair_settings_write(&r.settings, size).length == size);
+    EXPECT_REFUSED(pair_settings_write(&r.settings, size - 1), ZB_REFUSED_BUFFER);
+    EXPECT(zb_settings_write(&r.settings, written, size).length == size && memcmp(written, text_with_a_sign, size) == 0);
+    r.settings.sign[2] = 0;
+    EXPECT(pair_settings_write(&r.settings, size).length == size);
+    EXPECT(zb_settings_write(&r.settings, written, size).length == size && memcmp(written, text_with_a_sign, size) != 0);
+}
+
+/* 256 tags with five digits each, of the two widths and, in version 2, with signs by turns: the longest of a version. */
+static size_t put_longest(char *text, int version)
+{
+    size_t size = (size_t)sprintf(text, "version=%d\ntimeout=60000\njoin=1\ntags=256\n", version);
+    for (int t = 0; t < 256; t++) {
+        size += (size_t)sprintf(text + size, "addr=%d\nwidth=%d\n", 10000 + 2 * t, t % 2 ? 16 : 32);
+        if (version == 2)
+            size += (size_t)sprintf(text + size, "sign=%d\n", t % 2);
+    }
+    return size;
+}
+
+static void longest_texts(void)
+{
+    static char text[ZB_MOST_TEXT + 2], older[ZB_MOST_TEXT + 2];
+    static uint8_t written[ZB_MOST_TEXT];
+    size_t size = put_longest(text, 2), older_size = put_longest(older, 1);
     zb_settings s = {.timeout = 60000, .join = 1, .tags = 256};
     for (uint32_t t = 0; t < 256; t++) {
         s.addr[t] = (uint16_t)(10000 + 2 * t);
-        s.width[t] = 32;
+        s.width[t] = t % 2 ? 16 : 32;
+        s.sign[t] = t % 2;
     }
-    EXPECT(pair_settings_write(&s, 5160).length == 5160);
-    EXPECT_REFUSED(pair_settings_write(&s, 5159), ZB_REFUSED_BUFFER);
-    EXPECT(zb_settings_write(&s, text, 5160).length == 5160);
-    EXPECT(pair_settings_read(text, 5160).outcome == ZB_DONE);
-    EXPECT(is_wrong_at(pair_settings_read(text, 5161), 517));
-    EXPECT(is_wrong_at(pair_settings_read(text, 5159), 516));
-    zb_read r = zb_settings_read(text, 5160);
+    EXPECT(size == 6952 && older_size == 5160);
+    EXPECT(pair_settings_write(&s, 6952).length == 6952);
+    EXPECT_REFUSED(pair_settings_write(&s, 6951), ZB_REFUSED_BUFFER);
+    EXPECT(zb_settings_write(&s, written, 6952).length == 6952 && memcmp(written, text, 6952) == 0);
+    EXPECT(pair_settings_read((const uint8_t *)text, 6952).outcome == ZB_DONE);
+    EXPECT(is_wrong_at(pair_settings_read((const uint8_t *)text, 6953), 773));
+    EXPECT(is_wrong_at(pair_settings_read((const uint8_t *)text, 6951), 772));
+    zb_read r = zb_settings_read((const uint8_t *)text, 6952);
     EXPECT(memcmp(&r.settings, &s, sizeof s) == 0);
+    /* the same of version 1: no tag has a sign, and what is written of it is of version 2 and has its length */
+    EXPECT(pair_settings_read((const uint8_t *)older, 5160).outcome == ZB_DONE);
+    EXPECT(is_wrong_at(pair_settings_read((const uint8_t *)older, 5161), 517));
+    EXPECT(is_wrong_at(pair_settings_read((const uint8_t *)older, 5159), 516));
+    r = zb_settings_read((const uint8_t *)older, 5160);
+    memset(s.sign, 0, sizeof s.sign);
+    EXPECT(memcmp(&r.settings, &s, sizeof s) == 0);
+    EXPECT(pair_settings_write(&r.settings, 6952).length == 6952);
+    EXPECT_REFUSED(pair_settings_write(&r.settings, 5160), ZB_REFUSED_BUFFER);
+    /* the lines of one version under the number of the other */
+    text[8] = '1';
+    older[8] = '2';
+    EXPECT(is_wrong_at(pair_settings_read((const uint8_t *)text, 6952), 7));
+    EXPECT(is_wrong_at(pair_settings_read((const uint8_t *)older, 5160), 7));
 }
 
 static void invalid_settings(void)
 {
-    zb_settings good = settings_of_the_document(), bad[9];
-    for (int n = 0; n < 9; n++)
+    enum { BAD = 14 };
+    zb_settings good = settings_of_the_document(), bad[BAD];
+    for (int n = 0; n < BAD; n++)
         bad[n] = good;
     bad[0].timeout = 99;
     bad[1].timeout = 60001;
@@ -646,8 +1094,13 @@ static void invalid_settings(void)
     bad[6].addr[1] = 1024;
     bad[7].addr[1] = 65535;
     bad[8].tags = UINT32_MAX;
-    for (int n = 0; n < 9; n++) {
-        EXPECT_REFUSED(pair_settings_write(&bad[n], 5160), ZB_REFUSED_SETTINGS);
+    bad[9].sign[0] = 2;
+    bad[10].sign[0] = 256;
+    bad[11].sign[0] = 65535;
+    bad[12].sign[1] = 1; /* its width is 32 */
+    bad[13].sign[1] = 2;
+    for (int n = 0; n < BAD; n++) {
+        EXPECT_REFUSED(pair_settings_write(&bad[n], ZB_MOST_TEXT), ZB_REFUSED_SETTINGS);
         EXPECT_REFUSED(pair_settings_write(&bad[n], 0), ZB_REFUSED_SETTINGS);
         EXPECT_REFUSED(pair_fresh(&bad[n]), ZB_REFUSED_SETTINGS);
         /* the fresh state beside the refusal: nobody attached, timeout 3000, joining on, no tags */
@@ -659,7 +1112,12 @@ static void invalid_settings(void)
         EXPECT(tick(2999).outcome == ZB_NOTHING_DUE && tick(3000).outcome == ZB_TIMED_OUT);
     }
     good.addr[200] = 1; /* an unused place never makes a value invalid */
-    EXPECT(pair_fresh(&good).outcome == ZB_DONE && pair_settings_write(&good, 75).length == 75);
+    good.sign[2] = 2;
+    good.width[255] = 32;
+    good.sign[255] = 1;
+    EXPECT(pair_fresh(&good).outcome == ZB_DONE && pair_settings_write(&good, 89).length == 89);
+    good.sign[0] = 1; /* of width 16 */
+    EXPECT(pair_fresh(&good).outcome == ZB_DONE && pair_settings_write(&good, 89).length == 89);
 }
 
 int main(void)
@@ -667,10 +1125,13 @@ int main(void)
     static void (*const all[])(void) = {
         sizes_and_offsets, fields_are_where_the_header_says, device_of_zeros, p1_to_p8, p9_to_p12,
         quantities_and_starts, longest_write, full_entry_ends, struck_out_of_a_full_table, last_place_and_the_next,
-        single_writes, cursor_and_clock_stay_after_a_lost_link, struck_room_and_successor, left_by_all,
+        single_writes, signed_writes, signed_reads, signed_echoes, signed_beside_cut_tags, every_signed_word,
+        writes_close_what_they_meet, writes_close_both_reads_of_their_table, unissued_writes_close_nothing,
+        closed_reads_end_as_before, cursor_and_clock_stay_after_a_lost_link, struck_room_and_successor, left_by_all,
         due_is_not_joined, next_deadline, mismatched_reply_leaves_the_entry, refusals_of_attach_and_detach,
         refusals_of_request_before_the_frame, refusals_of_request_by_the_frame, lowest_refusal_of_request,
-        refusals_of_reply_and_tick, splitting, texts, text_of_75_bytes, longest_text, invalid_settings,
+        refusals_of_reply_and_tick, splitting, texts, texts_with_signs, wrong_at_each_line, text_of_75_bytes,
+        text_with_a_sign_comes_back, longest_texts, invalid_settings,
     };
     pair_open(0);
     for (size_t n = 0; n < sizeof all / sizeof *all; n++)

@@ -9,6 +9,7 @@
 #include "reached.h"
 #include <stdio.h>
 #include <stdlib.h>
+#include <string.h>
 
 /* LATE: the clock begins near 2^63 - 1. PINS: some ids are never replied to, so that the cursor meets them again:
    pairs of neighbours and 65,535, with or without 0 behind it. */
@@ -36,6 +37,7 @@ static const session sessions[] = {
     {"full join",  60000, SETTINGS_OF_THE_DOCUMENT, {0, 90, 80, 700, 60, 20, 1, 0, 0, 0}, 400, 30, 6, PLAIN},
     {"edges",      50000, SETTINGS_EDGES,           {0, 60, 10, 500, 400, 50, 1, 10, 2, 2}, 0, 20, 10, PLAIN},
     {"top",        50000, SETTINGS_TOP,             {0, 60, 10, 500, 400, 50, 1, 10, 2, 2}, 0, 20, 10, PLAIN},
+    {"signed",     50000, SETTINGS_SIGNED,          {0, 60, 10, 500, 450, 50, 1, 10, 2, 2}, 0, 20, 10, PLAIN},
     {"dense",      50000, SETTINGS_DENSE,           {0, 60, 10, 500, 450, 50, 1, 10, 2, 2}, 0, 30, 10, PLAIN},
     {"leaving",    50000, SETTINGS_OF_THE_DOCUMENT, {0, 200, 150, 500, 100, 60, 30, 0, 0, 0}, 6, 20, 100, PLAIN},
     {"late",       30000, SETTINGS_OF_THE_DOCUMENT, {0, 60, 30, 500, 330, 150, 1, 0, 0, 0}, 5, 15, 9, LATE},
@@ -157,6 +159,16 @@ static void do_tick(const session *s)
     reached(REACHED_DRAINED);
 }
 
+/* Whether so many bytes of a text have this line. */
+static bool has_line(const uint8_t *text, size_t size, const char *line)
+{
+    size_t length = strlen(line);
+    for (size_t at = 0; at + length <= size; at++)
+        if (memcmp(text + at, line, length) == 0 && (at == 0 || text[at - 1] == '\n'))
+            return true;
+    return false;
+}
+
 static void do_read(void)
 {
     static uint8_t text[MOST_TEXT];
@@ -166,28 +178,54 @@ static void do_read(void)
         reached(REACHED_TEXT_256);
     if (a.line > 12)
         reached(REACHED_TEXT_WRONG_DEEP);
+    if (a.outcome == ZB_DONE && has_line(text, size, "version=1\n") && !has_line(text, size, "tags=0\n"))
+        reached(REACHED_TEXT_OLDER);
+    if (a.outcome == ZB_DONE && has_line(text, size, "sign=1\n"))
+        reached(REACHED_TEXT_SIGNED);
+    if (a.line > 4 && (a.line - 4) % 3 == 0 && has_line(text, size, "version=2\n"))
+        reached(REACHED_TEXT_WRONG_SIGN);
+}
+
+/* Why a value is refused, where nothing but a sign is wrong in it: with every sign 0 it is valid. */
+static void sign_refused(zb_settings s, zb_answer a)
+{
+    static uint8_t text[MOST_TEXT];
+    bool above = false, wide = false;
+    for (uint32_t t = 0; t < ZB_MOST_TAGS && t < s.tags; t++) {
+        above |= s.sign[t] > 1;
+        wide |= s.sign[t] == 1 && s.width[t] == 32;
+        s.sign[t] = 0;
+    }
+    if (a.refusal != ZB_REFUSED_SETTINGS || model_settings_write(s, text, sizeof text).refusal)
+        return;
+    if (above)
+        reached(REACHED_SIGN_REFUSED);
+    if (wide)
+        reached(REACHED_SIGN_32_REFUSED);
 }
 
 /* Also with a buffer that holds the text exactly, or lacks one byte. */
 static void do_write(void)
 {
     static uint8_t text[MOST_TEXT];
-    zb_settings s = make_settings(one_in(4) ? (enum settings_kind)below(6) : SETTINGS_ANY);
+    zb_settings s = make_settings(one_in(4) ? (enum settings_kind)below(SETTINGS_ANY) : SETTINGS_ANY);
     if (one_in(3))
         s = spoil_settings(s);
     size_t exact = model_settings_write(s, text, sizeof text).length;
-    const size_t lengths[] = {MOST_TEXT, 5160, exact, exact ? exact - 1 : 0, 75, 74, 0};
-    pair_settings_write(&s, one_in(4) ? below(MOST_TEXT) : lengths[below(7)]);
+    const size_t lengths[] = {MOST_TEXT, ZB_MOST_TEXT, exact, exact ? exact - 1 : 0, 89, 88, 0};
+    sign_refused(s, pair_settings_write(&s, one_in(4) ? below(MOST_TEXT) : lengths[below(7)]));
 }
 
 static void begin_session(const session *s)
 {
     settings = make_settings(s->settings);
-    if (pair_fresh(&settings).refusal) {
+    zb_answer a = pair_fresh(&settings);
+    if (a.refusal) {
+        sign_refused(settings, a);
         /* the fresh state is then the one for timeout 3000, join 1 and no tags */
         settings = (zb_settings){.timeout = 3000, .join = 1};
     }
-    ledger_fresh(settings.timeout, settings.join);
+    ledger_fresh(&settings);
     if (s->special == LATE) {
         uint64_t now = LAST_TIME - 100000;
         ledger_tick(now, pair_tick(now, ZB_FRAME_BUFFER, ZB_LIST_BUFFER));

@@ -44,14 +44,15 @@ static void add_to_sums(void)
     all_held += held();
 }
 
-void ledger_fresh(uint32_t timeout, uint32_t join)
+void ledger_fresh(const zb_settings *settings)
 {
     add_to_sums();
     memset(group_of, NEVER, ledger.accepted);
     memset(&ledger, 0, sizeof ledger);
     memset(last_issue, 0, sizeof last_issue);
-    ledger.timeout = timeout;
-    ledger.join = join;
+    ledger.settings = *settings;
+    ledger.timeout = settings->timeout;
+    ledger.join = settings->join;
     ledger.last_id = 65535;
 }
 
@@ -312,6 +313,81 @@ static void passes(const uint8_t *frame, zb_answer a)
         pair_differs("ledger: a frame of bits was changed");
 }
 
+/* #105, by what C prints of a number and of a word, and not by arithmetic on digits. */
+typedef void looking(uint32_t was, uint32_t is);
+
+/* Looks at each signed tag of a range of registers, as it was and as it is. */
+static void look_at_signed(looking *look, uint32_t start, uint32_t quantity, const uint8_t *was, const uint8_t *is,
+                           zb_answer a)
+{
+    const zb_settings *s = &ledger.settings;
+    for (uint32_t t = 0; t < s->tags; t++) {
+        if (!s->sign[t] || s->addr[t] < start || s->addr[t] >= start + quantity)
+            continue;
+        uint32_t at = 2 * (s->addr[t] - start);
+        look((uint32_t)was[at] << 8 | was[at + 1], (uint32_t)is[at] << 8 | is[at + 1]);
+        if (a.partial && s->addr[t] == start)
+            reached(REACHED_SIGNED_FIRST);
+        if (a.partial && s->addr[t] == start + quantity - 1)
+            reached(REACHED_SIGNED_LAST);
+    }
+}
+
+static void signed_went_out(uint32_t was, uint32_t is)
+{
+    char digits[16];
+    int number = (int16_t)was;
+    bool fits = snprintf(digits, sizeof digits, "%c%03d", number < 0 ? 'F' : '0', abs(number)) == 4;
+    if (is != (fits ? strtoul(digits, NULL, 16) : was))
+        pair_differs("ledger: a signed tag went out as another number");
+    reached(!fits ? REACHED_SIGNED_RAW : number < 0 ? REACHED_SIGNED_MINUS : REACHED_SIGNED_PLUS);
+}
+
+static void signed_came_back(uint32_t was, uint32_t is)
+{
+    char word[16];
+    snprintf(word, sizeof word, "%04X", (unsigned)was);
+    bool minus = word[0] == 'F', zero = strcmp(word + 1, "000") == 0;
+    bool counts = (minus ? !zero : word[0] == '0') && strspn(word + 1, "0123456789") == 3;
+    int number = minus ? -atoi(word + 1) : atoi(word + 1);
+    if (is != (counts ? (uint16_t)number : was))
+        pair_differs("ledger: a signed tag came back as another number");
+    if (minus && zero)
+        reached(REACHED_MINUS_ZERO);
+    reached(!counts ? REACHED_SIGNED_NO_NUMBER : minus ? REACHED_SIGNED_MINUS_READ : REACHED_SIGNED_PLUS_READ);
+}
+
+static void signed_echo_decoded(uint32_t was, uint32_t is)
+{
+    signed_came_back(was, is);
+    reached(REACHED_SIGNED_ECHO);
+}
+
+static void signed_echo_passed(uint32_t was, uint32_t is)
+{
+    if (was != is)
+        pair_differs("ledger: the echo of a signed tag that went out raw was changed");
+    reached(REACHED_SIGNED_RAW_ECHO);
+}
+
+static void signed_in_request(const uint8_t *frame, zb_answer a)
+{
+    if (frame[7] == 6)
+        look_at_signed(signed_went_out, (uint32_t)frame[8] << 8 | frame[9], 1, frame + 10, pair_out() + 10, a);
+    if (frame[7] == 16)
+        look_at_signed(signed_went_out, (uint32_t)frame[8] << 8 | frame[9], frame[11], frame + 13, pair_out() + 13, a);
+}
+
+static void signed_in_reply(const ledger_entry *e, const uint8_t *frame, zb_answer a)
+{
+    int written = (int16_t)e->quantity; /* of a 06 */
+    if (frame[7] == 3 || frame[7] == 4)
+        look_at_signed(signed_came_back, e->start, e->quantity, frame + 9, pair_out() + 9, a);
+    if (frame[7] == 6)
+        look_at_signed(-999 <= written && written <= 999 ? signed_echo_decoded : signed_echo_passed, e->start, 1,
+                       frame + 10, pair_out() + 10, a);
+}
+
 static void raw_counts_of_request(uint8_t function, zb_answer a)
 {
     if (a.partial)
@@ -367,6 +443,7 @@ void ledger_request(uint32_t client, uint64_t now, const uint8_t *frame, size_t 
     if (q.otherwise)
         reached(REACHED_OTHER_TABLE);
     raw_counts_of_request(frame[7], a);
+    signed_in_request(frame, a);
     issued(client, now, frame, size, a);
 }
 
@@ -475,6 +552,7 @@ void ledger_reply(uint64_t now, const uint8_t *frame, zb_answer a)
     if (frame[7] < 3 && e->quantity == 2000)
         reached(REACHED_MOST_BITS);
     raw_counts_of_reply(frame[7], a);
+    signed_in_reply(e, frame, a);
     if (frame[7] == 6)
         echo_comes_back(e, frame, a);
     end_entry(e, a, BY_REPLY);

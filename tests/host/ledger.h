@@ -33,6 +33,7 @@ typedef struct {
 
 /* What calls and outcomes have told since the fresh state. */
 typedef struct {
+    zb_settings settings;
     uint32_t timeout, join;
     uint64_t clock;
     uint32_t attached;
@@ -47,7 +48,8 @@ typedef struct {
 extern ledger_book ledger;
 
 void ledger_open(uint64_t most_calls);
-void ledger_fresh(uint32_t timeout, uint32_t join);
+/* From a valid value on. */
+void ledger_fresh(const zb_settings *settings);
 void ledger_attach(uint32_t client, zb_answer a);
 void ledger_detach(uint32_t client, zb_answer a);
 void ledger_request(uint32_t client, uint64_t now, const uint8_t *frame, size_t size, zb_answer a);

@@ -3,6 +3,7 @@
 #include "dice.h"
 #include "model.h"
 #include "pair.h"
+#include <stdio.h>
 #include <string.h>
 
 static void put_word(uint8_t *bytes, uint32_t word)
@@ -13,10 +14,11 @@ static void put_word(uint8_t *bytes, uint32_t word)
 
 /* Settings */
 
-static void add_tag(zb_settings *s, uint32_t addr, uint32_t width)
+static void add_tag(zb_settings *s, uint32_t addr, uint32_t width, uint32_t sign)
 {
     s->addr[s->tags] = (uint16_t)addr;
     s->width[s->tags] = (uint16_t)width;
+    s->sign[s->tags] = (uint16_t)sign;
     s->tags++;
 }
 
@@ -27,7 +29,7 @@ static void add_any_tags(zb_settings *s)
     uint32_t addr = one_in(2) ? below(50000) : below(2000);
     while (s->tags < wanted && addr <= 65535) {
         uint32_t width = addr < 65535 && one_in(2) ? 32 : 16;
-        add_tag(s, addr, width);
+        add_tag(s, addr, width, width == 16 && one_in(2));
         addr += width / 16 + (one_in(2) ? 0 : below(gap));
     }
 }
@@ -43,21 +45,29 @@ zb_settings make_settings(enum settings_kind kind)
     if (kind == SETTINGS_NO_JOIN)
         s.timeout = 60000;
     if (kind == SETTINGS_OF_THE_DOCUMENT || kind == SETTINGS_NO_JOIN) {
-        add_tag(&s, 1024, 16);
-        add_tag(&s, 1026, 32);
+        add_tag(&s, 1024, 16, 0);
+        add_tag(&s, 1026, 32, 0);
     }
     if (kind == SETTINGS_DENSE)
         for (uint32_t addr = 1000; s.tags < 256; addr += s.width[s.tags - 1] / 16u)
-            add_tag(&s, addr, s.tags % 3 ? 32 : 16);
+            add_tag(&s, addr, s.tags % 3 ? 32 : 16, s.tags % 6 == 0);
     if (kind == SETTINGS_EDGES) {
-        add_tag(&s, 0, 32);
-        add_tag(&s, 2, 16);
-        add_tag(&s, 65532, 16);
-        add_tag(&s, 65534, 32);
+        add_tag(&s, 0, 32, 0);
+        add_tag(&s, 2, 16, 1);
+        add_tag(&s, 65532, 16, 0);
+        add_tag(&s, 65534, 32, 0);
     }
     if (kind == SETTINGS_TOP)
         for (uint32_t addr = 65280; s.tags < 256; addr++)
-            add_tag(&s, addr, 16);
+            add_tag(&s, addr, 16, addr % 2);
+    if (kind == SETTINGS_SIGNED) {
+        /* each signed one beside a tag of another kind, and the first between two of width 32 */
+        add_tag(&s, 1024, 32, 0);
+        add_tag(&s, 1026, 16, 1);
+        add_tag(&s, 1027, 32, 0);
+        add_tag(&s, 1029, 16, 0);
+        add_tag(&s, 1030, 16, 1);
+    }
     if (kind == SETTINGS_ANY)
         add_any_tags(&s);
     return kind == SETTINGS_INVALID ? spoil_settings(make_settings(SETTINGS_ANY)) : s;
@@ -68,8 +78,9 @@ zb_settings spoil_settings(zb_settings s)
 {
     static const uint32_t timeouts[] = {0, 99, 60001, UINT32_MAX};
     static const uint16_t widths[] = {0, 15, 17, 31, 33, 48, 65535};
+    static const uint16_t signs[] = {2, 3, 16, 255, 256, 65535};
     uint32_t t = s.tags ? below(s.tags) : 0;
-    switch (below(6)) {
+    switch (below(8)) {
     case 0:
         s.timeout = timeouts[below(4)];
         break;
@@ -84,6 +95,13 @@ zb_settings spoil_settings(zb_settings s)
         break;
     case 4:
         s.addr[t] = (uint16_t)(s.addr[t] - 1 - below(3));
+        break;
+    case 5:
+        s.sign[t] = signs[below(6)];
+        break;
+    case 6:
+        s.width[t] = 32;
+        s.sign[t] = 1;
         break;
     default:
         s.addr[t] = 65535;
@@ -118,15 +136,51 @@ static size_t spoil_text(uint8_t *text, size_t size)
     }
 }
 
+/* The text of a valid value in a version, by a writer of its own: the core writes the newest alone. */
+static size_t put_text(char *text, const zb_settings *s, int version)
+{
+    size_t size = (size_t)sprintf(text, "version=%d\ntimeout=%u\njoin=%u\ntags=%u\n", version, (unsigned)s->timeout,
+                                  (unsigned)s->join, (unsigned)s->tags);
+    for (uint32_t t = 0; t < s->tags; t++) {
+        size += (size_t)sprintf(text + size, "addr=%u\nwidth=%u\n", s->addr[t], s->width[t]);
+        if (version > 1)
+            size += (size_t)sprintf(text + size, "sign=%u\n", s->sign[t]);
+    }
+    return size;
+}
+
+/* A sign line says something else, or a tag of width 32 is signed; nothing where there is no such line. */
+static void spoil_sign(uint8_t *text, size_t size)
+{
+    static const char digits[] = "1112379";
+    size_t from = size ? below((uint32_t)size) : 0;
+    for (size_t n = 0; n < size; n++) {
+        uint8_t *line = text + (from + n) % size;
+        if (line + 6 <= text + size && memcmp(line, "sign=", 5) == 0) {
+            line[5] = (uint8_t)digits[below(7)];
+            return;
+        }
+    }
+}
+
 size_t make_text(uint8_t *text)
 {
-    zb_settings s = make_settings(one_in(8) ? (enum settings_kind)below(6) : SETTINGS_ANY);
-    size_t size = model_settings_write(s, text, MOST_TEXT).length;
+    zb_settings s = make_settings(one_in(8) ? (enum settings_kind)below(SETTINGS_ANY) : SETTINGS_ANY);
+    size_t size = put_text((char *)text, &s, one_in(3) ? 1 : 2);
     if (one_in(3))
         return size;
-    for (uint32_t times = 1 + below(2); times > 0; times--)
-        size = spoil_text(text, size);
-    return size;
+    switch (below(8)) {
+    case 0:
+        text[8] = (uint8_t)('0' + below(5)); /* another version's number over its lines */
+        return size;
+    case 1:
+        spoil_sign(text, size);
+        return size;
+    default:
+        for (uint32_t times = 1 + below(2); times > 0; times--)
+            size = spoil_text(text, size);
+        return size;
+    }
 }
 
 /* Frames */
@@ -164,11 +218,20 @@ static uint32_t some_digits(void)
     return digits;
 }
 
-/* Digits, numbers in a tag's range, numbers at its edges, or anything. */
+/* Three digits below a sign; at times the nibble of the sign is another. */
+static uint32_t some_signed_digits(void)
+{
+    uint32_t digits = some_digits() & 0x0FFF;
+    return one_in(8) ? digits | below(16) << 12 : one_in(2) ? digits | 0xF000 : digits;
+}
+
+/* Digits, numbers in a tag's range, numbers at its edges, or anything; also of signed tags. */
 static uint32_t some_word(void)
 {
     static const uint16_t edges[] = {0, 9999, 10000, 0x9999, 0x999A, 0xE0FF, 0xE100, 0x05F5, 0x05F6, 65535};
-    switch (below(6)) {
+    static const uint16_t signed_edges[] = {999, 1000, 0xFC19, 0xFC18, 0x0999, 0xF999, 0xF000, 0xF001, 0x1000, 0xE999,
+                                            0x0A00, 0x8000};
+    switch (below(9)) {
     case 0:
     case 1:
         return some_digits();
@@ -178,6 +241,12 @@ static uint32_t some_word(void)
         return below(0x05F6);
     case 4:
         return edges[below(10)];
+    case 5:
+        return some_signed_digits();
+    case 6:
+        return (below(2001) - 1000) & 0xFFFF;
+    case 7:
+        return signed_edges[below(12)];
     default:
         return below(65536);
     }

@@ -6,12 +6,12 @@
 
 enum settings_kind {
     SETTINGS_OF_THE_DOCUMENT, SETTINGS_BARE, SETTINGS_NO_JOIN, SETTINGS_DENSE, SETTINGS_EDGES, SETTINGS_TOP,
-    SETTINGS_ANY, SETTINGS_INVALID /* the last: with one change, mostly invalid */
+    SETTINGS_SIGNED, SETTINGS_ANY, SETTINGS_INVALID /* the last: with one change, mostly invalid */
 };
 
 zb_settings make_settings(enum settings_kind kind);
 zb_settings spoil_settings(zb_settings s);
-/* A settings text, right or wrong; returns its length. */
+/* A settings text of either version, right or wrong; returns its length. */
 size_t make_text(uint8_t *text);
 /* A request; `pool` is how many different reads are asked, 0: anything. `wrong`: one in so many is spoilt. */
 size_t make_request(uint8_t *frame, const zb_settings *s, uint32_t pool, uint32_t wrong);

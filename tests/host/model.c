@@ -1,6 +1,8 @@
-/* An ordinary proxy core in C, written from document 01 alone and section by section in its order, with requests #101 and #102 of document 02. */
+/* An ordinary proxy core in C, written from document 01 alone and section by section in its order, with requests #101,
+   #102, #105 and #106 of document 02. */
 #include "model.h"
 #include <stdio.h>
+#include <stdlib.h>
 #include <string.h>
 
 enum { HEADER = 7 };
@@ -96,12 +98,50 @@ static uint32_t number_to_digits(uint32_t number)
     return number / 1000 % 10 << 12 | number / 100 % 10 << 8 | number / 10 % 10 << 4 | number % 10;
 }
 
-/* Rewrites one whole tag at `words`, or says that it must stay raw for its value. */
-typedef bool rewriting(uint32_t width, uint8_t *words);
+/* #105: a sign digit and three others, -999 to 999; 0 has no minus. */
 
-static bool tag_to_binary(uint32_t width, uint8_t *words)
+static bool signed_to_number(uint32_t word, int *number)
+{
+    int hundreds = word >> 8 & 15, tens = word >> 4 & 15, ones = word & 15;
+    int size = 100 * hundreds + 10 * tens + ones;
+    if (hundreds > 9 || tens > 9 || ones > 9)
+        return false;
+    switch (word >> 12) {
+    case 0x0:
+        *number = size;
+        return true;
+    case 0xF:
+        *number = -size;
+        return size != 0;
+    default:
+        return false;
+    }
+}
+
+static bool number_to_signed(int number, uint32_t *word)
+{
+    int size = abs(number);
+    if (size > 999)
+        return false;
+    *word = (uint32_t)(size / 100 * 256 + size / 10 % 10 * 16 + size % 10);
+    if (number < 0)
+        *word += 0xF000;
+    return true;
+}
+
+/* Rewrites one whole tag at `words`, or says that it must stay raw for its value. */
+typedef bool rewriting(uint32_t width, uint32_t sign, uint8_t *words);
+
+static bool tag_to_binary(uint32_t width, uint32_t sign, uint8_t *words)
 {
     uint32_t low, high = 0;
+    int number;
+    if (sign) {
+        if (!signed_to_number(word_at(words), &number))
+            return false;
+        put_word(words, (uint16_t)(int16_t)number);
+        return true;
+    }
     if (!digits_to_number(word_at(words), &low))
         return false;
     if (width == 32 && !digits_to_number(word_at(words + 2), &high))
@@ -113,9 +153,15 @@ static bool tag_to_binary(uint32_t width, uint8_t *words)
     return true;
 }
 
-static bool tag_to_bcd(uint32_t width, uint8_t *words)
+static bool tag_to_bcd(uint32_t width, uint32_t sign, uint8_t *words)
 {
     uint32_t value = word_at(words);
+    if (sign) {
+        if (!number_to_signed((int16_t)value, &value))
+            return false;
+        put_word(words, value);
+        return true;
+    }
     if (width == 32)
         value |= word_at(words + 2) << 16;
     if (value > (width == 32 ? 99999999u : 9999u))
@@ -138,7 +184,7 @@ static void rewrite(const zb_settings *settings, rewriting *turn, uint32_t start
             continue;
         if (first < start || behind > start + quantity)
             a->partial++;
-        else if (!turn(width, words + 2 * (first - start)))
+        else if (!turn(width, settings->sign[t], words + 2 * (first - start)))
             a->value++;
     }
 }
@@ -529,6 +575,8 @@ static bool is_valid(const zb_settings *s)
             return false;
         if (s->width[t] == 32 && s->addr[t] == 65535)
             return false;
+        if (s->sign[t] > 1 || (s->sign[t] == 1 && s->width[t] == 32))
+            return false;
         least = s->addr[t] + s->width[t] / 16u;
     }
     return true;
@@ -577,17 +625,20 @@ static bool read_line(reader *r, const char *key, uint32_t least, uint32_t most,
     return least <= value && value <= most;
 }
 
-static bool read_tag(reader *r, zb_settings *s, uint32_t t, uint32_t *least)
+static bool read_tag(reader *r, zb_settings *s, uint32_t t, uint32_t version, uint32_t *least)
 {
-    uint32_t addr, width;
+    uint32_t addr, width, sign = 0;
     if (!read_line(r, "addr=", *least, 65535, &addr))
         return false;
     if (!read_line(r, "width=", 16, 32, &width) || (width != 16 && width != 32))
         return false;
     if (width == 32 && addr == 65535)
         return false;
+    if (version == 2 && !read_line(r, "sign=", 0, width == 16 ? 1 : 0, &sign))
+        return false;
     s->addr[t] = (uint16_t)addr;
     s->width[t] = (uint16_t)width;
+    s->sign[t] = (uint16_t)sign;
     *least = addr + width / 16;
     return true;
 }
@@ -595,11 +646,11 @@ static bool read_tag(reader *r, zb_settings *s, uint32_t t, uint32_t *least)
 static bool read_text(reader *r, zb_settings *s)
 {
     uint32_t version, least = 0;
-    if (!read_line(r, "version=", 1, 1, &version) || !read_line(r, "timeout=", 100, 60000, &s->timeout)
+    if (!read_line(r, "version=", 1, 2, &version) || !read_line(r, "timeout=", 100, 60000, &s->timeout)
         || !read_line(r, "join=", 0, 1, &s->join) || !read_line(r, "tags=", 0, 256, &s->tags))
         return false;
     for (uint32_t t = 0; t < s->tags; t++)
-        if (!read_tag(r, s, t, &least))
+        if (!read_tag(r, s, t, version, &least))
             return false;
     r->line++;
     return r->at == r->length;
@@ -620,13 +671,13 @@ zb_read model_settings_read(const uint8_t *text, size_t text_len)
 
 zb_answer model_settings_write(zb_settings from, uint8_t *text, size_t text_len)
 {
-    char whole[5161];
+    char whole[ZB_MOST_TEXT + 1];
     if (!is_valid(&from))
         return refused(ZB_REFUSED_SETTINGS);
-    size_t length = (size_t)sprintf(whole, "version=1\ntimeout=%u\njoin=%u\ntags=%u\n",
+    size_t length = (size_t)sprintf(whole, "version=2\ntimeout=%u\njoin=%u\ntags=%u\n",
                                     (unsigned)from.timeout, (unsigned)from.join, (unsigned)from.tags);
     for (uint32_t t = 0; t < from.tags; t++)
-        length += (size_t)sprintf(whole + length, "addr=%u\nwidth=%u\n", from.addr[t], from.width[t]);
+        length += (size_t)sprintf(whole + length, "addr=%u\nwidth=%u\nsign=%u\n", from.addr[t], from.width[t], from.sign[t]);
     if (length > text_len)
         return refused(ZB_REFUSED_BUFFER);
     memcpy(text, whole, length);

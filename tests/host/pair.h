@@ -5,7 +5,7 @@
 
 enum { PARTIES = ZB_PARTY_PLACES / ZB_PLACES };
 /* The longest that is lent. */
-enum { MOST_FRAME = ZB_FRAME_BUFFER + 60, MOST_LIST = ZB_LIST_BUFFER + 24, MOST_TEXT = 5400 };
+enum { MOST_FRAME = ZB_FRAME_BUFFER + 60, MOST_LIST = ZB_LIST_BUFFER + 24, MOST_TEXT = ZB_MOST_TEXT + 240 };
 
 void pair_open(uint64_t seed);
 uint64_t pair_calls(void);

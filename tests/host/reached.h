@@ -38,6 +38,17 @@ extern const char *const call_names[CALLS];
     X(RAW_ECHO, "an echo 06 of what went out raw is what was written") \
     X(VALUE_ECHO, "value raw in reply 06") \
     X(BOTH_RAW, "both counts nonzero in one frame") \
+    X(SIGNED_PLUS, "a signed tag goes out as plus and digits") \
+    X(SIGNED_MINUS, "a signed tag goes out as minus and digits") \
+    X(SIGNED_RAW, "a signed tag goes out raw for its value") \
+    X(SIGNED_PLUS_READ, "plus and digits of a signed tag are decoded") \
+    X(SIGNED_MINUS_READ, "minus and digits of a signed tag are decoded") \
+    X(SIGNED_NO_NUMBER, "a signed tag comes back raw for its value") \
+    X(MINUS_ZERO, "minus zero comes back raw") \
+    X(SIGNED_ECHO, "an echo 06 of a signed tag is decoded") \
+    X(SIGNED_RAW_ECHO, "an echo 06 of a signed tag passes, as it went raw") \
+    X(SIGNED_FIRST, "a signed tag begins a range that cuts another tag") \
+    X(SIGNED_LAST, "a signed tag ends a range that cuts another tag") \
     X(BITS_02, "exception 02 to 01, 02 or 15") \
     X(BITS_03, "exception 03 to 01, 02 or 15") \
     X(COIL_03, "exception 03 to 05, for its value") \
@@ -74,6 +85,11 @@ extern const char *const call_names[CALLS];
     X(DRAINED, "ticked until nothing is due") \
     X(TEXT_256, "a settings text of 256 tags is read") \
     X(TEXT_WRONG_DEEP, "a settings text wrong behind line 12") \
+    X(TEXT_OLDER, "a settings text of version 1 with tags is read") \
+    X(TEXT_SIGNED, "a settings text with a signed tag is read") \
+    X(TEXT_WRONG_SIGN, "a settings text wrong at a sign line") \
+    X(SIGN_REFUSED, "a sign that is not 0 or 1 is refused") \
+    X(SIGN_32_REFUSED, "sign 1 with width 32 is refused") \
     X(FULL_WIDTH_CLIENT, "client 259 or 2^32 - 1 is refused") \
     X(CLOCK_BACK, "a time below the clock is refused") \
     X(TIME_TOO_LARGE, "a time above 2^63 - 1 is refused")

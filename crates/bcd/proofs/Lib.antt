@@ -2,6 +2,9 @@ pub mod PackedLaws
 pub mod CarryLaws
 pub mod OutcomeLaws
 pub mod RegisterLaws
+pub mod SignedLaws
 pub mod RoundTrip
+pub mod CastLaws
+pub mod IntegerLaws
 pub mod Words
 pub mod Examples

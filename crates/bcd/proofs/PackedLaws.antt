@@ -1,10 +1,11 @@
 -- Packed and unpacked digits are inverse to each other, their bounds, and both in two groups as two registers hold them: any number of digits.
 -- Assumes nothing.
 use Prim.Native.Nat.{ℕ, _+_, _*_, _/_, _%_, _^_, _<_}
-use mathlib.Core.Path.{_≡_}
-use mathlib.Core.Bool.{true, _&&_}
+use mathlib.Core.Path.{_≡_, _∙_}
+use mathlib.Core.Bool.{true, _&&_, and-true}
+use native.Mathlib.Nat.{mod-eq-of-lt, div-eq-of-lt}
 use native.Mathlib.Omega.{arith}
-use Rattle.laws.specs.Digits.{digits}
+use Rattle.laws.specs.Digits.{digits, value, below}
 use Rattle.laws.proofs.DigitLaws.{value-digits, digits-value, digits-below, digits-back, value-below, length-digits, digits-split, digits-mod}
 use Rattle.bcd.specs.Bcd.{packed, unpacked, decimal}
 use Rattle.laws.proofs.DigitLaws.{below-split, value-digits-split}
@@ -51,3 +52,16 @@ module _ (n : ℕ) where
   pub decimal-pair : (k w : ℕ) → decimal (n + k) w ≡ (decimal n (w % 16 ^ n) && decimal k (w / 16 ^ n))
   unfolding decimal
   decimal-pair k w = rw (digits-mod 16 n w (omega arith), digits-split 16 n k w) (below-split 10 (digits 16 n w) (digits 16 k (w / 16 ^ n)))
+
+  -- a nibble more that is 0
+  pub packed-more : (v : ℕ) → v < 10 ^ n → packed (n + 1) v ≡ packed n v
+  unfolding packed digits value
+  packed-more v l = packed-pair 1 v ∙ rw (mod-eq-of-lt l, div-eq-of-lt l) (omega arith)
+
+  pub unpacked-more : (w : ℕ) → w < 16 ^ n → unpacked (n + 1) w ≡ unpacked n w
+  unfolding unpacked digits value
+  unpacked-more w l = unpacked-pair 1 w ∙ rw (mod-eq-of-lt l, div-eq-of-lt l) (omega arith)
+
+  pub decimal-more : (w : ℕ) → w < 16 ^ n → decimal (n + 1) w ≡ decimal n w
+  unfolding decimal digits below
+  decimal-more w l = decimal-pair 1 w ∙ rw (mod-eq-of-lt l, div-eq-of-lt l) (and-true (decimal n w))

@@ -1,22 +1,24 @@
 -- What is encoded decodes to itself and the other way round, what is refused each way, and the bounds: for any number of digits, then for any kind.
 -- Assumes nothing.
-use Prim.Native.Nat.{ℕ, suc, _*_, _^_, _≤_, _<_}
+use Prim.Native.Nat.{ℕ, suc, _*_, _-_, _%_, _^_, _≤_, _<_}
 use mathlib.Core.Path.{_≡_, ap, _∙_}
-use mathlib.Core.Logic.{_↔_, Iff·trans}
+use mathlib.Core.Logic.{_↔_, _⊎_, inl, inr, ⊎-elim, Iff·trans}
 use mathlib.Core.Bool.{true, false}
 use native.Mathlib.Nat.{lt-of-lt-of-le, pow-le-pow-left}
 use native.Mathlib.Omega.{arith}
 use lib.Dec.{ltb}
 use borrow.Author.Tests.{lt-ltb, le-ltb, ltb-true, ltb-false}
-use Rattle.laws.specs.Numbers.{digitsPerRegister}
+use Rattle.laws.specs.Numbers.{digitsPerRegister, signedDigits}
+use Rattle.laws.proofs.Choice.{and-left, and-right, or-either}
 use Rattle.bcd.specs.declared.Kind.{Kind}
-use Rattle.bcd.specs.declared.Kind.the-variants.{Width16, Width32}
+use Rattle.bcd.specs.declared.Kind.the-variants.{Width16, Width32, Signed16}
 use Rattle.bcd.specs.declared.Encoded.the-variants.{Bcd, OutOfRange}
 use Rattle.bcd.specs.declared.Decoded.the-variants.{Binary, NoNumber}
-use Rattle.bcd.specs.Bcd.{packed, unpacked, decimal, encodedDigits, decodedDigits, registers, inRange, encoded, decoded, nibble}
+use Rattle.bcd.specs.Bcd.{packed, unpacked, decimal, encodedDigits, decodedDigits, registers, inRange, isPlus, isMinus, complement, encoded, decoded, nibble}
 use Rattle.laws.proofs.DigitLaws.{above-some, some-above}
 use Rattle.bcd.proofs.PackedLaws.{packed-decimal, unpacked-packed, packed-unpacked, packed-below, unpacked-below}
 use Rattle.bcd.proofs.OutcomeLaws.{encoded-within, encoded-above, decoded-decimal, decoded-other, was-within, was-above, was-decimal, was-other}
+use Rattle.bcd.proofs.SignedLaws.{signed-encode-decode, signed-decode-encode, signed-encode-refuses, signed-encode-accepts, signed-decode-refuses, signed-encoded-below, signed-decoded-in-range}
 
 -- FOR ANY NUMBER OF DIGITS
 
@@ -61,12 +63,14 @@ pub encode-decode : (k : Kind) (v w : ℕ) → encoded k v ≡ Bcd w → decoded
 unfolding encoded decoded
 encode-decode Width16 = digits-encode-decode digitsPerRegister
 encode-decode Width32 = digits-encode-decode (2 * digitsPerRegister)
+encode-decode Signed16 = signed-encode-decode signedDigits
 
 -- What decodes to a value and fits the kind's registers is what that value is encoded to.
 pub decode-encode : (k : Kind) (w v : ℕ) → decoded k w ≡ Binary v → w < 65536 ^ registers k → encoded k v ≡ Bcd w
 unfolding encoded decoded registers
 decode-encode Width16 = digits-decode-encode digitsPerRegister
 decode-encode Width32 = digits-decode-encode (2 * digitsPerRegister)
+decode-encode Signed16 = signed-decode-encode signedDigits
 
 -- a test's two meanings
 not-below : (v m : ℕ) → (m ≤ v) ↔ (ltb v m ≡ false)
@@ -85,29 +89,64 @@ pub range-32 : (v : ℕ) → (inRange Width32 v ≡ true) ↔ (v ≤ 99999999)
 unfolding inRange
 range-32 v = is-below v 99999999
 
+-- A sign and three digits are the values from 0 to 999 and, in two's complement, those from −999 to −1.
+pub range-signed : (v : ℕ) → (inRange Signed16 v ≡ true) ↔ ((v ≤ 999) ⊎ ((64537 ≤ v) × (v ≤ 65535)))
+unfolding inRange isPlus isMinus complement
+range-signed v = (
+  λ t.
+      ⊎-elim (λ p. inl (is-below v 999 .0 p))
+      (λ m.
+      let l = ltb-true v 65536 (and-left (ltb v 65536) (ltb (65536 - v) 1000) m) in
+      let k = ltb-true (65536 - v) 1000 (and-right (ltb v 65536) (ltb (65536 - v) 1000) m) in
+      inr (omega arith, omega arith))
+      (or-either (isPlus 3 v) (isMinus 3 v) t),
+  ⊎-elim (λ (l : v ≤ 999). rw (lt-ltb v 1000 (omega arith)))
+      (λ (l : (64537 ≤ v) × (v ≤ 65535)).
+      simp (le-ltb v 1000 (omega arith), lt-ltb v 65536 (omega arith), lt-ltb (65536 - v) 1000 (omega arith))),
+)
+
 -- A value is refused exactly if it is outside the kind's range.
 pub encode-refuses : (k : Kind) (v : ℕ) → (encoded k v ≡ OutOfRange) ↔ (inRange k v ≡ false)
 unfolding encoded inRange
 encode-refuses Width16 v = Iff·trans (digits-encode-refuses digitsPerRegister v) (not-below v (10 ^ digitsPerRegister))
 encode-refuses Width32 v = Iff·trans (digits-encode-refuses (2 * digitsPerRegister) v) (not-below v (10 ^ (2 * digitsPerRegister)))
+encode-refuses Signed16 v = signed-encode-refuses signedDigits v
 
 -- Every value inside it is encoded.
 pub encode-accepts : (k : Kind) (v : ℕ) → inRange k v ≡ true → (w : ℕ) × (encoded k v ≡ Bcd w)
 unfolding encoded inRange
 encode-accepts Width16 v t = digits-encode-accepts digitsPerRegister v (ltb-true v (10 ^ digitsPerRegister) t)
 encode-accepts Width32 v t = digits-encode-accepts (2 * digitsPerRegister) v (ltb-true v (10 ^ (2 * digitsPerRegister)) t)
+encode-accepts Signed16 v t = signed-encode-accepts signedDigits v t
 
--- Words are refused exactly if one of the registers' nibbles is above 9.
-pub decode-refuses : (k : Kind) (w : ℕ) → (decoded k w ≡ NoNumber) ↔ ((i : ℕ) × (i < digitsPerRegister * registers k) × (9 < nibble i w))
+-- A value inside it is encoded to what decodes to it.
+pub round-trip : (k : Kind) (v : ℕ) → inRange k v ≡ true → (w : ℕ) × (encoded k v ≡ Bcd w) × (decoded k w ≡ Binary v)
+round-trip k v t = let s = encode-accepts k v t in (s .0, s .1, encode-decode k v (s .0) (s .1))
+
+-- a nibble among the lowest n is above 9
+abbrev pub AboveNine : ℕ → ℕ → Type 0
+AboveNine n w = (i : ℕ) × (i < n) × (9 < nibble i w)
+
+-- One of the registers' nibbles is above 9; below a sign, one of three, or the sign's nibble is neither 0 nor F, or the word is minus 0.
+abbrev pub NoNumberOf : Kind → ℕ → Type 0
+NoNumberOf Width16 w = AboveNine (digitsPerRegister * registers Width16) w
+NoNumberOf Width32 w = AboveNine (digitsPerRegister * registers Width32) w
+NoNumberOf Signed16 w =
+    AboveNine signedDigits w ⊎ (((nibble signedDigits w ≡ 0 → ⊥) × (nibble signedDigits w ≡ 15 → ⊥)) ⊎ (w % 65536 ≡ 0xF000))
+
+-- Words are refused exactly if they are no number of the kind.
+pub decode-refuses : (k : Kind) (w : ℕ) → (decoded k w ≡ NoNumber) ↔ NoNumberOf k w
 unfolding decoded registers
 decode-refuses Width16 = digits-decode-refuses digitsPerRegister
 decode-refuses Width32 = digits-decode-refuses (2 * digitsPerRegister)
+decode-refuses Signed16 = signed-decode-refuses signedDigits
 
 -- What a value is encoded to fits the kind's registers.
 pub encoded-below : (k : Kind) (v w : ℕ) → encoded k v ≡ Bcd w → w < 65536 ^ registers k
 unfolding encoded registers
 encoded-below Width16 = digits-encoded-below digitsPerRegister
 encoded-below Width32 = digits-encoded-below (2 * digitsPerRegister)
+encoded-below Signed16 = signed-encoded-below signedDigits
 
 -- n digits fit n nibbles
 fits : (n w v : ℕ) → decodedDigits n w ≡ Binary v → (v < 16 ^ n) × (ltb v (10 ^ n) ≡ true)
@@ -120,3 +159,4 @@ pub decoded-in-range : (k : Kind) (w v : ℕ) → decoded k w ≡ Binary v → (
 unfolding decoded registers inRange
 decoded-in-range Width16 = fits digitsPerRegister
 decoded-in-range Width32 = fits (2 * digitsPerRegister)
+decoded-in-range Signed16 = signed-decoded-in-range signedDigits

@@ -10,7 +10,7 @@ use lib.ListN.{length}
 use Rattle.laws.specs.Digits.{below}
 use Rattle.laws.proofs.DigitLaws.{value-digits, digits-value, digits-below, length-digits}
 use Rattle.bcd.specs.declared.Kind.{Kind}
-use Rattle.bcd.specs.declared.Kind.the-variants.{Width16, Width32}
+use Rattle.bcd.specs.declared.Kind.the-variants.{Width16, Width32, Signed16}
 use Rattle.bcd.specs.Bcd.{registers}
 use Rattle.bcd.specs.Words.{wordsOf, numberOf}
 
@@ -19,12 +19,14 @@ pub registers-least : (k : Kind) → 1 ≤ registers k
 unfolding registers
 registers-least Width16 = lit≤ tt
 registers-least Width32 = lit≤ tt
+registers-least Signed16 = lit≤ tt
 
 -- No kind has more than two.
 pub registers-most : (k : Kind) → registers k ≤ 2
 unfolding registers
 registers-most Width16 = lit≤ tt
 registers-most Width32 = lit≤ tt
+registers-most Signed16 = lit≤ tt
 
 module _ (k : Kind) where
   -- There are as many words as registers.

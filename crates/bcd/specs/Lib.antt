@@ -1,2 +1,3 @@
 pub mod Bcd
+pub mod Integers
 pub mod Words

@@ -32,8 +32,9 @@ pub fn fresh<'a, 'b>(
     from_tags: &'b u32,
     addr: &'b [u16; laws::MOST_TAGS],
     width: &'b [u16; laws::MOST_TAGS],
+    sign: &'b [u16; laws::MOST_TAGS],
 ) -> Report
-    ensures { λ r. ⌜ FreshlyTold (settings (now («from_timeout» .entry)) (now («from_join» .entry)) (now («from_tags» .entry)) (now (addr .entry)) (now (width .entry))) r (lent (now (ids .exit)) (now (asked .exit)) (now (callers .exit)) (now (deadlines .exit)) (now (counts .exit)) (now (clients .exit)) (now (originals .exit)) (now (top .exit)) (now (cursor .exit)) (now (attached .exit)) (now (clock .exit)) (now (timeout .exit)) (now (join .exit)) (now (tagged .exit)) (now (tags .exit))) ⌝ }
+    ensures { λ r. ⌜ FreshlyTold (settings (now («from_timeout» .entry)) (now («from_join» .entry)) (now («from_tags» .entry)) (now (addr .entry)) (now (width .entry)) (now (sign .entry))) r (lent (now (ids .exit)) (now (asked .exit)) (now (callers .exit)) (now (deadlines .exit)) (now (counts .exit)) (now (clients .exit)) (now (originals .exit)) (now (top .exit)) (now (cursor .exit)) (now (attached .exit)) (now (clock .exit)) (now (timeout .exit)) (now (join .exit)) (now (tagged .exit)) (now (tags .exit))) ⌝ }
 {
     machine::report_of(proxy::making::fresh(
         ids,
@@ -56,6 +57,7 @@ pub fn fresh<'a, 'b>(
         *from_tags,
         addr,
         width,
+        sign,
     ))
 }
 

@@ -1,4 +1,4 @@
--- Every entry point `f(st: &mut Device, from: &settings/Settings) -> machine/Report` whose body is one call `g(&mut st.ids, &mut st.asked, &mut st.callers, &mut st.deadlines, &mut st.counts, &mut st.clients, &mut st.originals, &mut st.top, &mut st.cursor, &mut st.attached, &mut st.clock, &mut st.timeout, &mut st.join, &mut st.tagged, &mut st.tags, &from.timeout, &from.join, &from.tags, &from.addr, &from.width)` meets its contract where its core g meets its own at the fields that are lent. Written by tools/gen.py.
+-- Every entry point `f(st: &mut Device, from: &settings/Settings) -> machine/Report` whose body is one call `g(&mut st.ids, &mut st.asked, &mut st.callers, &mut st.deadlines, &mut st.counts, &mut st.clients, &mut st.originals, &mut st.top, &mut st.cursor, &mut st.attached, &mut st.clock, &mut st.timeout, &mut st.join, &mut st.tagged, &mut st.tags, &from.timeout, &from.join, &from.tags, &from.addr, &from.width, &from.sign)` meets its contract where its core g meets its own at the fields that are lent. Written by tools/gen.py.
 --     Rel, CoreRel     what the contract of the entry point, and that of the core, is a relation of: Device and parameters at entry, result, Device and slices at exit; the same at the fields that are lent
 --     function g       the MIR of such an entry point
 --     clauses R, core-clauses Rc   the contracts `ensures { λ r. ⌜ R .. ⌝ }`
@@ -56,7 +56,7 @@ abbrev pub Rel : Type 1
 Rel = Device → Settings → Report → Device → Type 0
 
 abbrev pub CoreRel : Type 1
-CoreRel = List ℕ → List ℕ → List ℕ → List ℕ → List ℕ → List ℕ → List ℕ → ℕ → ℕ → ℕ → ℕ → ℕ → ℕ → ℕ → List ℕ → ℕ → ℕ → ℕ → List ℕ → List ℕ → Report → List ℕ → List ℕ → List ℕ → List ℕ → List ℕ → List ℕ → List ℕ → ℕ → ℕ → ℕ → ℕ → ℕ → ℕ → ℕ → List ℕ → Type 0
+CoreRel = List ℕ → List ℕ → List ℕ → List ℕ → List ℕ → List ℕ → List ℕ → ℕ → ℕ → ℕ → ℕ → ℕ → ℕ → ℕ → List ℕ → ℕ → ℕ → ℕ → List ℕ → List ℕ → List ℕ → Report → List ℕ → List ℕ → List ℕ → List ℕ → List ℕ → List ℕ → List ℕ → ℕ → ℕ → ℕ → ℕ → ℕ → ℕ → ℕ → List ℕ → Type 0
 
 -- what is lent
 abbrev uses : List Use
@@ -95,6 +95,7 @@ function g = record {
       local (tyRef erased imm (tyInt w32)) valueLocal ∷
       local (tyRef erased imm (tyInt w32)) valueLocal ∷
       local (tyRef erased imm (tyArray (tyInt w16) 256)) valueLocal ∷
+      local (tyRef erased imm (tyArray (tyInt w16) 256)) valueLocal ∷
       local (tyRef erased imm (tyArray (tyInt w16) 256)) valueLocal ∷ [];
   body =
       seq (assign (place 3 []) (addrOf (place 1 (deref T′.mir ∷ field 0 ∷ [])))) $ₛ
@@ -117,7 +118,8 @@ function g = record {
       seq (assign (place 20 []) (addrOf (place 2 (deref P0′.mir ∷ field 2 ∷ [])))) $ₛ
       seq (assign (place 21 []) (addrOf (place 2 (deref P0′.mir ∷ field 3 ∷ [])))) $ₛ
       seq (assign (place 22 []) (addrOf (place 2 (deref P0′.mir ∷ field 4 ∷ [])))) $ₛ
-      seq (call g (copy (place 3 []) ∷ copy (place 4 []) ∷ copy (place 5 []) ∷ copy (place 6 []) ∷ copy (place 7 []) ∷ copy (place 8 []) ∷ copy (place 9 []) ∷ copy (place 10 []) ∷ copy (place 11 []) ∷ copy (place 12 []) ∷ copy (place 13 []) ∷ copy (place 14 []) ∷ copy (place 15 []) ∷ copy (place 16 []) ∷ copy (place 17 []) ∷ copy (place 18 []) ∷ copy (place 19 []) ∷ copy (place 20 []) ∷ copy (place 21 []) ∷ copy (place 22 []) ∷ []) (place 0 [])) $ₛ
+      seq (assign (place 23 []) (addrOf (place 2 (deref P0′.mir ∷ field 5 ∷ [])))) $ₛ
+      seq (call g (copy (place 3 []) ∷ copy (place 4 []) ∷ copy (place 5 []) ∷ copy (place 6 []) ∷ copy (place 7 []) ∷ copy (place 8 []) ∷ copy (place 9 []) ∷ copy (place 10 []) ∷ copy (place 11 []) ∷ copy (place 12 []) ∷ copy (place 13 []) ∷ copy (place 14 []) ∷ copy (place 15 []) ∷ copy (place 16 []) ∷ copy (place 17 []) ∷ copy (place 18 []) ∷ copy (place 19 []) ∷ copy (place 20 []) ∷ copy (place 21 []) ∷ copy (place 22 []) ∷ copy (place 23 []) ∷ []) (place 0 [])) $ₛ
       return;
 }
 
@@ -132,12 +134,12 @@ abbrev pub core-signature : Signature
 core-signature = record {
   lifetimes = 2;
   outlives = [];
-  params = RefMutOf (0 ∷ []) tt (plain (λ κs. Array u32 256)) (λ κs. tt) ∷ RefMutOf (0 ∷ []) tt (plain (λ κs. Array u64 256)) (λ κs. tt) ∷ RefMutOf (0 ∷ []) tt (plain (λ κs. Array u8 256)) (λ κs. tt) ∷ RefMutOf (0 ∷ []) tt (plain (λ κs. Array u64 256)) (λ κs. tt) ∷ RefMutOf (0 ∷ []) tt (plain (λ κs. Array u8 256)) (λ κs. tt) ∷ RefMutOf (0 ∷ []) tt (plain (λ κs. Array u8 8192)) (λ κs. tt) ∷ RefMutOf (0 ∷ []) tt (plain (λ κs. Array u16 8192)) (λ κs. tt) ∷ RefMutOf (0 ∷ []) tt (plain (λ κs. u32)) (λ κs. tt) ∷ RefMutOf (0 ∷ []) tt (plain (λ κs. u16)) (λ κs. tt) ∷ RefMutOf (0 ∷ []) tt (plain (λ κs. u32)) (λ κs. tt) ∷ RefMutOf (0 ∷ []) tt (plain (λ κs. u64)) (λ κs. tt) ∷ RefMutOf (0 ∷ []) tt (plain (λ κs. u32)) (λ κs. tt) ∷ RefMutOf (0 ∷ []) tt (plain (λ κs. u32)) (λ κs. tt) ∷ RefMutOf (0 ∷ []) tt (plain (λ κs. u32)) (λ κs. tt) ∷ RefMutOf (0 ∷ []) tt (plain (λ κs. Array u64 256)) (λ κs. tt) ∷ RefOf (1 ∷ []) tt (plain (λ κs. u32)) (λ κs. tt) ∷ RefOf (1 ∷ []) tt (plain (λ κs. u32)) (λ κs. tt) ∷ RefOf (1 ∷ []) tt (plain (λ κs. u32)) (λ κs. tt) ∷ RefOf (1 ∷ []) tt (plain (λ κs. Array u16 256)) (λ κs. tt) ∷ RefOf (1 ∷ []) tt (plain (λ κs. Array u16 256)) (λ κs. tt) ∷ [];
+  params = RefMutOf (0 ∷ []) tt (plain (λ κs. Array u32 256)) (λ κs. tt) ∷ RefMutOf (0 ∷ []) tt (plain (λ κs. Array u64 256)) (λ κs. tt) ∷ RefMutOf (0 ∷ []) tt (plain (λ κs. Array u8 256)) (λ κs. tt) ∷ RefMutOf (0 ∷ []) tt (plain (λ κs. Array u64 256)) (λ κs. tt) ∷ RefMutOf (0 ∷ []) tt (plain (λ κs. Array u8 256)) (λ κs. tt) ∷ RefMutOf (0 ∷ []) tt (plain (λ κs. Array u8 8192)) (λ κs. tt) ∷ RefMutOf (0 ∷ []) tt (plain (λ κs. Array u16 8192)) (λ κs. tt) ∷ RefMutOf (0 ∷ []) tt (plain (λ κs. u32)) (λ κs. tt) ∷ RefMutOf (0 ∷ []) tt (plain (λ κs. u16)) (λ κs. tt) ∷ RefMutOf (0 ∷ []) tt (plain (λ κs. u32)) (λ κs. tt) ∷ RefMutOf (0 ∷ []) tt (plain (λ κs. u64)) (λ κs. tt) ∷ RefMutOf (0 ∷ []) tt (plain (λ κs. u32)) (λ κs. tt) ∷ RefMutOf (0 ∷ []) tt (plain (λ κs. u32)) (λ κs. tt) ∷ RefMutOf (0 ∷ []) tt (plain (λ κs. u32)) (λ κs. tt) ∷ RefMutOf (0 ∷ []) tt (plain (λ κs. Array u64 256)) (λ κs. tt) ∷ RefOf (1 ∷ []) tt (plain (λ κs. u32)) (λ κs. tt) ∷ RefOf (1 ∷ []) tt (plain (λ κs. u32)) (λ κs. tt) ∷ RefOf (1 ∷ []) tt (plain (λ κs. u32)) (λ κs. tt) ∷ RefOf (1 ∷ []) tt (plain (λ κs. Array u16 256)) (λ κs. tt) ∷ RefOf (1 ∷ []) tt (plain (λ κs. Array u16 256)) (λ κs. tt) ∷ RefOf (1 ∷ []) tt (plain (λ κs. Array u16 256)) (λ κs. tt) ∷ [];
   result = plain (λ κs. Res.the-row);
 }
 
 abbrev pub core-ended : Ended
-core-ended = record { signature = core-signature; kept = (yes, (yes, (yes, (yes, (yes, (yes, (yes, (yes, (yes, (yes, (yes, (yes, (yes, (yes, (yes, (yes, (yes, (yes, (yes, (yes, tt)))))))))))))))))))) }
+core-ended = record { signature = core-signature; kept = (yes, (yes, (yes, (yes, (yes, (yes, (yes, (yes, (yes, (yes, (yes, (yes, (yes, (yes, (yes, (yes, (yes, (yes, (yes, (yes, (yes, tt))))))))))))))))))))) }
 
 module _ {M : Type 1} (𝓤 : URA M) (R : Rel) where
   abbrev pub clauses : Clauses 𝓤 ended
@@ -148,7 +150,7 @@ module _ {M : Type 1} (𝓤 : URA M) (Rc : CoreRel) where
   core-clauses κs a = record {
     ghost = Unit {0};
     requires = λ _. emp 𝓤;
-    ensures = λ _ r e. fact 𝓤 (Rc (a .0 .now) (a .1 .0 .now) (a .1 .1 .0 .now) (a .1 .1 .1 .0 .now) (a .1 .1 .1 .1 .0 .now) (a .1 .1 .1 .1 .1 .0 .now) (a .1 .1 .1 .1 .1 .1 .0 .now) (a .1 .1 .1 .1 .1 .1 .1 .0 .now) (a .1 .1 .1 .1 .1 .1 .1 .1 .0 .now) (a .1 .1 .1 .1 .1 .1 .1 .1 .1 .0 .now) (a .1 .1 .1 .1 .1 .1 .1 .1 .1 .1 .0 .now) (a .1 .1 .1 .1 .1 .1 .1 .1 .1 .1 .1 .0 .now) (a .1 .1 .1 .1 .1 .1 .1 .1 .1 .1 .1 .1 .0 .now) (a .1 .1 .1 .1 .1 .1 .1 .1 .1 .1 .1 .1 .1 .0 .now) (a .1 .1 .1 .1 .1 .1 .1 .1 .1 .1 .1 .1 .1 .1 .0 .now) (a .1 .1 .1 .1 .1 .1 .1 .1 .1 .1 .1 .1 .1 .1 .1 .0 .now) (a .1 .1 .1 .1 .1 .1 .1 .1 .1 .1 .1 .1 .1 .1 .1 .1 .0 .now) (a .1 .1 .1 .1 .1 .1 .1 .1 .1 .1 .1 .1 .1 .1 .1 .1 .1 .0 .now) (a .1 .1 .1 .1 .1 .1 .1 .1 .1 .1 .1 .1 .1 .1 .1 .1 .1 .1 .0 .now) (a .1 .1 .1 .1 .1 .1 .1 .1 .1 .1 .1 .1 .1 .1 .1 .1 .1 .1 .1 .0 .now) r (e .0 .now) (e .1 .0 .now) (e .1 .1 .0 .now) (e .1 .1 .1 .0 .now) (e .1 .1 .1 .1 .0 .now) (e .1 .1 .1 .1 .1 .0 .now) (e .1 .1 .1 .1 .1 .1 .0 .now) (e .1 .1 .1 .1 .1 .1 .1 .0 .now) (e .1 .1 .1 .1 .1 .1 .1 .1 .0 .now) (e .1 .1 .1 .1 .1 .1 .1 .1 .1 .0 .now) (e .1 .1 .1 .1 .1 .1 .1 .1 .1 .1 .0 .now) (e .1 .1 .1 .1 .1 .1 .1 .1 .1 .1 .1 .0 .now) (e .1 .1 .1 .1 .1 .1 .1 .1 .1 .1 .1 .1 .0 .now) (e .1 .1 .1 .1 .1 .1 .1 .1 .1 .1 .1 .1 .1 .0 .now) (e .1 .1 .1 .1 .1 .1 .1 .1 .1 .1 .1 .1 .1 .1 .0 .now));
+    ensures = λ _ r e. fact 𝓤 (Rc (a .0 .now) (a .1 .0 .now) (a .1 .1 .0 .now) (a .1 .1 .1 .0 .now) (a .1 .1 .1 .1 .0 .now) (a .1 .1 .1 .1 .1 .0 .now) (a .1 .1 .1 .1 .1 .1 .0 .now) (a .1 .1 .1 .1 .1 .1 .1 .0 .now) (a .1 .1 .1 .1 .1 .1 .1 .1 .0 .now) (a .1 .1 .1 .1 .1 .1 .1 .1 .1 .0 .now) (a .1 .1 .1 .1 .1 .1 .1 .1 .1 .1 .0 .now) (a .1 .1 .1 .1 .1 .1 .1 .1 .1 .1 .1 .0 .now) (a .1 .1 .1 .1 .1 .1 .1 .1 .1 .1 .1 .1 .0 .now) (a .1 .1 .1 .1 .1 .1 .1 .1 .1 .1 .1 .1 .1 .0 .now) (a .1 .1 .1 .1 .1 .1 .1 .1 .1 .1 .1 .1 .1 .1 .0 .now) (a .1 .1 .1 .1 .1 .1 .1 .1 .1 .1 .1 .1 .1 .1 .1 .0 .now) (a .1 .1 .1 .1 .1 .1 .1 .1 .1 .1 .1 .1 .1 .1 .1 .1 .0 .now) (a .1 .1 .1 .1 .1 .1 .1 .1 .1 .1 .1 .1 .1 .1 .1 .1 .1 .0 .now) (a .1 .1 .1 .1 .1 .1 .1 .1 .1 .1 .1 .1 .1 .1 .1 .1 .1 .1 .0 .now) (a .1 .1 .1 .1 .1 .1 .1 .1 .1 .1 .1 .1 .1 .1 .1 .1 .1 .1 .1 .0 .now) (a .1 .1 .1 .1 .1 .1 .1 .1 .1 .1 .1 .1 .1 .1 .1 .1 .1 .1 .1 .1 .0 .now) r (e .0 .now) (e .1 .0 .now) (e .1 .1 .0 .now) (e .1 .1 .1 .0 .now) (e .1 .1 .1 .1 .0 .now) (e .1 .1 .1 .1 .1 .0 .now) (e .1 .1 .1 .1 .1 .1 .0 .now) (e .1 .1 .1 .1 .1 .1 .1 .0 .now) (e .1 .1 .1 .1 .1 .1 .1 .1 .0 .now) (e .1 .1 .1 .1 .1 .1 .1 .1 .1 .0 .now) (e .1 .1 .1 .1 .1 .1 .1 .1 .1 .1 .0 .now) (e .1 .1 .1 .1 .1 .1 .1 .1 .1 .1 .1 .0 .now) (e .1 .1 .1 .1 .1 .1 .1 .1 .1 .1 .1 .1 .0 .now) (e .1 .1 .1 .1 .1 .1 .1 .1 .1 .1 .1 .1 .1 .0 .now) (e .1 .1 .1 .1 .1 .1 .1 .1 .1 .1 .1 .1 .1 .1 .0 .now));
   }
 
   module _ (H : Heap 𝓤) (A : Atoms 𝓤) where
@@ -165,7 +167,7 @@ with-emp 𝓤 P = via 𝓤 (sep 𝓤 (emp 𝓤) P) (emp∗ 𝓤 P) (comm∗ 𝓤
 with-fact : {M : Type 1} (𝓤 : URA M) (P : SProp 𝓤) {φ : Type 0} → φ → ent 𝓤 P (sep 𝓤 P (fact 𝓤 φ))
 with-fact 𝓤 P {φ} x = via 𝓤 (sep 𝓤 (emp 𝓤) P) (emp∗ 𝓤 P) (via 𝓤 (sep 𝓤 (fact 𝓤 φ) P) (monoL 𝓤 P (factI 𝓤 φ (emp 𝓤) x)) (comm∗ 𝓤 (fact 𝓤 φ) P))
 
-module _ {M : Type 1} (𝓤 : URA M) (H : Heap 𝓤) (A : Atoms 𝓤) (W : Given 𝓤 H A) (g : Name) (R : Rel) (Rc : CoreRel) (imp : ((h : Device) (p0 : Settings) (r : Report) (w0 : List ℕ) (w1 : List ℕ) (w2 : List ℕ) (w3 : List ℕ) (w4 : List ℕ) (w5 : List ℕ) (w6 : List ℕ) (w7 : ℕ) (w8 : ℕ) (w9 : ℕ) (w10 : ℕ) (w11 : ℕ) (w12 : ℕ) (w13 : ℕ) (w14 : List ℕ) → Rc (h .ids) (h .asked) (h .callers) (h .deadlines) (h .counts) (h .clients) (h .originals) (h .top) (h .cursor) (h .attached) (h .clock) (h .timeout) (h .join) (h .tagged) (h .tags) (p0 .timeout) (p0 .join) (p0 .tags) (p0 .addr) (p0 .width) r w0 w1 w2 w3 w4 w5 w6 w7 w8 w9 w10 w11 w12 w13 w14 → R h p0 r (record { ids = w0; asked = w1; callers = w2; deadlines = w3; counts = w4; clients = w5; originals = w6; top = w7; cursor = w8; attached = w9; clock = w10; timeout = w11; join = w12; tagged = w13; tags = w14 }))) (κ0 κ1 : Lft) (q0 q1 : Share) (b o : ℕ) (γ : GName) (h : Device) (p0 : RefT Settings) where
+module _ {M : Type 1} (𝓤 : URA M) (H : Heap 𝓤) (A : Atoms 𝓤) (W : Given 𝓤 H A) (g : Name) (R : Rel) (Rc : CoreRel) (imp : ((h : Device) (p0 : Settings) (r : Report) (w0 : List ℕ) (w1 : List ℕ) (w2 : List ℕ) (w3 : List ℕ) (w4 : List ℕ) (w5 : List ℕ) (w6 : List ℕ) (w7 : ℕ) (w8 : ℕ) (w9 : ℕ) (w10 : ℕ) (w11 : ℕ) (w12 : ℕ) (w13 : ℕ) (w14 : List ℕ) → Rc (h .ids) (h .asked) (h .callers) (h .deadlines) (h .counts) (h .clients) (h .originals) (h .top) (h .cursor) (h .attached) (h .clock) (h .timeout) (h .join) (h .tagged) (h .tags) (p0 .timeout) (p0 .join) (p0 .tags) (p0 .addr) (p0 .width) (p0 .sign) r w0 w1 w2 w3 w4 w5 w6 w7 w8 w9 w10 w11 w12 w13 w14 → R h p0 r (record { ids = w0; asked = w1; callers = w2; deadlines = w3; counts = w4; clients = w5; originals = w6; top = w7; cursor = w8; attached = w9; clock = w10; timeout = w11; join = w12; tagged = w13; tags = w14 }))) (κ0 κ1 : Lft) (q0 q1 : Share) (b o : ℕ) (γ : GName) (h : Device) (p0 : RefT Settings) where
   -- the parameters behind the lent struct
   abbrev Tail : List RattleType
   Tail = ShrRef (named 1) κ1 P0.the-row ∷ []
@@ -224,31 +226,32 @@ module _ {M : Type 1} (𝓤 : URA M) (H : Heap 𝓤) (A : Atoms 𝓤) (W : Given
     walk : ent 𝓤 (onEntry 𝓤 H A signature (κ0, (κ1, tt)) (q0, (q1, tt)) a vals) (WpFn 𝓤 H C Λ (function g) (vptr b o ∷ vptr (p0 .ptr .0) (p0 .ptr .1) ∷ []) Post)
     walk =
         qed W ((‵ (flft κ0 q0) ⊛ (‵ (flft κ1 q1) ⊛ ‵ ftrue)) ∷ ‵ (owns (MutRef (named 0) κ0 T.the-row ∷ Tail) a vals) ∷ []) ∵ enter ! C Λ (function g) (vptr b o ∷ vptr (p0 .ptr .0) (p0 .ptr .1) ∷ []) _ $
-        alloc1 ! (λ l0. alloc1 ! (λ l1. alloc1 ! (λ l2. alloc1 ! (λ l3. alloc1 ! (λ l4. alloc1 ! (λ l5. alloc1 ! (λ l6. alloc1 ! (λ l7. alloc1 ! (λ l8. alloc1 ! (λ l9. alloc1 ! (λ l10. alloc1 ! (λ l11. alloc1 ! (λ l12. alloc1 ! (λ l13. alloc1 ! (λ l14. alloc1 ! (λ l15. alloc1 ! (λ l16. alloc1 ! (λ l17. alloc1 ! (λ l18. alloc1 ! (λ l19. alloc1 ! (λ l20. alloc1 ! (λ l21. alloc1 ! (λ l22. alloc0 ! $ params1 ! $
-        pass1 ! (init ! 42 refl (tt, tt)) $ pass1 ! (init ! 40 refl (tt, tt)) $ pass0 ! $
+        alloc1 ! (λ l0. alloc1 ! (λ l1. alloc1 ! (λ l2. alloc1 ! (λ l3. alloc1 ! (λ l4. alloc1 ! (λ l5. alloc1 ! (λ l6. alloc1 ! (λ l7. alloc1 ! (λ l8. alloc1 ! (λ l9. alloc1 ! (λ l10. alloc1 ! (λ l11. alloc1 ! (λ l12. alloc1 ! (λ l13. alloc1 ! (λ l14. alloc1 ! (λ l15. alloc1 ! (λ l16. alloc1 ! (λ l17. alloc1 ! (λ l18. alloc1 ! (λ l19. alloc1 ! (λ l20. alloc1 ! (λ l21. alloc1 ! (λ l22. alloc1 ! (λ l23. alloc0 ! $ params1 ! $
+        pass1 ! (init ! 44 refl (tt, tt)) $ pass1 ! (init ! 42 refl (tt, tt)) $ pass0 ! $
         -- the fields' addresses
-        assigns ! (addr ! (from ! (hop ! (look ! 42 refl) (fld ! refl (stop !))))) (from ! (stop !)) (init ! 38 refl (tt, tt)) $
-        assigns ! (addr ! (from ! (hop ! (look ! 42 refl) (fld ! refl (stop !))))) (from ! (stop !)) (init ! 36 refl (tt, tt)) $
-        assigns ! (addr ! (from ! (hop ! (look ! 42 refl) (fld ! refl (stop !))))) (from ! (stop !)) (init ! 34 refl (tt, tt)) $
-        assigns ! (addr ! (from ! (hop ! (look ! 42 refl) (fld ! refl (stop !))))) (from ! (stop !)) (init ! 32 refl (tt, tt)) $
-        assigns ! (addr ! (from ! (hop ! (look ! 42 refl) (fld ! refl (stop !))))) (from ! (stop !)) (init ! 30 refl (tt, tt)) $
-        assigns ! (addr ! (from ! (hop ! (look ! 42 refl) (fld ! refl (stop !))))) (from ! (stop !)) (init ! 28 refl (tt, tt)) $
-        assigns ! (addr ! (from ! (hop ! (look ! 42 refl) (fld ! refl (stop !))))) (from ! (stop !)) (init ! 26 refl (tt, tt)) $
-        assigns ! (addr ! (from ! (hop ! (look ! 42 refl) (fld ! refl (stop !))))) (from ! (stop !)) (init ! 24 refl (tt, tt)) $
-        assigns ! (addr ! (from ! (hop ! (look ! 42 refl) (fld ! refl (stop !))))) (from ! (stop !)) (init ! 22 refl (tt, tt)) $
-        assigns ! (addr ! (from ! (hop ! (look ! 42 refl) (fld ! refl (stop !))))) (from ! (stop !)) (init ! 20 refl (tt, tt)) $
-        assigns ! (addr ! (from ! (hop ! (look ! 42 refl) (fld ! refl (stop !))))) (from ! (stop !)) (init ! 18 refl (tt, tt)) $
-        assigns ! (addr ! (from ! (hop ! (look ! 42 refl) (fld ! refl (stop !))))) (from ! (stop !)) (init ! 16 refl (tt, tt)) $
-        assigns ! (addr ! (from ! (hop ! (look ! 42 refl) (fld ! refl (stop !))))) (from ! (stop !)) (init ! 14 refl (tt, tt)) $
-        assigns ! (addr ! (from ! (hop ! (look ! 42 refl) (fld ! refl (stop !))))) (from ! (stop !)) (init ! 12 refl (tt, tt)) $
+        assigns ! (addr ! (from ! (hop ! (look ! 44 refl) (fld ! refl (stop !))))) (from ! (stop !)) (init ! 40 refl (tt, tt)) $
+        assigns ! (addr ! (from ! (hop ! (look ! 44 refl) (fld ! refl (stop !))))) (from ! (stop !)) (init ! 38 refl (tt, tt)) $
+        assigns ! (addr ! (from ! (hop ! (look ! 44 refl) (fld ! refl (stop !))))) (from ! (stop !)) (init ! 36 refl (tt, tt)) $
+        assigns ! (addr ! (from ! (hop ! (look ! 44 refl) (fld ! refl (stop !))))) (from ! (stop !)) (init ! 34 refl (tt, tt)) $
+        assigns ! (addr ! (from ! (hop ! (look ! 44 refl) (fld ! refl (stop !))))) (from ! (stop !)) (init ! 32 refl (tt, tt)) $
+        assigns ! (addr ! (from ! (hop ! (look ! 44 refl) (fld ! refl (stop !))))) (from ! (stop !)) (init ! 30 refl (tt, tt)) $
+        assigns ! (addr ! (from ! (hop ! (look ! 44 refl) (fld ! refl (stop !))))) (from ! (stop !)) (init ! 28 refl (tt, tt)) $
+        assigns ! (addr ! (from ! (hop ! (look ! 44 refl) (fld ! refl (stop !))))) (from ! (stop !)) (init ! 26 refl (tt, tt)) $
+        assigns ! (addr ! (from ! (hop ! (look ! 44 refl) (fld ! refl (stop !))))) (from ! (stop !)) (init ! 24 refl (tt, tt)) $
+        assigns ! (addr ! (from ! (hop ! (look ! 44 refl) (fld ! refl (stop !))))) (from ! (stop !)) (init ! 22 refl (tt, tt)) $
+        assigns ! (addr ! (from ! (hop ! (look ! 44 refl) (fld ! refl (stop !))))) (from ! (stop !)) (init ! 20 refl (tt, tt)) $
+        assigns ! (addr ! (from ! (hop ! (look ! 44 refl) (fld ! refl (stop !))))) (from ! (stop !)) (init ! 18 refl (tt, tt)) $
+        assigns ! (addr ! (from ! (hop ! (look ! 44 refl) (fld ! refl (stop !))))) (from ! (stop !)) (init ! 16 refl (tt, tt)) $
+        assigns ! (addr ! (from ! (hop ! (look ! 44 refl) (fld ! refl (stop !))))) (from ! (stop !)) (init ! 14 refl (tt, tt)) $
+        assigns ! (addr ! (from ! (hop ! (look ! 44 refl) (fld ! refl (stop !))))) (from ! (stop !)) (init ! 12 refl (tt, tt)) $
         assigns ! (addr ! (from ! (hop ! (look ! 42 refl) (fld ! refl (stop !))))) (from ! (stop !)) (init ! 10 refl (tt, tt)) $
-        assigns ! (addr ! (from ! (hop ! (look ! 40 refl) (fld ! refl (stop !))))) (from ! (stop !)) (init ! 8 refl (tt, tt)) $
-        assigns ! (addr ! (from ! (hop ! (look ! 40 refl) (fld ! refl (stop !))))) (from ! (stop !)) (init ! 6 refl (tt, tt)) $
-        assigns ! (addr ! (from ! (hop ! (look ! 40 refl) (fld ! refl (stop !))))) (from ! (stop !)) (init ! 4 refl (tt, tt)) $
-        assigns ! (addr ! (from ! (hop ! (look ! 40 refl) (fld ! refl (stop !))))) (from ! (stop !)) (init ! 2 refl (tt, tt)) $
-        assigns ! (addr ! (from ! (hop ! (look ! 40 refl) (fld ! refl (stop !))))) (from ! (stop !)) (init ! 0 refl (tt, tt)) $
+        assigns ! (addr ! (from ! (hop ! (look ! 42 refl) (fld ! refl (stop !))))) (from ! (stop !)) (init ! 8 refl (tt, tt)) $
+        assigns ! (addr ! (from ! (hop ! (look ! 42 refl) (fld ! refl (stop !))))) (from ! (stop !)) (init ! 6 refl (tt, tt)) $
+        assigns ! (addr ! (from ! (hop ! (look ! 42 refl) (fld ! refl (stop !))))) (from ! (stop !)) (init ! 4 refl (tt, tt)) $
+        assigns ! (addr ! (from ! (hop ! (look ! 42 refl) (fld ! refl (stop !))))) (from ! (stop !)) (init ! 2 refl (tt, tt)) $
+        assigns ! (addr ! (from ! (hop ! (look ! 42 refl) (fld ! refl (stop !))))) (from ! (stop !)) (init ! 0 refl (tt, tt)) $
         -- the shared struct's borrow is taken apart into those of its fields
-        move ! (47 ∷ []) $ fsplit ! $ fsplit3 ! $ drop ! $ move ! (49 ∷ []) $ split ! $ move ! (1 ∷ []) $ split ! $ move ! (5 ∷ []) $ fsplit ! $ fsplit3 ! $ drop ! $ drop ! $ move ! (0 ∷ 2 ∷ 1 ∷ []) $
+        move ! (49 ∷ []) $ fsplit ! $ fsplit3 ! $ drop ! $ move ! (51 ∷ []) $ split ! $ move ! (1 ∷ []) $ split ! $ move ! (5 ∷ []) $ fsplit ! $ fsplit3 ! $ drop ! $ drop ! $ move ! (0 ∷ 2 ∷ 1 ∷ []) $
         use3 W (later (some (λ (δs : Marks F0.ms). ‵ (owns Tail′ (tail′ δs) tail-vals′) ⊛ ‵ (flft κ1 q1)))) (share-all (named 1) κ1 𝓤 H A (F0.Whole (p0 .now) (p0 .ptr .0) (p0 .ptr .1)) (p0 .ptr .0) (p0 .ptr .1) W q1 (F0.halved 𝓤 H A W (p0 .now) (p0 .ptr .0) (p0 .ptr .1)) Rest rest rest-vals F0.ms zero (F0.tuple (p0 .now)) (F0.holds 𝓤 H A W (p0 .now) (p0 .ptr .0) (p0 .ptr .1))) $ await ! tt $ pick ! (λ δs. split ! $
         move ! (1 ∷ 2 ∷ []) $ join ! $
         -- the struct's borrow is opened, and the fields are lent for ν
@@ -256,19 +259,19 @@ module _ {M : Type 1} (𝓤 : URA M) (H : Heap 𝓤) (A : Atoms 𝓤) (W : Given
         use2 W (later (some (λ (γs : Names uses). ‵ (owns (Fields ν) (passed ν γs δs) (ptrsAt (named 0) (ν ∷ []) uses zero b o Tail′ tail-vals′)) ⊛ ‵ (lents (named 0) (ν ∷ []) uses zero b o γs) ⊛ ‵ (kept uses zero (tuple h) b o)))) (lend-all (named 0) (ν ∷ []) 𝓤 H A W b o Tail′ (tail′ δs) tail-vals′ uses zero (tuple h)) $ await ! tt $ pick ! (λ γs. split ! $
         move ! (2 ∷ 7 ∷ []) $ join ! $ move ! (0 ∷ 1 ∷ []) $ use2 W (raw (Core 𝓤 Rc H A .pre (to-core ν γs δs))) (with-emp 𝓤 _) $
         calls-at ! fm (Core 𝓤 Rc H A) known (to-core ν γs δs)
-        (and-then ! (load ! (from ! (stop !)) (look ! 44 refl)) (and-then ! (load ! (from ! (stop !)) (look ! 42 refl)) (and-then ! (load ! (from ! (stop !)) (look ! 40 refl)) (and-then ! (load ! (from ! (stop !)) (look ! 38 refl)) (and-then ! (load ! (from ! (stop !)) (look ! 36 refl)) (and-then ! (load ! (from ! (stop !)) (look ! 34 refl)) (and-then ! (load ! (from ! (stop !)) (look ! 32 refl)) (and-then ! (load ! (from ! (stop !)) (look ! 30 refl)) (and-then ! (load ! (from ! (stop !)) (look ! 28 refl)) (and-then ! (load ! (from ! (stop !)) (look ! 26 refl)) (and-then ! (load ! (from ! (stop !)) (look ! 24 refl)) (and-then ! (load ! (from ! (stop !)) (look ! 22 refl)) (and-then ! (load ! (from ! (stop !)) (look ! 20 refl)) (and-then ! (load ! (from ! (stop !)) (look ! 18 refl)) (and-then ! (load ! (from ! (stop !)) (look ! 16 refl)) (and-then ! (load ! (from ! (stop !)) (look ! 14 refl)) (and-then ! (load ! (from ! (stop !)) (look ! 12 refl)) (and-then ! (load ! (from ! (stop !)) (look ! 10 refl)) (and-then ! (load ! (from ! (stop !)) (look ! 8 refl)) (and-then ! (load ! (from ! (stop !)) (look ! 6 refl)) (no-more !))))))))))))))))))))) (λ v.
+        (and-then ! (load ! (from ! (stop !)) (look ! 46 refl)) (and-then ! (load ! (from ! (stop !)) (look ! 44 refl)) (and-then ! (load ! (from ! (stop !)) (look ! 42 refl)) (and-then ! (load ! (from ! (stop !)) (look ! 40 refl)) (and-then ! (load ! (from ! (stop !)) (look ! 38 refl)) (and-then ! (load ! (from ! (stop !)) (look ! 36 refl)) (and-then ! (load ! (from ! (stop !)) (look ! 34 refl)) (and-then ! (load ! (from ! (stop !)) (look ! 32 refl)) (and-then ! (load ! (from ! (stop !)) (look ! 30 refl)) (and-then ! (load ! (from ! (stop !)) (look ! 28 refl)) (and-then ! (load ! (from ! (stop !)) (look ! 26 refl)) (and-then ! (load ! (from ! (stop !)) (look ! 24 refl)) (and-then ! (load ! (from ! (stop !)) (look ! 22 refl)) (and-then ! (load ! (from ! (stop !)) (look ! 20 refl)) (and-then ! (load ! (from ! (stop !)) (look ! 18 refl)) (and-then ! (load ! (from ! (stop !)) (look ! 16 refl)) (and-then ! (load ! (from ! (stop !)) (look ! 14 refl)) (and-then ! (load ! (from ! (stop !)) (look ! 12 refl)) (and-then ! (load ! (from ! (stop !)) (look ! 10 refl)) (and-then ! (load ! (from ! (stop !)) (look ! 8 refl)) (and-then ! (load ! (from ! (stop !)) (look ! 6 refl)) (no-more !)))))))))))))))))))))) (λ v.
         use1 W (later (some (λ (r : Report). ((‵ (flft (ν ∷ []) fullShare) ⊛ (‵ (flft κ1 q1) ⊛ ‵ ftrue)) ⊛ ‵ (Res.the-row .own r (v ∷ []))) ⊛ raw (ensured 𝓤 H A core-ended (core-clauses 𝓤 Rc) (ν ∷ [], (κ1, tt)) (passed ν γs δs) tt r)))) (id⊢ 𝓤 _) $ await ! tt $ pick ! (λ r. split ! $ move ! (1 ∷ []) $
-        use1 W (some (λ (ws : (List ℕ × (List ℕ × (List ℕ × (List ℕ × (List ℕ × (List ℕ × (List ℕ × (ℕ × (ℕ × (ℕ × (ℕ × (ℕ × (ℕ × (ℕ × (List ℕ × (Unit {0} × (Unit {0} × (Unit {0} × (Unit {0} × (Unit {0} × Unit {0}))))))))))))))))))))). ‵ (finals (named 0) (ν ∷ []) uses γs (ws .0, (ws .1 .0, (ws .1 .1 .0, (ws .1 .1 .1 .0, (ws .1 .1 .1 .1 .0, (ws .1 .1 .1 .1 .1 .0, (ws .1 .1 .1 .1 .1 .1 .0, (ws .1 .1 .1 .1 .1 .1 .1 .0, (ws .1 .1 .1 .1 .1 .1 .1 .1 .0, (ws .1 .1 .1 .1 .1 .1 .1 .1 .1 .0, (ws .1 .1 .1 .1 .1 .1 .1 .1 .1 .1 .0, (ws .1 .1 .1 .1 .1 .1 .1 .1 .1 .1 .1 .0, (ws .1 .1 .1 .1 .1 .1 .1 .1 .1 .1 .1 .1 .0, (ws .1 .1 .1 .1 .1 .1 .1 .1 .1 .1 .1 .1 .1 .0, (ws .1 .1 .1 .1 .1 .1 .1 .1 .1 .1 .1 .1 .1 .1 .0, tt))))))))))))))) (fsep ftrue (fsep ftrue (fsep ftrue (fsep ftrue (fsep ftrue ftrue)))))) ⊛ raw (fact 𝓤 (Rc (h .ids) (h .asked) (h .callers) (h .deadlines) (h .counts) (h .clients) (h .originals) (h .top) (h .cursor) (h .attached) (h .clock) (h .timeout) (h .join) (h .tagged) (h .tags) (p0 .now .timeout) (p0 .now .join) (p0 .now .tags) (p0 .now .addr) (p0 .now .width) r (ws .0) (ws .1 .0) (ws .1 .1 .0) (ws .1 .1 .1 .0) (ws .1 .1 .1 .1 .0) (ws .1 .1 .1 .1 .1 .0) (ws .1 .1 .1 .1 .1 .1 .0) (ws .1 .1 .1 .1 .1 .1 .1 .0) (ws .1 .1 .1 .1 .1 .1 .1 .1 .0) (ws .1 .1 .1 .1 .1 .1 .1 .1 .1 .0) (ws .1 .1 .1 .1 .1 .1 .1 .1 .1 .1 .0) (ws .1 .1 .1 .1 .1 .1 .1 .1 .1 .1 .1 .0) (ws .1 .1 .1 .1 .1 .1 .1 .1 .1 .1 .1 .1 .0) (ws .1 .1 .1 .1 .1 .1 .1 .1 .1 .1 .1 .1 .1 .0) (ws .1 .1 .1 .1 .1 .1 .1 .1 .1 .1 .1 .1 .1 .1 .0))))) (id⊢ 𝓤 _) $ pick ! (λ ws. split ! $ move ! (1 ∷ []) $
-        heard ! (Rc (h .ids) (h .asked) (h .callers) (h .deadlines) (h .counts) (h .clients) (h .originals) (h .top) (h .cursor) (h .attached) (h .clock) (h .timeout) (h .join) (h .tagged) (h .tags) (p0 .now .timeout) (p0 .now .join) (p0 .now .tags) (p0 .now .addr) (p0 .now .width) r (ws .0) (ws .1 .0) (ws .1 .1 .0) (ws .1 .1 .1 .0) (ws .1 .1 .1 .1 .0) (ws .1 .1 .1 .1 .1 .0) (ws .1 .1 .1 .1 .1 .1 .0) (ws .1 .1 .1 .1 .1 .1 .1 .0) (ws .1 .1 .1 .1 .1 .1 .1 .1 .0) (ws .1 .1 .1 .1 .1 .1 .1 .1 .1 .0) (ws .1 .1 .1 .1 .1 .1 .1 .1 .1 .1 .0) (ws .1 .1 .1 .1 .1 .1 .1 .1 .1 .1 .1 .0) (ws .1 .1 .1 .1 .1 .1 .1 .1 .1 .1 .1 .1 .0) (ws .1 .1 .1 .1 .1 .1 .1 .1 .1 .1 .1 .1 .1 .0) (ws .1 .1 .1 .1 .1 .1 .1 .1 .1 .1 .1 .1 .1 .1 .0)) (λ e. move ! (1 ∷ []) $ split ! $ split ! $ lft-end ! tt $ move ! (0 ∷ 4 ∷ 3 ∷ []) $
-        use3 W (later (‵ (partsAt fullShare ms zero (after uses (tuple h) (ws .0, (ws .1 .0, (ws .1 .1 .0, (ws .1 .1 .1 .0, (ws .1 .1 .1 .1 .0, (ws .1 .1 .1 .1 .1 .0, (ws .1 .1 .1 .1 .1 .1 .0, (ws .1 .1 .1 .1 .1 .1 .1 .0, (ws .1 .1 .1 .1 .1 .1 .1 .1 .0, (ws .1 .1 .1 .1 .1 .1 .1 .1 .1 .0, (ws .1 .1 .1 .1 .1 .1 .1 .1 .1 .1 .0, (ws .1 .1 .1 .1 .1 .1 .1 .1 .1 .1 .1 .0, (ws .1 .1 .1 .1 .1 .1 .1 .1 .1 .1 .1 .1 .0, (ws .1 .1 .1 .1 .1 .1 .1 .1 .1 .1 .1 .1 .1 .0, (ws .1 .1 .1 .1 .1 .1 .1 .1 .1 .1 .1 .1 .1 .1 .0, tt)))))))))))))))) b o) ⊛ ‵ (fsep ftrue (fsep ftrue (fsep ftrue (fsep ftrue (fsep ftrue ftrue))))))) (back-all (named 0) (ν ∷ []) 𝓤 H A W b o uses zero γs (tuple h) (ws .0, (ws .1 .0, (ws .1 .1 .0, (ws .1 .1 .1 .0, (ws .1 .1 .1 .1 .0, (ws .1 .1 .1 .1 .1 .0, (ws .1 .1 .1 .1 .1 .1 .0, (ws .1 .1 .1 .1 .1 .1 .1 .0, (ws .1 .1 .1 .1 .1 .1 .1 .1 .0, (ws .1 .1 .1 .1 .1 .1 .1 .1 .1 .0, (ws .1 .1 .1 .1 .1 .1 .1 .1 .1 .1 .0, (ws .1 .1 .1 .1 .1 .1 .1 .1 .1 .1 .1 .0, (ws .1 .1 .1 .1 .1 .1 .1 .1 .1 .1 .1 .1 .0, (ws .1 .1 .1 .1 .1 .1 .1 .1 .1 .1 .1 .1 .1 .0, (ws .1 .1 .1 .1 .1 .1 .1 .1 .1 .1 .1 .1 .1 .1 .0, tt))))))))))))))) (fsep ftrue (fsep ftrue (fsep ftrue (fsep ftrue (fsep ftrue ftrue)))))) $ await ! tt $ split ! $
+        use1 W (some (λ (ws : (List ℕ × (List ℕ × (List ℕ × (List ℕ × (List ℕ × (List ℕ × (List ℕ × (ℕ × (ℕ × (ℕ × (ℕ × (ℕ × (ℕ × (ℕ × (List ℕ × (Unit {0} × (Unit {0} × (Unit {0} × (Unit {0} × (Unit {0} × (Unit {0} × Unit {0})))))))))))))))))))))). ‵ (finals (named 0) (ν ∷ []) uses γs (ws .0, (ws .1 .0, (ws .1 .1 .0, (ws .1 .1 .1 .0, (ws .1 .1 .1 .1 .0, (ws .1 .1 .1 .1 .1 .0, (ws .1 .1 .1 .1 .1 .1 .0, (ws .1 .1 .1 .1 .1 .1 .1 .0, (ws .1 .1 .1 .1 .1 .1 .1 .1 .0, (ws .1 .1 .1 .1 .1 .1 .1 .1 .1 .0, (ws .1 .1 .1 .1 .1 .1 .1 .1 .1 .1 .0, (ws .1 .1 .1 .1 .1 .1 .1 .1 .1 .1 .1 .0, (ws .1 .1 .1 .1 .1 .1 .1 .1 .1 .1 .1 .1 .0, (ws .1 .1 .1 .1 .1 .1 .1 .1 .1 .1 .1 .1 .1 .0, (ws .1 .1 .1 .1 .1 .1 .1 .1 .1 .1 .1 .1 .1 .1 .0, tt))))))))))))))) (fsep ftrue (fsep ftrue (fsep ftrue (fsep ftrue (fsep ftrue (fsep ftrue ftrue))))))) ⊛ raw (fact 𝓤 (Rc (h .ids) (h .asked) (h .callers) (h .deadlines) (h .counts) (h .clients) (h .originals) (h .top) (h .cursor) (h .attached) (h .clock) (h .timeout) (h .join) (h .tagged) (h .tags) (p0 .now .timeout) (p0 .now .join) (p0 .now .tags) (p0 .now .addr) (p0 .now .width) (p0 .now .sign) r (ws .0) (ws .1 .0) (ws .1 .1 .0) (ws .1 .1 .1 .0) (ws .1 .1 .1 .1 .0) (ws .1 .1 .1 .1 .1 .0) (ws .1 .1 .1 .1 .1 .1 .0) (ws .1 .1 .1 .1 .1 .1 .1 .0) (ws .1 .1 .1 .1 .1 .1 .1 .1 .0) (ws .1 .1 .1 .1 .1 .1 .1 .1 .1 .0) (ws .1 .1 .1 .1 .1 .1 .1 .1 .1 .1 .0) (ws .1 .1 .1 .1 .1 .1 .1 .1 .1 .1 .1 .0) (ws .1 .1 .1 .1 .1 .1 .1 .1 .1 .1 .1 .1 .0) (ws .1 .1 .1 .1 .1 .1 .1 .1 .1 .1 .1 .1 .1 .0) (ws .1 .1 .1 .1 .1 .1 .1 .1 .1 .1 .1 .1 .1 .1 .0))))) (id⊢ 𝓤 _) $ pick ! (λ ws. split ! $ move ! (1 ∷ []) $
+        heard ! (Rc (h .ids) (h .asked) (h .callers) (h .deadlines) (h .counts) (h .clients) (h .originals) (h .top) (h .cursor) (h .attached) (h .clock) (h .timeout) (h .join) (h .tagged) (h .tags) (p0 .now .timeout) (p0 .now .join) (p0 .now .tags) (p0 .now .addr) (p0 .now .width) (p0 .now .sign) r (ws .0) (ws .1 .0) (ws .1 .1 .0) (ws .1 .1 .1 .0) (ws .1 .1 .1 .1 .0) (ws .1 .1 .1 .1 .1 .0) (ws .1 .1 .1 .1 .1 .1 .0) (ws .1 .1 .1 .1 .1 .1 .1 .0) (ws .1 .1 .1 .1 .1 .1 .1 .1 .0) (ws .1 .1 .1 .1 .1 .1 .1 .1 .1 .0) (ws .1 .1 .1 .1 .1 .1 .1 .1 .1 .1 .0) (ws .1 .1 .1 .1 .1 .1 .1 .1 .1 .1 .1 .0) (ws .1 .1 .1 .1 .1 .1 .1 .1 .1 .1 .1 .1 .0) (ws .1 .1 .1 .1 .1 .1 .1 .1 .1 .1 .1 .1 .1 .0) (ws .1 .1 .1 .1 .1 .1 .1 .1 .1 .1 .1 .1 .1 .1 .0)) (λ e. move ! (1 ∷ []) $ split ! $ split ! $ lft-end ! tt $ move ! (0 ∷ 4 ∷ 3 ∷ []) $
+        use3 W (later (‵ (partsAt fullShare ms zero (after uses (tuple h) (ws .0, (ws .1 .0, (ws .1 .1 .0, (ws .1 .1 .1 .0, (ws .1 .1 .1 .1 .0, (ws .1 .1 .1 .1 .1 .0, (ws .1 .1 .1 .1 .1 .1 .0, (ws .1 .1 .1 .1 .1 .1 .1 .0, (ws .1 .1 .1 .1 .1 .1 .1 .1 .0, (ws .1 .1 .1 .1 .1 .1 .1 .1 .1 .0, (ws .1 .1 .1 .1 .1 .1 .1 .1 .1 .1 .0, (ws .1 .1 .1 .1 .1 .1 .1 .1 .1 .1 .1 .0, (ws .1 .1 .1 .1 .1 .1 .1 .1 .1 .1 .1 .1 .0, (ws .1 .1 .1 .1 .1 .1 .1 .1 .1 .1 .1 .1 .1 .0, (ws .1 .1 .1 .1 .1 .1 .1 .1 .1 .1 .1 .1 .1 .1 .0, tt)))))))))))))))) b o) ⊛ ‵ (fsep ftrue (fsep ftrue (fsep ftrue (fsep ftrue (fsep ftrue (fsep ftrue ftrue)))))))) (back-all (named 0) (ν ∷ []) 𝓤 H A W b o uses zero γs (tuple h) (ws .0, (ws .1 .0, (ws .1 .1 .0, (ws .1 .1 .1 .0, (ws .1 .1 .1 .1 .0, (ws .1 .1 .1 .1 .1 .0, (ws .1 .1 .1 .1 .1 .1 .0, (ws .1 .1 .1 .1 .1 .1 .1 .0, (ws .1 .1 .1 .1 .1 .1 .1 .1 .0, (ws .1 .1 .1 .1 .1 .1 .1 .1 .1 .0, (ws .1 .1 .1 .1 .1 .1 .1 .1 .1 .1 .0, (ws .1 .1 .1 .1 .1 .1 .1 .1 .1 .1 .1 .0, (ws .1 .1 .1 .1 .1 .1 .1 .1 .1 .1 .1 .1 .0, (ws .1 .1 .1 .1 .1 .1 .1 .1 .1 .1 .1 .1 .1 .0, (ws .1 .1 .1 .1 .1 .1 .1 .1 .1 .1 .1 .1 .1 .1 .0, tt))))))))))))))) (fsep ftrue (fsep ftrue (fsep ftrue (fsep ftrue (fsep ftrue (fsep ftrue ftrue))))))) $ await ! tt $ split ! $
         move ! (0 ∷ 4 ∷ 5 ∷ 6 ∷ 7 ∷ []) $ gives ! tt (record { ids = (ws .0); asked = (ws .1 .0); callers = (ws .1 .1 .0); deadlines = (ws .1 .1 .1 .0); counts = (ws .1 .1 .1 .1 .0); clients = (ws .1 .1 .1 .1 .1 .0); originals = (ws .1 .1 .1 .1 .1 .1 .0); top = (ws .1 .1 .1 .1 .1 .1 .1 .0); cursor = (ws .1 .1 .1 .1 .1 .1 .1 .1 .0); attached = (ws .1 .1 .1 .1 .1 .1 .1 .1 .1 .0); clock = (ws .1 .1 .1 .1 .1 .1 .1 .1 .1 .1 .0); timeout = (ws .1 .1 .1 .1 .1 .1 .1 .1 .1 .1 .1 .0); join = (ws .1 .1 .1 .1 .1 .1 .1 .1 .1 .1 .1 .1 .0); tagged = (ws .1 .1 .1 .1 .1 .1 .1 .1 .1 .1 .1 .1 .1 .0); tags = (ws .1 .1 .1 .1 .1 .1 .1 .1 .1 .1 .1 .1 .1 .1 .0) }) b o $
-        move ! (3 ∷ []) $ fsplit ! $ drop ! $ fsplit ! $ drop ! $ fsplit ! $ drop ! $ fsplit ! $ drop ! $ fsplit ! $ drop ! $ drop ! $ move ! (4 ∷ []) $ peeks ! Res.the-row (Is Res.the-row) (shows 𝓤 H A Res.the-row) r (v ∷ []) (λ is.
-        move ! (0 ∷ 1 ∷ 2 ∷ 3 ∷ 4 ∷ []) $ land ! (from ! (stop !)) (init ! 49 refl (LL.lawful Res.the-type Res′.the-laws 𝓤 H A W .typed r _ is .0)) $
-        returns ! (look ! 49 refl) $ forget ! 5 refl $ forget ! 7 refl $ forget ! 9 refl $ forget ! 11 refl $ forget ! 13 refl $ forget ! 15 refl $ forget ! 17 refl $ forget ! 19 refl $ forget ! 21 refl $ forget ! 23 refl $ forget ! 25 refl $ forget ! 27 refl $ forget ! 29 refl $ forget ! 31 refl $ forget ! 33 refl $ forget ! 35 refl $ forget ! 37 refl $ forget ! 39 refl $ forget ! 41 refl $ forget ! 43 refl $ forget ! 45 refl $ forget ! 47 refl $ forget ! 49 refl $
-        move ! (49 ∷ 50 ∷ []) $ free1 ! $ move ! (47 ∷ 48 ∷ []) $ free1 ! $ move ! (45 ∷ 46 ∷ []) $ free1 ! $ move ! (43 ∷ 44 ∷ []) $ free1 ! $ move ! (41 ∷ 42 ∷ []) $ free1 ! $ move ! (39 ∷ 40 ∷ []) $ free1 ! $ move ! (37 ∷ 38 ∷ []) $ free1 ! $ move ! (35 ∷ 36 ∷ []) $ free1 ! $ move ! (33 ∷ 34 ∷ []) $ free1 ! $ move ! (31 ∷ 32 ∷ []) $ free1 ! $ move ! (29 ∷ 30 ∷ []) $ free1 ! $ move ! (27 ∷ 28 ∷ []) $ free1 ! $ move ! (25 ∷ 26 ∷ []) $ free1 ! $ move ! (23 ∷ 24 ∷ []) $ free1 ! $ move ! (21 ∷ 22 ∷ []) $ free1 ! $ move ! (19 ∷ 20 ∷ []) $ free1 ! $ move ! (17 ∷ 18 ∷ []) $ free1 ! $ move ! (15 ∷ 16 ∷ []) $ free1 ! $ move ! (13 ∷ 14 ∷ []) $ free1 ! $ move ! (11 ∷ 12 ∷ []) $ free1 ! $ move ! (9 ∷ 10 ∷ []) $ free1 ! $ move ! (7 ∷ 8 ∷ []) $ free1 ! $ move ! (5 ∷ 6 ∷ []) $ free1 ! $ free0 ! $
-        keep ! (0 ∷ 1 ∷ 2 ∷ 3 ∷ 4 ∷ []) $ by ! (exits r v (record { ids = (ws .0); asked = (ws .1 .0); callers = (ws .1 .1 .0); deadlines = (ws .1 .1 .1 .0); counts = (ws .1 .1 .1 .1 .0); clients = (ws .1 .1 .1 .1 .1 .0); originals = (ws .1 .1 .1 .1 .1 .1 .0); top = (ws .1 .1 .1 .1 .1 .1 .1 .0); cursor = (ws .1 .1 .1 .1 .1 .1 .1 .1 .0); attached = (ws .1 .1 .1 .1 .1 .1 .1 .1 .1 .0); clock = (ws .1 .1 .1 .1 .1 .1 .1 .1 .1 .1 .0); timeout = (ws .1 .1 .1 .1 .1 .1 .1 .1 .1 .1 .1 .0); join = (ws .1 .1 .1 .1 .1 .1 .1 .1 .1 .1 .1 .1 .0); tagged = (ws .1 .1 .1 .1 .1 .1 .1 .1 .1 .1 .1 .1 .1 .0); tags = (ws .1 .1 .1 .1 .1 .1 .1 .1 .1 .1 .1 .1 .1 .1 .0) }) (imp h (p0 .now) r (ws .0) (ws .1 .0) (ws .1 .1 .0) (ws .1 .1 .1 .0) (ws .1 .1 .1 .1 .0) (ws .1 .1 .1 .1 .1 .0) (ws .1 .1 .1 .1 .1 .1 .0) (ws .1 .1 .1 .1 .1 .1 .1 .0) (ws .1 .1 .1 .1 .1 .1 .1 .1 .0) (ws .1 .1 .1 .1 .1 .1 .1 .1 .1 .0) (ws .1 .1 .1 .1 .1 .1 .1 .1 .1 .1 .0) (ws .1 .1 .1 .1 .1 .1 .1 .1 .1 .1 .1 .0) (ws .1 .1 .1 .1 .1 .1 .1 .1 .1 .1 .1 .1 .0) (ws .1 .1 .1 .1 .1 .1 .1 .1 .1 .1 .1 .1 .1 .0) (ws .1 .1 .1 .1 .1 .1 .1 .1 .1 .1 .1 .1 .1 .1 .0) e)))))))))))))))))))))))))))))))))
+        move ! (3 ∷ []) $ fsplit ! $ drop ! $ fsplit ! $ drop ! $ fsplit ! $ drop ! $ fsplit ! $ drop ! $ fsplit ! $ drop ! $ fsplit ! $ drop ! $ drop ! $ move ! (4 ∷ []) $ peeks ! Res.the-row (Is Res.the-row) (shows 𝓤 H A Res.the-row) r (v ∷ []) (λ is.
+        move ! (0 ∷ 1 ∷ 2 ∷ 3 ∷ 4 ∷ []) $ land ! (from ! (stop !)) (init ! 51 refl (LL.lawful Res.the-type Res′.the-laws 𝓤 H A W .typed r _ is .0)) $
+        returns ! (look ! 51 refl) $ forget ! 5 refl $ forget ! 7 refl $ forget ! 9 refl $ forget ! 11 refl $ forget ! 13 refl $ forget ! 15 refl $ forget ! 17 refl $ forget ! 19 refl $ forget ! 21 refl $ forget ! 23 refl $ forget ! 25 refl $ forget ! 27 refl $ forget ! 29 refl $ forget ! 31 refl $ forget ! 33 refl $ forget ! 35 refl $ forget ! 37 refl $ forget ! 39 refl $ forget ! 41 refl $ forget ! 43 refl $ forget ! 45 refl $ forget ! 47 refl $ forget ! 49 refl $ forget ! 51 refl $
+        move ! (51 ∷ 52 ∷ []) $ free1 ! $ move ! (49 ∷ 50 ∷ []) $ free1 ! $ move ! (47 ∷ 48 ∷ []) $ free1 ! $ move ! (45 ∷ 46 ∷ []) $ free1 ! $ move ! (43 ∷ 44 ∷ []) $ free1 ! $ move ! (41 ∷ 42 ∷ []) $ free1 ! $ move ! (39 ∷ 40 ∷ []) $ free1 ! $ move ! (37 ∷ 38 ∷ []) $ free1 ! $ move ! (35 ∷ 36 ∷ []) $ free1 ! $ move ! (33 ∷ 34 ∷ []) $ free1 ! $ move ! (31 ∷ 32 ∷ []) $ free1 ! $ move ! (29 ∷ 30 ∷ []) $ free1 ! $ move ! (27 ∷ 28 ∷ []) $ free1 ! $ move ! (25 ∷ 26 ∷ []) $ free1 ! $ move ! (23 ∷ 24 ∷ []) $ free1 ! $ move ! (21 ∷ 22 ∷ []) $ free1 ! $ move ! (19 ∷ 20 ∷ []) $ free1 ! $ move ! (17 ∷ 18 ∷ []) $ free1 ! $ move ! (15 ∷ 16 ∷ []) $ free1 ! $ move ! (13 ∷ 14 ∷ []) $ free1 ! $ move ! (11 ∷ 12 ∷ []) $ free1 ! $ move ! (9 ∷ 10 ∷ []) $ free1 ! $ move ! (7 ∷ 8 ∷ []) $ free1 ! $ move ! (5 ∷ 6 ∷ []) $ free1 ! $ free0 ! $
+        keep ! (0 ∷ 1 ∷ 2 ∷ 3 ∷ 4 ∷ []) $ by ! (exits r v (record { ids = (ws .0); asked = (ws .1 .0); callers = (ws .1 .1 .0); deadlines = (ws .1 .1 .1 .0); counts = (ws .1 .1 .1 .1 .0); clients = (ws .1 .1 .1 .1 .1 .0); originals = (ws .1 .1 .1 .1 .1 .1 .0); top = (ws .1 .1 .1 .1 .1 .1 .1 .0); cursor = (ws .1 .1 .1 .1 .1 .1 .1 .1 .0); attached = (ws .1 .1 .1 .1 .1 .1 .1 .1 .1 .0); clock = (ws .1 .1 .1 .1 .1 .1 .1 .1 .1 .1 .0); timeout = (ws .1 .1 .1 .1 .1 .1 .1 .1 .1 .1 .1 .0); join = (ws .1 .1 .1 .1 .1 .1 .1 .1 .1 .1 .1 .1 .0); tagged = (ws .1 .1 .1 .1 .1 .1 .1 .1 .1 .1 .1 .1 .1 .0); tags = (ws .1 .1 .1 .1 .1 .1 .1 .1 .1 .1 .1 .1 .1 .1 .0) }) (imp h (p0 .now) r (ws .0) (ws .1 .0) (ws .1 .1 .0) (ws .1 .1 .1 .0) (ws .1 .1 .1 .1 .0) (ws .1 .1 .1 .1 .1 .0) (ws .1 .1 .1 .1 .1 .1 .0) (ws .1 .1 .1 .1 .1 .1 .1 .0) (ws .1 .1 .1 .1 .1 .1 .1 .1 .0) (ws .1 .1 .1 .1 .1 .1 .1 .1 .1 .0) (ws .1 .1 .1 .1 .1 .1 .1 .1 .1 .1 .0) (ws .1 .1 .1 .1 .1 .1 .1 .1 .1 .1 .1 .0) (ws .1 .1 .1 .1 .1 .1 .1 .1 .1 .1 .1 .1 .0) (ws .1 .1 .1 .1 .1 .1 .1 .1 .1 .1 .1 .1 .1 .0) (ws .1 .1 .1 .1 .1 .1 .1 .1 .1 .1 .1 .1 .1 .1 .0) e))))))))))))))))))))))))))))))))))
 
-module _ {M : Type 1} (𝓤 : URA M) (H : Heap 𝓤) (A : Atoms 𝓤) (W : Given 𝓤 H A) (g : Name) (R : Rel) (Rc : CoreRel) (imp : ((h : Device) (p0 : Settings) (r : Report) (w0 : List ℕ) (w1 : List ℕ) (w2 : List ℕ) (w3 : List ℕ) (w4 : List ℕ) (w5 : List ℕ) (w6 : List ℕ) (w7 : ℕ) (w8 : ℕ) (w9 : ℕ) (w10 : ℕ) (w11 : ℕ) (w12 : ℕ) (w13 : ℕ) (w14 : List ℕ) → Rc (h .ids) (h .asked) (h .callers) (h .deadlines) (h .counts) (h .clients) (h .originals) (h .top) (h .cursor) (h .attached) (h .clock) (h .timeout) (h .join) (h .tagged) (h .tags) (p0 .timeout) (p0 .join) (p0 .tags) (p0 .addr) (p0 .width) r w0 w1 w2 w3 w4 w5 w6 w7 w8 w9 w10 w11 w12 w13 w14 → R h p0 r (record { ids = w0; asked = w1; callers = w2; deadlines = w3; counts = w4; clients = w5; originals = w6; top = w7; cursor = w8; attached = w9; clock = w10; timeout = w11; join = w12; tagged = w13; tags = w14 }))) where
+module _ {M : Type 1} (𝓤 : URA M) (H : Heap 𝓤) (A : Atoms 𝓤) (W : Given 𝓤 H A) (g : Name) (R : Rel) (Rc : CoreRel) (imp : ((h : Device) (p0 : Settings) (r : Report) (w0 : List ℕ) (w1 : List ℕ) (w2 : List ℕ) (w3 : List ℕ) (w4 : List ℕ) (w5 : List ℕ) (w6 : List ℕ) (w7 : ℕ) (w8 : ℕ) (w9 : ℕ) (w10 : ℕ) (w11 : ℕ) (w12 : ℕ) (w13 : ℕ) (w14 : List ℕ) → Rc (h .ids) (h .asked) (h .callers) (h .deadlines) (h .counts) (h .clients) (h .originals) (h .top) (h .cursor) (h .attached) (h .clock) (h .timeout) (h .join) (h .tagged) (h .tags) (p0 .timeout) (p0 .join) (p0 .tags) (p0 .addr) (p0 .width) (p0 .sign) r w0 w1 w2 w3 w4 w5 w6 w7 w8 w9 w10 w11 w12 w13 w14 → R h p0 r (record { ids = w0; asked = w1; callers = w2; deadlines = w3; counts = w4; clients = w5; originals = w6; top = w7; cursor = w8; attached = w9; clock = w10; timeout = w11; join = w12; tagged = w13; tags = w14 }))) where
   entry-walks : (C : Calls 𝓤 H) (Λ : Loops 𝓤 H) → FmC 𝓤 H (W .laws) C → Triple 𝓤 (C g) (Core 𝓤 Rc H A) → Walks 𝓤 H A ended stayed (WpFn 𝓤 H C Λ (function g)) (clauses 𝓤 R)
   entry-walks C Λ fm known = walked 𝓤 H A ended stayed (clauses 𝓤 R) (WpFn 𝓤 H C Λ (function g)) (λ κs. (ptr-vals, (ptr-vals, tt)))
       (λ κs. (mut-tells (named 0) (κs .0) T.the-row, (shr-tells (named 1) (κs .1 .0) P0.the-row, tt)))

@@ -46,15 +46,18 @@ m-addr = record { row = Array u16 256; ty = tyArray (tyInt w16) 256 }
 abbrev pub m-width : Member
 m-width = record { row = Array u16 256; ty = tyArray (tyInt w16) 256 }
 
+abbrev pub m-sign : Member
+m-sign = record { row = Array u16 256; ty = tyArray (tyInt w16) 256 }
+
 abbrev pub ms : List Member
-ms = m-timeout ∷ m-join ∷ m-tags ∷ m-addr ∷ m-width ∷ []
+ms = m-timeout ∷ m-join ∷ m-tags ∷ m-addr ∷ m-width ∷ m-sign ∷ []
 
 abbrev pub tuple : Settings → Denots (rowsOf ms)
-tuple h = (h .timeout, (h .join, (h .tags, (h .addr, (h .width, tt)))))
+tuple h = (h .timeout, (h .join, (h .tags, (h .addr, (h .width, (h .sign, tt))))))
 
 -- a field that is an array stands in the struct's value as `map (λ x. x)` of its list
 to-tuple : (h : Settings) → T.the-type .to h ≡ tuple h
-to-tuple h = λ i. (h .timeout, (h .join, (h .tags, (map-id (h .addr) i, (map-id (h .width) i, tt)))))
+to-tuple h = λ i. (h .timeout, (h .join, (h .tags, (map-id (h .addr) i, (map-id (h .width) i, (map-id (h .sign) i, tt))))))
 
 abbrev pub Whole : Settings → ℕ → ℕ → Share → Fml
 Whole h b o s = partAt T.the-row s h b o

@@ -31,9 +31,9 @@ use Rattle.machine.specs.Outcomes.{granted, outcome}
 use Rattle.machine.specs.declared.Answer.{Answer}
 use Rattle.machine.specs.declared.Answer.the-variants.{Issued, Joined, Answered, TimedOut, NothingDue, Done as Finished}
 
--- the document's settings: timeout 3000, join 1, a tag of width 16 at 1,024 and one of width 32 at 1,026
+-- the document's settings: timeout 3000, join 1, a tag of width 16 at 1,024 and one of width 32 at 1,026, both without a sign
 abbrev pub tag : ℕ → ℕ → Tag
-tag a w = record { address = a; width = w }
+tag a w = record { address = a; width = w; sign = 0 }
 
 abbrev pub site : Value
 site = record { timeout = 3000; join = 1; tags = tag 1024 16 ∷ tag 1026 32 ∷ [] }

@@ -1,5 +1,5 @@
 -- The sizes, bounds and codes of documents 01 and 02, once and by name. The code has them as constants of the same names; only the number of ids, which 16 bits do not hold, is the last
--- id there, and the distance of ids and digits to a register are words of the definitions alone. A refusal's number is its name in document 01, and a width that of a kind of tag: they stand where they
+-- id there, and the distance of ids, digits to a register and the nibble of minus are words of the definitions alone. A refusal's number is its name in document 01, and a width that of a kind of tag: they stand where they
 -- are given. Refusals: the rows of machine/specs/Refusals.antt, proxy/specs/Gates.antt for those told before a frame is looked into and for a fresh state, and the reports of the
 -- calls that need no device.
 -- Assumes nothing.
@@ -149,13 +149,19 @@ exceptionLength = 3
 abbrev pub exceptionFrame : ℕ
 exceptionFrame = 9
 
--- "BCD words": decimal digits to a register
+-- "BCD words": decimal digits to a register; and, by request #105, to one whose top nibble is a sign, with the nibble of minus
 abbrev pub digitsPerRegister : ℕ
 digitsPerRegister = 4
 
+abbrev pub signedDigits : ℕ
+signedDigits = 3
+
+abbrev pub minus : ℕ
+minus = 15
+
 -- "Settings text": the version that is written, and the most bytes that a right text has
 abbrev pub newestVersion : ℕ
-newestVersion = 1
+newestVersion = 2
 
 abbrev pub mostText : ℕ
-mostText = 5160
+mostText = 6952

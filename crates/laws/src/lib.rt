@@ -91,9 +91,9 @@ pub const EXCEPTION_LENGTH: u8 = 3;
 
 pub const EXCEPTION_FRAME: usize = 9;
 
-pub const NEWEST_VERSION: u32 = 1;
+pub const NEWEST_VERSION: u32 = 2;
 
-pub const MOST_TEXT: usize = 5160;
+pub const MOST_TEXT: usize = 6952;
 
 // A byte as an index or a term of a sum: only its place is asked, and the bound comes back.
 pub fn wide(x: u8) -> usize

@@ -75,10 +75,7 @@ pub fn is_reencoded(tags: &[u64; laws::MOST_TAGS], tagged: usize, address: u16, 
     if (tag_address(word) as usize != at) | (rewrite::last_of(word) != at) {
         return false;
     }
-    match bcd::encode(tag_kind(word), value as u32) {
-        Encoded::Bcd(_) => true,
-        Encoded::OutOfRange => false,
-    }
+    bcd::is_in_range(tag_kind(word), value as u32)
 }
 
 // The number that a tag's registers from byte k on are.

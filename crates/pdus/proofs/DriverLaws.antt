@@ -1,4 +1,4 @@
--- The frames of the examples are as the rewriter asks: a legal request, a reply that answers it, and document 01's two tags as words.
+-- The frames of the examples are as the rewriter asks: a legal request, a reply that answers it, and the four tags as words.
 -- Assumes nothing.
 use Prim.Native.Nat.{ℕ, _≤_, _<_}
 use mathlib.Core.Path.{_≡_}
@@ -10,7 +10,7 @@ use Rattle.laws.specs.Numbers.{mostFrame}
 use Rattle.wire.specs.Frame.{misframed}
 use Rattle.wire.proofs.FrameLaws.{framed}
 use Rattle.bcd.specs.Bcd.{registers}
-use Rattle.settings.specs.TagWords.{kindOf, widthOf, kindNumber, kindFrom, wordOf, tagOf, Ascending}
+use Rattle.settings.specs.TagWords.{kindOf, widthOf, signOf, kindNumber, kindFrom, wordOf, tagOf, Ascending}
 use Rattle.pdu.specs.Requests.{checkedOf}
 use Rattle.pdu.specs.Replies.{what, excepts, answering}
 use Rattle.pdu.specs.declared.Asked.{Asked}
@@ -30,8 +30,9 @@ module _ (f : List ℕ) {a : Asked} (bytes : (k : ℕ) → getD f k 0 < 256) (le
   pub brings : (r : List ℕ) (unit function : ℕ) → answering (what unit function a) r ≡ true → excepts function r ≡ false → Brought a r
   brings r unit function e x = answer-brought (what unit function a) r (legal-proper f a bytes legal .lawful) e x
 
--- Document 01's two tags, width 16 at 1024 and width 32 at 1026, ascend.
-pub two-tags : {a b : ℕ} → a ≡ wordOf (record { address = 1024; width = 16 }) → b ≡ wordOf (record { address = 1026; width = 32 })
-    → Ascending 0 (tagOf a ∷ tagOf b ∷ [])
-unfolding Ascending tagOf wordOf kindOf kindNumber kindFrom widthOf registers
-two-tags p q = rw p (rw q (omega arith, omega arith, (omega arith, omega arith, tt)))
+-- Document 01's two tags, width 16 at 1024 and width 32 at 1026, and behind them a signed one at 1028 and one of width 32 at 1029 ascend.
+pub four-tags : {a b c d : ℕ} → a ≡ wordOf (record { address = 1024; width = 16; sign = 0 }) → b ≡ wordOf (record { address = 1026; width = 32; sign = 0 })
+    → c ≡ wordOf (record { address = 1028; width = 16; sign = 1 }) → d ≡ wordOf (record { address = 1029; width = 32; sign = 0 })
+    → Ascending 0 (tagOf a ∷ tagOf b ∷ tagOf c ∷ tagOf d ∷ [])
+unfolding Ascending tagOf wordOf kindOf kindNumber kindFrom widthOf signOf registers
+four-tags p q r s = rw p (rw q (rw r (rw s (omega arith, omega arith, (omega arith, omega arith, (omega arith, omega arith, (omega arith, omega arith, tt)))))))

@@ -1,4 +1,4 @@
-// A request forwarded and a reply given back, behind every check of its frame, with document 01's settings: a tag of width 16 at 1024, one of width 32 at 1026.
+// A request forwarded and a reply given back, behind every check of its frame, with document 01's two tags, width 16 at 1024 and width 32 at 1026, and two more: a signed one at 1028, and width 32 at 1029.
 ghost use Rattle.rewrite.specs.Lent.{TagWords};
 use pdu::Checked;
 use pdu::ProxyId;
@@ -15,11 +15,13 @@ pub enum Given {
 }
 
 fn tag_words() -> [u64; laws::MOST_TAGS]
-    ensures { λ r. ⌜ TagWords 2 r ⌝ }
+    ensures { λ r. ⌜ TagWords 4 r ⌝ }
 {
     let mut words = [0u64; laws::MOST_TAGS];
-    words[0] = tag_word(1024, 16);
-    words[1] = tag_word(1026, 32);
+    words[0] = tag_word(1024, 16, 0);
+    words[1] = tag_word(1026, 32, 0);
+    words[2] = tag_word(1028, 16, 1);
+    words[3] = tag_word(1029, 32, 0);
     words
 }
 
@@ -47,7 +49,7 @@ pub fn send(frame: &[u8], out: &mut [u8]) -> Given {
         }
         Checked::Legal(asked) => {
             let tags = tag_words();
-            let raw = payloads::forward(out, frame, ProxyId(ISSUED), asked, &tags, 2);
+            let raw = payloads::forward(out, frame, ProxyId(ISSUED), asked, &tags, 4);
             Given::Frame(frame.len(), raw)
         }
     }
@@ -73,6 +75,6 @@ pub fn bring(request: &[u8], reply: &[u8], out: &mut [u8]) -> Given {
         return Given::Refused(8);
     }
     let tags = tag_words();
-    let raw = payloads::give_back(out, reply, function, asked, &tags, 2);
+    let raw = payloads::give_back(out, reply, function, asked, &tags, 4);
     Given::Frame(reply.len(), raw)
 }

@@ -77,14 +77,14 @@ kept-value v n words right listed e =
     )
 
 -- So do the boundary's struct's numbers with the words of the tags that it lists.
-pub kept-settings : (s : Settings) (words : List ℕ) → valid (valueOf s) ≡ true → words ≡ padded (map wordOf (listed (s .tags) (s .addr) (s .width))) → Keeps (kept (s .timeout) (s .join) (s .tags) words) (valueOf s)
+pub kept-settings : (s : Settings) (words : List ℕ) → valid (valueOf s) ≡ true → words ≡ padded (map wordOf (listed (s .tags) (s .addr) (s .width) (s .sign))) → Keeps (kept (s .timeout) (s .join) (s .tags) words) (valueOf s)
 unfolding valueOf
 kept-settings s words right e = kept-value (valueOf s) (s .tags) words right (length-tab (s .tags) _) e
 
 -- Where no tag is listed, the columns do not matter.
-pub usual-settings : (addr width : List ℕ) → valueOf (settings usualTimeout 1 0 addr width) ≡ usual
+pub usual-settings : (addr width sign : List ℕ) → valueOf (settings usualTimeout 1 0 addr width sign) ≡ usual
 unfolding valueOf tab
-usual-settings addr width = refl
+usual-settings addr width sign = refl
 
 -- a state with columns of zeros and all else 0 is sound, whatever settings are in it
 zeroed-sound : (c : Columns) (k : Kept) → c ≡ blank → Settled k → Sounds (state c 0 0 0 k)

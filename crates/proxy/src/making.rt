@@ -18,15 +18,16 @@ fn adopt<'a, 'b>(
     from_tags: u32,
     addr: &'b [u16; laws::MOST_TAGS],
     width: &'b [u16; laws::MOST_TAGS],
+    sign: &'b [u16; laws::MOST_TAGS],
 )
-    requires { ⌜ valid (valueOf (settings «from_timeout» «from_join» «from_tags» (now addr) (now width))) ≡ true ⌝ }
-    ensures { λ r. ⌜ valueIn (kept (now (timeout .exit)) (now (join .exit)) (now (tagged .exit)) (now (tags .exit))) ≡ valueOf (settings «from_timeout» «from_join» «from_tags» (now (addr .entry)) (now (width .entry))) ⌝ }
+    requires { ⌜ valid (valueOf (settings «from_timeout» «from_join» «from_tags» (now addr) (now width) (now sign))) ≡ true ⌝ }
+    ensures { λ r. ⌜ valueIn (kept (now (timeout .exit)) (now (join .exit)) (now (tagged .exit)) (now (tags .exit))) ≡ valueOf (settings «from_timeout» «from_join» «from_tags» (now (addr .entry)) (now (width .entry)) (now (sign .entry))) ⌝ }
     ensures { λ r. ⌜ Settled (kept (now (timeout .exit)) (now (join .exit)) (now (tagged .exit)) (now (tags .exit))) ⌝ }
 {
     *timeout = from_timeout;
     *join = from_join;
     *tagged = from_tags;
-    values::tagwords::fill_words(from_tags, addr, width, tags);
+    values::tagwords::fill_words(from_tags, addr, width, sign, tags);
 }
 
 // Makes the lent state fresh, whatever it was, from a value whose columns are lent. An invalid value is refusal 10, and the state is then made from the usual one.
@@ -51,8 +52,9 @@ pub fn fresh<'a, 'b>(
     from_tags: u32,
     addr: &'b [u16; laws::MOST_TAGS],
     width: &'b [u16; laws::MOST_TAGS],
+    sign: &'b [u16; laws::MOST_TAGS],
 ) -> Answer
-    ensures { λ r. ⌜ Freshened (settings «from_timeout» «from_join» «from_tags» (now (addr .entry)) (now (width .entry))) r (lent (now (ids .exit)) (now (asked .exit)) (now (callers .exit)) (now (deadlines .exit)) (now (counts .exit)) (now (clients .exit)) (now (originals .exit)) (now (top .exit)) (now (cursor .exit)) (now (attached .exit)) (now (clock .exit)) (now (timeout .exit)) (now (join .exit)) (now (tagged .exit)) (now (tags .exit))) ⌝ }
+    ensures { λ r. ⌜ Freshened (settings «from_timeout» «from_join» «from_tags» (now (addr .entry)) (now (width .entry)) (now (sign .entry))) r (lent (now (ids .exit)) (now (asked .exit)) (now (callers .exit)) (now (deadlines .exit)) (now (counts .exit)) (now (clients .exit)) (now (originals .exit)) (now (top .exit)) (now (cursor .exit)) (now (attached .exit)) (now (clock .exit)) (now (timeout .exit)) (now (join .exit)) (now (tagged .exit)) (now (tags .exit))) ⌝ }
 {
     moves::changing::clear(
         ids,
@@ -67,7 +69,7 @@ pub fn fresh<'a, 'b>(
     *cursor = 0;
     *attached = 0;
     *clock = 0;
-    if values::is_valid(from_timeout, from_join, from_tags, addr, width) {
+    if values::is_valid(from_timeout, from_join, from_tags, addr, width, sign) {
         adopt(
             timeout,
             join,
@@ -78,6 +80,7 @@ pub fn fresh<'a, 'b>(
             from_tags,
             addr,
             width,
+            sign,
         );
         return Answer::Done;
     }
@@ -92,6 +95,7 @@ pub fn fresh<'a, 'b>(
         0,
         addr,
         width,
+        sign,
     );
     Answer::Refused { number: 10 }
 }

@@ -16,7 +16,7 @@ use Rattle.wire.specs.declared.splitting.Split.the-variants.{Frame}
 use Rattle.wire.proofs.SplittingLaws.{starts, first-size}
 use Rattle.settings.specs.Grammar.{Value, Read, newest, textIn, valid, readText}
 use Rattle.settings.specs.Grammar.Read.{got, wrong}
-use Rattle.settings.proofs.GrammarLaws.{wrong-lines, longest}
+use Rattle.settings.proofs.GrammarLaws.{wrong-most, longest-2}
 use Rattle.settingstext.specs.declared.reading.ReadText.{ReadText}
 use Rattle.settingstext.specs.declared.writing.Wrote.{Wrote}
 use Rattle.settingstext.specs.declared.writing.Wrote.the-variants.{Text, TooShort, Invalid}
@@ -36,7 +36,7 @@ told-of (got v rest) p = refl
 told-of (wrong k) p = let least = p k refl in rw (ne-eqb k 0 (λ z. omega arith))
 
 pub read-told : (t : List ℕ) {x : ReadText} {r : Report} → x ≡ reported (readText t) → r ≡ lineTold (x .line) → settingsRead r (x .settings) ≡ readTold (readText t)
-read-told t e q = rw (q, e) (told-of (readText t) (λ k w. wrong-lines t k w .0))
+read-told t e q = rw (q, e) (told-of (readText t) (λ k w. wrong-most t k w .0))
 
 -- A case of what stands at the start of a run is told by its numbers.
 pub split-is : (n : ℕ) {s t u : Split} → s ≡ t → s ≡ u → splitTold u n ≡ splitTold t n
@@ -57,4 +57,4 @@ pub written-low : (v : Value) (b a : List ℕ) (w : Wrote) (n : ℕ) → writing
 unfolding writtenTo
 written-low v b a w n e s =
     let x = text-of (valid v) (ltb (length b) (length (textIn newest v))) (length (textIn newest v)) n a b (over (textIn newest v) b) w e s in
-    rw (x .1) (longest v (x .0))
+    rw (x .1) (longest-2 v (x .0))

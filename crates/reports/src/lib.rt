@@ -84,11 +84,12 @@ pub fn write<'a>(
     tags: &'a u32,
     addr: &'a [u16; laws::MOST_TAGS],
     width: &'a [u16; laws::MOST_TAGS],
+    sign: &'a [u16; laws::MOST_TAGS],
     text: &mut [u8],
 ) -> Report
-    ensures { λ r. ⌜ textSeen r (now (text .exit)) ≡ writeTold (writtenTo (valueOf (settings (now (timeout .entry)) (now (join .entry)) (now (tags .entry)) (now (addr .entry)) (now (width .entry)))) (now (text .entry))) ⌝ }
+    ensures { λ r. ⌜ textSeen r (now (text .exit)) ≡ writeTold (writtenTo (valueOf (settings (now (timeout .entry)) (now (join .entry)) (now (tags .entry)) (now (addr .entry)) (now (width .entry)) (now (sign .entry)))) (now (text .entry))) ⌝ }
 {
-    match settingstext::writing::write_text(*timeout, *join, *tags, addr, width, text) {
+    match settingstext::writing::write_text(*timeout, *join, *tags, addr, width, sign, text) {
         Wrote::Text(size) => said(0, 0, DONE, size as u32),
         Wrote::TooShort => said(1, 0, 0, 0),
         Wrote::Invalid => said(10, 0, 0, 0),

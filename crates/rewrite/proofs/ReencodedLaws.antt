@@ -192,7 +192,3 @@ module _ (n : ℕ) (words : List ℕ) (w : TagWords n words) (a v : ℕ) where
         same-test _ _
         (λ r. let x = reencoded-exactly (tagsOf n words) a v .0 r in let o = owner i e (x .0) (x .1) (has-one a v (x .0) (x .2) (x .3)) in rw (← o .1) (x .4))
         (λ r. reencoded-exactly (tagsOf n words) a v .1 (t, tag-in n words w i l, p, one, r))
-
--- what encoding the value comes to says whether it is in the range
-pub range-encoded : (k : Kind) (v w : ℕ) → encoded k v ≡ Bcd w → inRange k v ≡ true
-range-encoded k v w e = ⊎-elim (λ r. r) (λ (r : inRange k v ≡ false). absurd (let z : _≡_ {A = ℕ} 0 1 = cc (encode-refuses k v .1 r) in omega arith)) (true-or (inRange k v))

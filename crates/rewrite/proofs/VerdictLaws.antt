@@ -1,6 +1,6 @@
 -- A tag's verdict in plain words, and that it rests on the tag's own registers alone.
 -- Assumes nothing.
-use Prim.Native.Nat.{ℕ, _+_, _*_, _-_, _≤_, _<_}
+use Prim.Native.Nat.{ℕ, _+_, _-_, _≤_, _<_}
 use mathlib.Core.Path.{_≡_, refl, ap, sym, _∙_}
 use mathlib.Core.Logic.{⊎-elim, _⊎_, inl, inr, _↔_}
 use mathlib.Core.Bool.{true, false}
@@ -10,16 +10,15 @@ use native.Mathlib.Omega.{arith}
 use lib.ListN.{length}
 use lib.Dec.{ltb}
 use borrow.Author.Tests.{le-ltb, lt-leb, ltb-true, ltb-false, leb-true, leb-false}
-use Rattle.laws.specs.Numbers.{digitsPerRegister}
 use Rattle.laws.proofs.Choice.{true-or, lt-or, or-left, or-right, or-second}
 use Rattle.bcd.specs.declared.Kind.{Kind}
 use Rattle.bcd.specs.declared.Encoded.{Encoded}
 use Rattle.bcd.specs.declared.Decoded.{Decoded}
 use Rattle.bcd.specs.declared.Encoded.the-variants.{Bcd, OutOfRange}
 use Rattle.bcd.specs.declared.Decoded.the-variants.{Binary, NoNumber}
-use Rattle.bcd.specs.Bcd.{registers, inRange, encoded, decoded, nibble}
+use Rattle.bcd.specs.Bcd.{registers, inRange, encoded, decoded}
 use Rattle.bcd.specs.Words.{wordsOf, numberOf}
-use Rattle.bcd.proofs.RoundTrip.{encode-refuses, decode-refuses}
+use Rattle.bcd.proofs.RoundTrip.{NoNumberOf, encode-refuses, decode-refuses}
 use Rattle.settings.specs.Grammar.{Tag}
 use Rattle.settings.specs.TagWords.{kindOf, lastOf}
 use Rattle.rewrite.specs.declared.Way.{Way}
@@ -250,7 +249,7 @@ pub raw-encoded : (k : Kind) (n : ℕ) → (turned ToBcd k n ≡ none) ↔ (inRa
 unfolding turned
 raw-encoded k n = (λ h. encode-refuses k n .0 (none-encoded (encoded k n) h), λ h. ap fromEncoded (encode-refuses k n .1 h))
 
--- Towards binary a number stays raw exactly if one of its registers' nibbles is above 9.
-pub raw-decoded : (k : Kind) (n : ℕ) → (turned ToBinary k n ≡ none) ↔ ((i : ℕ) × (i < digitsPerRegister * registers k) × (9 < nibble i n))
+-- Towards binary a number stays raw exactly if it is no number of the kind.
+pub raw-decoded : (k : Kind) (n : ℕ) → (turned ToBinary k n ≡ none) ↔ NoNumberOf k n
 unfolding turned
 raw-decoded k n = (λ h. decode-refuses k n .0 (none-decoded (decoded k n) h), λ h. ap fromDecoded (decode-refuses k n .1 h))

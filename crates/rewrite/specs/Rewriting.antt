@@ -19,7 +19,7 @@ use Rattle.rewrite.specs.Registers.{registersAt, laidAt}
 use Rattle.rewrite.specs.declared.Way.{Way}
 use Rattle.rewrite.specs.declared.Way.the-variants.{ToBcd, ToBinary}
 
--- a tag's number rewritten, if its value allows: to BCD if it is in the range, to binary if no nibble is above 9
+-- a tag's number rewritten, if its value allows: to BCD if it is in the range, to binary if it is a number of the kind
 unfoldable pub turned : Way → Kind → ℕ → Option ℕ
 turned ToBcd k n = elim (encoded k n) [ Bcd w ↦ some w | OutOfRange ↦ none ]
 turned ToBinary k n = elim (decoded k n) [ Binary v ↦ some v | NoNumber ↦ none ]

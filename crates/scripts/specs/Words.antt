@@ -3,7 +3,7 @@
 use Prim.Native.Nat.{ℕ, _+_, _%_, _^_, min}
 use mathlib.Core.Bool.{Bool, cond, _||_}
 use mathlib.Core.List.{List, [], _∷_}
-use lib.ListN.{getD}
+use lib.ListN.{getD, set}
 use lib.Dec.{eqb}
 use Rattle.laws.specs.Numbers.{usualTimeout}
 use Rattle.settings.specs.declared.Settings.{Settings}
@@ -21,13 +21,17 @@ leavesState call = eqb (letterOf call) 99 || (eqb (letterOf call) 115 || (eqb (l
 
 -- document 01's settings
 abbrev pub document : Value
-document = record { timeout = usualTimeout; join = 1; tags = record { address = 1024; width = 16 } ∷ record { address = 1026; width = 32 } ∷ [] }
+document = record { timeout = usualTimeout; join = 1; tags = record { address = 1024; width = 16; sign = 0 } ∷ record { address = 1026; width = 32; sign = 0 } ∷ [] }
 
 -- the k-th word of a call as a number of 32 bits, the other one where there is none
 abbrev pub shortNumber : List ℕ → ℕ → ℕ → ℕ
 shortNumber call k other = numberOf (fieldOf 32 k call) other % 2 ^ 32
 
--- the same with the numbers of a call: timeout, join and tags are its words 2, 4 and 6
+-- and as a tag's sign, of 16 bits, 0 where there is none
+abbrev pub signIn : List ℕ → ℕ → ℕ
+signIn call k = shortNumber call k 0 % 2 ^ 16
+
+-- the same with the numbers of a call: timeout, join and tags are its words 2, 4 and 6, and the signs of the two tags its words 8 and 9
 unfoldable pub settingsIn : List ℕ → Settings
 settingsIn call =
     record {
@@ -36,6 +40,7 @@ settingsIn call =
       tags = shortNumber call 6 2;
       addr = settingsOf document .addr;
       width = settingsOf document .width;
+      sign = set (set (settingsOf document .sign) 0 (signIn call 8)) 1 (signIn call 9);
     }
 
 -- a length behind the comma, by a letter that no other word there has

@@ -98,6 +98,7 @@ fn written(right: &[u8], from: Settings, lent: usize) -> usize
         from.tags,
         &from.addr,
         &from.width,
+        &from.sign,
         &mut buffer[0..lent],
     );
     told(right, wrote, &buffer)

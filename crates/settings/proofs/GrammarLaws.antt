@@ -1,34 +1,53 @@
 -- The settings text and the settings value fit one to one: every valid value is read back from its text, and no other text is read.
 -- Assumes nothing.
-use Prim.Native.Nat.{ℕ, _+_, _*_, _≤_}
+use Prim.Native.Nat.{ℕ, _+_, _*_, _≤_, _<_}
 use mathlib.Core.Path.{_≡_, refl, ap, sym, subst, _∙_}
-use mathlib.Core.Logic.{_↔_}
-use mathlib.Core.Bool.{true}
-use mathlib.Core.List.{List, [], _∷_, _++_, flatMap, append-nil, List·Memᴰ}
+use mathlib.Core.Logic.{_↔_, _⊎_, inl, inr, ⊎-elim}
+use mathlib.Core.Bool.{true, _&&_}
+use mathlib.Core.List.{List, [], _∷_, _++_, map, flatMap, append-nil, List·Memᴰ}
 use native.Mathlib.Omega.{arith}
-use lib.ListN.{length, getD, length-append}
-use lib.Dec.{leb}
-use borrow.Author.Tests.{leb-true}
-use Rattle.laws.specs.Numbers.{mostTags, mostText, leastTimeout, mostTimeout}
+use native.Mathlib.Nat.{mul-comm, mul-le-mul-left, mul-le-mul-right}
+use lib.ListN.{length, getD, length-append, length-map}
+use Rattle.laws.specs.Numbers.{mostTags, mostText, newestVersion}
 use Rattle.laws.specs.Lists.{tab}
 use Rattle.laws.proofs.Choice.{and-left, and-right, never}
-use Rattle.settings.specs.Lines.{lineOf, decimalOf}
-use Rattle.settings.specs.Grammar.{Value, Version, Read, headNumbers, valueFrom, ascends, timeoutKey, joinKey, tagsKey, rightTimeout, rightJoin, version1, versions, newest, versionKey, versionIn, textOfLines, textIn, allRight, tagsRight, validIn, valid, readLines, readText}
+use Rattle.settings.specs.Lines.{Numbered, lineOf, decimalOf}
+use Rattle.settings.specs.Grammar.{Tag, Value, Version, Read, headNumbers, valueFrom, ascends, rightAddr, rightWidth, headLines, tagLines, versionOf, versions, newest, versionKey, versionIn, textOfLines, textIn, allRight, tagsRight, validIn, valid, toldIn, readLines, readText}
 use Rattle.settings.specs.Grammar.Read.{got, wrong}
 use Rattle.laws.proofs.ListLaws.{tab-getD}
 use Rattle.settings.proofs.LineLaws.{line-length}
-use Rattle.settings.proofs.RowLaws.{lines-only, lines-wrong, tagsText, tags-only, tags-wrong}
-use Rattle.settings.proofs.VersionLaws.{Fit, fit1, fits, found, few-tags, tags-length, Went, went, back}
+use Rattle.settings.proofs.RowLaws.{told, lines-only, lines-wrong, tagsText, tags-only, tags-wrong}
+use Rattle.settings.proofs.VersionLaws.{Fit, fit, one-of, fits, found, few-tags, Long, total, lines-length, tags-length, head-long, tag-long, Versioned, Went, went, back}
 use Rattle.settings.proofs.VersionLaws.Went.{unversioned, inHead, inTags, extra, whole}
 -- A line is read back from its text, and no other text is read as that line.
 pub use Rattle.settings.proofs.LineLaws.{line-back, line-only}
 
+-- In any listed version: the text of a value that is valid there is read to what it tells of the value.
+pub read-told : (x : Version) (v : Value) → List·Memᴰ x versions → validIn x v ≡ true → readText (textIn x v) ≡ got (toldIn x v) []
+read-told x v m r = back x v (fits x m) (found x m) r
+
+-- The newest tells everything, and version 1 all but the sign, which is read as 0.
+pub newest-tells : (v : Value) → toldIn newest v ≡ v
+unfolding toldIn
+newest-tells v = ap (λ (ts : List Tag). record { timeout = v .timeout; join = v .join; tags = ts }) (all (v .tags))
+  where
+    all : (ts : List Tag) → map (told (newest .tag)) ts ≡ ts
+    all [] = refl
+    all (t ∷ ts) = ap (t ∷_) (all ts)
+
+abbrev pub unsigned : Tag → Tag
+unsigned t = record { address = t .address; width = t .width; sign = 0 }
+
+pub version-1-tells : (v : Value) → toldIn (versionOf 1) v ≡ record { timeout = v .timeout; join = v .join; tags = map unsigned (v .tags) }
+unfolding toldIn
+version-1-tells v = refl
+
 -- Every valid value is read back from its text.
 pub read-back : (v : Value) → valid v ≡ true → readText (textIn newest v) ≡ got v []
 unfolding versionIn
-read-back v r = back newest v fit1 refl r
+read-back v r = rw (newest-tells v) at (back newest v (fit newestVersion (omega arith)) refl r)
 
--- Every text that is read is the text of a valid value in a listed version, and nothing is left of it.
+-- Every text that is read is the text of its value, valid in a listed version, and nothing is left of it.
 pub read-only : (t r : List ℕ) (v : Value) → readText t ≡ got v r
     → (r ≡ []) × ((x : Version) × List·Memᴰ x versions × (validIn x v ≡ true) × (t ≡ textIn x v))
 unfolding textIn validIn tab
@@ -80,56 +99,107 @@ accepted t = (λ a. there (a .0) (a .1), λ b. here (b .0) (b .1) (b .2) (b .3) 
     there v h = let w = read-only t [] v h .1 in (w .0, v, w .1, w .2, w .3)
 
     here : (x : Version) (v : Value) → List·Memᴰ x versions → validIn x v ≡ true → t ≡ textIn x v → (v : Value) × (readText t ≡ got v [])
-    here x v m r e = (v, ap readText e ∙ back x v (fits x m) (found x m) r)
+    here x v m r e = (toldIn x v, ap readText e ∙ read-told x v m r)
 
--- Every wrong line has a number from 1 to 517: two lines a tag behind the first four, and one more for an extra byte.
-pub wrong-lines : (t : List ℕ) (k : ℕ) → readText t ≡ wrong k → (1 ≤ k) × (k ≤ 5 + 2 * mostTags)
+-- right tags of version 1 are, unsigned, right tags of the newest
+older-tags : (prior prior′ : List ℕ) → ((n : ℕ) → ascends prior′ n ≡ ascends prior n) → (ts : List Tag) → tagsRight (versionOf 1 .tag) prior ts ≡ true → tagsRight tagLines prior′ (map unsigned ts) ≡ true
+unfolding tagsRight allRight ascends
+older-tags prior prior′ same [] r = refl
+older-tags prior prior′ same (t ∷ ts) r =
+    let here = and-left (rightAddr prior (t .address) && (rightWidth (t .address ∷ []) (t .width) && true)) _ r in
+    let rest = and-right (rightAddr prior (t .address) && (rightWidth (t .address ∷ []) (t .width) && true)) _ r in
+    let address = rw (← same (t .address)) at (and-left (rightAddr prior (t .address)) _ here) in
+    let width = and-left (rightWidth (t .address ∷ []) (t .width)) true (and-right (rightAddr prior (t .address)) _ here) in
+    rw (address, width) (older-tags (t .address ∷ t .width ∷ []) (t .address ∷ t .width ∷ 0 ∷ []) (λ n. refl) ts rest)
+
+older-valid : (v : Value) → validIn (versionOf 1) v ≡ true → valid (toldIn (versionOf 1) v) ≡ true
+unfolding validIn toldIn
+older-valid v r =
+    let heads = and-left (allRight headLines [] [] (headNumbers v)) _ r in
+    rw (length-map (v .tags) unsigned, heads) (older-tags [] [] (λ n. refl) (v .tags) (and-right (allRight headLines [] [] (headNumbers v)) _ r))
+
+-- A value that is valid in a listed version is, as far as that version tells it, valid in the newest.
+pub told-valid : (x : Version) → List·Memᴰ x versions → (v : Value) → validIn x v ≡ true → valid (toldIn x v) ≡ true
+told-valid = one-of (λ x. (v : Value) → validIn x v ≡ true → valid (toldIn x v) ≡ true) older-valid (λ v r. rw (newest-tells v) r)
+
+-- What a text is read to is a valid value.
+pub read-valid : (t r : List ℕ) (v : Value) → readText t ≡ got v r → valid v ≡ true
+read-valid t r v h =
+    let w = read-only t r v h in
+    let x = w .1 .0 in
+    let q : got v r ≡ got (toldIn x v) [] = sym h ∙ ap readText (w .1 .3) ∙ read-told x v (w .1 .1) (w .1 .2) in
+    let e : v ≡ toldIn x v = cc in
+    rw e (told-valid x (w .1 .1) v (w .1 .2))
+
+-- A wrong line is the first, or one behind a version line of a listed version: a line of that version, or one more for an extra byte.
+pub wrong-lines : (t : List ℕ) (k : ℕ) → readText t ≡ wrong k → (k ≡ 1) ⊎ ((y : Numbered) × (x : Version) × Versioned t y x × (2 ≤ k) × (k ≤ 5 + length (x .tag) * mostTags))
 wrong-lines t k h = go (went t) h
   where
     few : (t ns q : List ℕ) (x : Version) → Fit x → readLines 2 (x .head) [] [] t ≡ got ns q → getD ns 2 0 ≤ mostTags
     few t ns q x f a = let l = lines-only 2 (x .head) [] [] t ns q (f .headBounded) a in rw (l .whole) (f .few (l .numbers) (l .right))
 
-    go : {o : Read Value} → Went t o → o ≡ wrong k → (1 ≤ k) × (k ≤ 5 + 2 * mostTags)
-    go unversioned e = let n : 1 ≡ k = cc in omega arith
+    go : {o : Read Value} → Went t o → o ≡ wrong k → (k ≡ 1) ⊎ ((y : Numbered) × (x : Version) × Versioned t y x × (2 ≤ k) × (k ≤ 5 + length (x .tag) * mostTags))
+    go unversioned e = let n : 1 ≡ k = cc in inl (sym n)
     go (inHead y x j w a) e =
         let n : j ≡ k = cc in
         let f = fits x (w .listed) in
-        omega (arith, f .heads, lines-wrong 2 (x .head) [] [] (y .rest) j a)
+        let bound = lines-wrong 2 (x .head) [] [] (y .rest) j a in
+        inr (y, x, w, omega arith, omega (arith, f .heads))
     go (inTags y x ns q j w a b) e =
         let n : j ≡ k = cc in
         let f = fits x (w .listed) in
-        let bound = rw (f .tags) at (tags-wrong (getD ns 2 0) (2 + length (x .head)) (x .tag) [] q j b) in
-        omega (arith, f .heads, few (y .rest) ns q x f a)
+        let bound = tags-wrong (getD ns 2 0) (2 + length (x .head)) (x .tag) [] q j b in
+        let most : getD ns 2 0 * length (x .tag) ≤ length (x .tag) * mostTags = rw (mul-comm (length (x .tag)) mostTags) (mul-le-mul-right (length (x .tag)) (few (y .rest) ns q x f a)) in
+        inr (y, x, w, omega arith, omega (arith, f .heads))
     go (extra y x ns q ts p w a b) e =
         let f = fits x (w .listed) in
         let n : 2 + length (x .head) + length (x .tag) * length ts ≡ k = cc in
         let all = tags-only (getD ns 2 0) (2 + length (x .head)) (x .tag) [] q ts p (f .tagBounded) (f .tags) b .0 in
-        omega (arith, f .heads, rw (f .tags) at n, few (y .rest) ns q x f a)
+        let most : length (x .tag) * length ts ≤ length (x .tag) * mostTags = rw all (mul-le-mul-left (length (x .tag)) (few (y .rest) ns q x f a)) in
+        inr (y, x, w, omega arith, omega (arith, f .heads))
     go (whole y x ns q ts w a b) e = never (cc)
 
--- The text of a valid value has at most 5,160 bytes.
-pub longest : (v : Value) → valid v ≡ true → length (textIn newest v) ≤ mostText
-unfolding textIn textOfLines validIn allRight
-longest v r =
-    let heads = and-left (allRight (version1 .head) [] [] (headNumbers v)) _ r in
-    let behind = and-right (rightTimeout (v .timeout)) _ heads in
-    let most = leb-true (v .timeout) mostTimeout (and-right (leb leastTimeout (v .timeout)) _ (and-left (rightTimeout (v .timeout)) _ heads)) in
-    let version = line-length versionKey 0 1 (omega arith) in
-    let timeout = line-length timeoutKey 4 (v .timeout) (omega arith) in
-    let join = line-length joinKey 0 (v .join) (omega (arith, leb-true (v .join) 1 (and-left (rightJoin (v .join)) _ behind))) in
-    let few = few-tags (headNumbers v) heads in
-    let count = line-length tagsKey 2 (length (v .tags)) (omega arith) in
-    let tags = tags-length (v .tags) [] (and-right (allRight (version1 .head) [] [] (headNumbers v)) _ r) in
-    simp length-append (omega arith)
+-- So it has a number from 1 on, at most 517 in version 1 and 773 in version 2.
+pub wrong-most : (t : List ℕ) (k : ℕ) → readText t ≡ wrong k → (1 ≤ k) × (k ≤ 5 + 3 * mostTags)
+wrong-most t k h =
+    ⊎-elim
+    (λ (e : k ≡ 1). omega arith)
+    (λ (w : (y : Numbered) × (x : Version) × Versioned t y x × (2 ≤ k) × (k ≤ 5 + length (x .tag) * mostTags)).
+    let f = fits (w .1) (w .2 .listed) in
+    omega (arith, w .3, w .4, mul-le-mul-right mostTags (f .tags)))
+    (wrong-lines t k h)
 
--- And some valid value's text has as many.
+-- The lines before the tags, with the version line, have at most 40 bytes; a tag's lines have 20 in version 1 and 27 in version 2.
+text-length : (n : ℕ) (ms : List ℕ) (v : Value) → n < 10 → Long (versionOf n .tag) ms → validIn (versionOf n) v ≡ true → (length (textIn (versionOf n) v) ≤ 40 + length (v .tags) * total ms) × (length (v .tags) ≤ mostTags)
+unfolding textIn validIn total
+text-length n ms v l f r =
+    let heads = and-left (allRight headLines [] [] (headNumbers v)) _ r in
+    let first = line-length versionKey 0 n l in
+    let behind = (lines-length headLines (14 ∷ 7 ∷ 9 ∷ []) [] [] (headNumbers v) head-long heads) in
+    let tags = tags-length (versionOf n .tag) ms f (v .tags) [] (and-right (allRight headLines [] [] (headNumbers v)) _ r) in
+    (simp length-append (omega arith), few-tags (headNumbers v) heads)
+
+-- The text of a valid value has at most 5,160 bytes in version 1 and 6,952 in version 2.
+pub longest-1 : (v : Value) → validIn (versionOf 1) v ≡ true → length (textIn (versionOf 1) v) ≤ 5160
+unfolding total
+longest-1 v r = let l = text-length 1 (11 ∷ 9 ∷ []) v (omega arith) (tag-long .0, (tag-long .1 .0, tt)) r in omega (arith, l .0, l .1)
+
+pub longest-2 : (v : Value) → valid v ≡ true → length (textIn newest v) ≤ mostText
+unfolding total
+longest-2 v r = let l = text-length 2 (11 ∷ 9 ∷ 7 ∷ []) v (omega arith) tag-long r in omega (arith, l .0, l .1)
+
+-- No right text is longer.
+pub longest : (x : Version) → List·Memᴰ x versions → (v : Value) → validIn x v ≡ true → length (textIn x v) ≤ mostText
+longest = one-of (λ x. (v : Value) → validIn x v ≡ true → length (textIn x v) ≤ mostText) (λ v r. omega (arith, longest-1 v r)) longest-2
+
+-- And some valid value's text has as many, in either version.
 unfoldable pub full : Value
-full = record { timeout = 60000; join = 1; tags = tab 256 (λ k. record { address = 10000 + k; width = 16 }) }
+full = record { timeout = 60000; join = 1; tags = tab 256 (λ k. record { address = 10000 + k; width = 16; sign = 1 }) }
 
 pub full-valid : valid full ≡ true
 unfolding full validIn allRight tagsRight ascends tab
 full-valid = refl
 
-pub full-longest : length (textIn newest full) ≡ mostText
+pub full-longest : (length (textIn (versionOf 1) full) ≡ 5160) × (length (textIn newest full) ≡ mostText)
 unfolding full textIn textOfLines lineOf decimalOf flatMap tab
-full-longest = refl
+full-longest = (refl, refl)

@@ -5,16 +5,15 @@ use mathlib.Core.Path.{_≡_, refl, ap, sym, _∙_}
 use mathlib.Core.Logic.{⊎-elim}
 use mathlib.Core.Bool.{Bool, true, false}
 use mathlib.Core.Option.{Option, some, none, Option·some-injective, Option·none-ne-some, Option·some-ne-none}
-use mathlib.Core.List.{List, [], _∷_, _++_, flatMap, append-assoc, append-nil}
+use mathlib.Core.List.{List, [], _∷_, _++_, map, flatMap, append-assoc, append-nil}
 use native.Mathlib.Omega.{arith}
-use lib.ListN.{length}
+use lib.ListN.{length, take}
+use lib.Seq.{length-take-le}
 use Rattle.laws.specs.Numbers.{addresses}
-use Rattle.laws.specs.Lists.{tab}
 use Rattle.laws.proofs.Choice.{true-or, and-left, and-right, never}
 use Rattle.settings.specs.Lines.{Numbered, lineOf, lineIn}
-use Rattle.settings.specs.Grammar.{Tag, Line, Read, tagNumbers, tagFrom, textOfLines, allRight, tagsRight, readLines, readTags, kept}
+use Rattle.settings.specs.Grammar.{Tag, Line, Read, tagNumbers, tagFrom, numbersIn, textOfLines, allRight, tagsRight, readLines, readTags, kept}
 use Rattle.settings.specs.Grammar.Read.{got, wrong}
-use Rattle.laws.proofs.ListLaws.{tab-getD}
 use Rattle.settings.proofs.LineLaws.{numbered, line-back, line-only}
 
 -- one line of several
@@ -155,21 +154,40 @@ module _ (n at : ℕ) (ls : List Line) (prior t : List ℕ) where
 -- tags in a row
 
 abbrev pub tagsText : List Line → List Tag → List ℕ
-tagsText ls ts = flatMap (λ t. textOfLines ls (tagNumbers t)) ts
+tagsText ls ts = flatMap (λ t. textOfLines ls (numbersIn ls t)) ts
 
-pub tags-back : (at : ℕ) (ls : List Line) (prior : List ℕ) (ts : List Tag) (rest : List ℕ) → Bounded ls → length ls ≡ 2 → tagsRight ls prior ts ≡ true → readTags (length ts) at ls prior (tagsText ls ts ++ rest) ≡ got ts rest
+-- what is read of a tag whose lines these are
+abbrev pub told : List Line → Tag → Tag
+told ls t = tagFrom (numbersIn ls t)
+
+-- there is a number for each line
+abbrev pub Few : List Line → Type 0
+Few ls = length ls ≤ 3
+
+numbers-count : (ls : List Line) (t : Tag) → Few ls → length (numbersIn ls t) ≡ length ls
+numbers-count ls t c = length-take-le (length ls) (tagNumbers t) c
+
+numbers-back : (own : List ℕ) → length own ≤ 3 → take (length own) (tagNumbers (tagFrom own)) ≡ own
+numbers-back [] c = refl
+numbers-back (a ∷ []) c = refl
+numbers-back (a ∷ b ∷ []) c = refl
+numbers-back (a ∷ b ∷ d ∷ []) c = refl
+numbers-back (a ∷ b ∷ d ∷ e ∷ ns) c = absurd (omega arith)
+
+pub tags-back : (at : ℕ) (ls : List Line) (prior : List ℕ) (ts : List Tag) (rest : List ℕ) → Bounded ls → Few ls → tagsRight ls prior ts ≡ true → readTags (length ts) at ls prior (tagsText ls ts ++ rest) ≡ got (map (told ls) ts) rest
 unfolding readTags tagsRight flatMap onto
 tags-back at ls prior [] rest b c r = refl
 tags-back at ls prior (t ∷ ts) rest b c r =
     let s : List ℕ = tagsText ls ts ++ rest in
-    let first = and-left (allRight ls prior [] (tagNumbers t)) _ r in
-    rw (append-assoc (textOfLines ls (tagNumbers t)) (tagsText ls ts) rest)
-    (tag-right (length ts) at ls prior (textOfLines ls (tagNumbers t) ++ s) (tagNumbers t) s (lines-back at ls prior [] (tagNumbers t) s b (sym c) first)
-    ∙ ap (onto (t ∷ [])) (tags-back (at + length ls) ls (tagNumbers t) ts rest b c (and-right (allRight ls prior [] (tagNumbers t)) _ r)))
+    let own : List ℕ = numbersIn ls t in
+    let first = and-left (allRight ls prior [] own) _ r in
+    rw (append-assoc (textOfLines ls own) (tagsText ls ts) rest)
+    (tag-right (length ts) at ls prior (textOfLines ls own ++ s) own s (lines-back at ls prior [] own s b (numbers-count ls t c) first)
+    ∙ ap (onto (told ls t ∷ [])) (tags-back (at + length ls) ls own ts rest b c (and-right (allRight ls prior [] own) _ r)))
 
-pub tags-only : (n at : ℕ) (ls : List Line) (prior t : List ℕ) (ts : List Tag) (r : List ℕ) → Bounded ls → length ls ≡ 2 → readTags n at ls prior t ≡ got ts r
+pub tags-only : (n at : ℕ) (ls : List Line) (prior t : List ℕ) (ts : List Tag) (r : List ℕ) → Bounded ls → Few ls → readTags n at ls prior t ≡ got ts r
     → (length ts ≡ n) × (tagsRight ls prior ts ≡ true) × (t ≡ tagsText ls ts ++ r)
-unfolding readTags tagsRight flatMap tab
+unfolding readTags tagsRight flatMap
 tags-only zero at ls prior t ts r b c h =
     let p : ts ≡ [] = cc in
     let q : t ≡ r = cc in
@@ -187,13 +205,14 @@ tags-only (suc n) at ls prior t ts r b c h =
     go (wrong k) e i = never (cc (tag-wrong n at ls prior t k e))
     go (got own q) e i =
         let l = lines-only at ls prior [] t own q b e in
-        let two : tagNumbers (tagFrom own) ≡ own = tab-getD 0 own 2 (ap length (l .whole) ∙ l .all ∙ c) in
-        let m = onto-got (tagFrom own) (readTags n (at + length ls) ls own q) ts r (sym (tag-right n at ls prior t own q e) ∙ h) in
-        let next = i own q (m .0) (m .2) in
-        let here : allRight ls prior [] (tagNumbers (tagFrom own)) ≡ true = rw (two, l .whole) (l .right) in
-        let text : t ≡ (textOfLines ls own ++ tagsText ls (m .0)) ++ r =
-        l .text ∙ ap (λ ns. textOfLines ls ns ++ q) (sym (l .whole)) ∙ ap (textOfLines ls own ++_) (next .2) ∙ sym (append-assoc (textOfLines ls own) (tagsText ls (m .0)) r) in
-        rw (m .1) (ap suc (next .0), rw here (rw two (next .1)), rw two text)
+        let m : length own ≡ length ls = ap length (l .whole) ∙ l .all in
+        let same : numbersIn ls (tagFrom own) ≡ own = rw m at (numbers-back own (omega arith)) in
+        let w = onto-got (tagFrom own) (readTags n (at + length ls) ls own q) ts r (sym (tag-right n at ls prior t own q e) ∙ h) in
+        let next = i own q (w .0) (w .2) in
+        let here : allRight ls prior [] (numbersIn ls (tagFrom own)) ≡ true = rw (same, l .whole) (l .right) in
+        let text : t ≡ (textOfLines ls own ++ tagsText ls (w .0)) ++ r =
+        l .text ∙ ap (λ ns. textOfLines ls ns ++ q) (sym (l .whole)) ∙ ap (textOfLines ls own ++_) (next .2) ∙ sym (append-assoc (textOfLines ls own) (tagsText ls (w .0)) r) in
+        rw (w .1) (ap suc (next .0), rw here (rw same (next .1)), rw same text)
 
 pub tags-wrong : (n at : ℕ) (ls : List Line) (prior t : List ℕ) (k : ℕ) → readTags n at ls prior t ≡ wrong k → (at ≤ k) × (k < at + n * length ls)
 unfolding readTags

@@ -3,7 +3,7 @@
 use Prim.Native.Nat.{ℕ, zero, suc, _+_, _*_, _/_, _%_, _^_, _≤_, _<_}
 use mathlib.Core.Path.{_≡_, refl, ap, sym, _∙_}
 use mathlib.Core.Logic.{⊎-elim, _⊎_, inl, inr}
-use mathlib.Core.Bool.{true, false, _&&_}
+use mathlib.Core.Bool.{true, false, cond, _&&_}
 use mathlib.Core.List.{List, [], _∷_, _++_, map, map-append}
 use native.Mathlib.Nat.{mod-eq-of-lt}
 use native.Mathlib.Omega.{arith}
@@ -17,38 +17,46 @@ use Rattle.laws.specs.Lists.{tab}
 use Rattle.laws.proofs.Choice.{true-or, and-left, and-right, or-second}
 use Rattle.laws.proofs.ListLaws.{tab-more, length-tab, set-padded}
 use Rattle.bcd.specs.declared.Kind.{Kind}
-use Rattle.bcd.specs.declared.Kind.the-variants.{Width16, Width32}
+use Rattle.bcd.specs.declared.Kind.the-variants.{Width16, Width32, Signed16}
 use Rattle.bcd.specs.Bcd.{registers}
+use Rattle.bcd.proofs.Words.{registers-least}
 use Rattle.settings.specs.declared.Settings.{Settings}
-use Rattle.settings.specs.Grammar.{Tag, Value, newest, tagNumbers, lastRegister, ascends, rightTimeout, rightJoin, rightTags, rightWidth, allRight, tagsRight, valid}
+use Rattle.settings.specs.Grammar.{Tag, Value, newest, tagNumbers, lastRegister, ascends, rightTimeout, rightJoin, rightTags, rightWidth, rightSign, allRight, tagsRight, valid}
 use Rattle.settings.specs.Values.{settings, padded, settingsOf}
-use Rattle.settings.specs.TagWords.{kindOf, widthOf, kindNumber, kindFrom, wordOf, tagOf, lastOf, Ascending}
-use Rattle.settings.proofs.ValueLaws.{tagAt, tag-ext, fromOf, tag-right, valid-parts}
+use Rattle.settings.specs.TagWords.{kindOf, widthOf, signOf, kindNumber, kindFrom, wordOf, tagOfKind, tagOf, lastOf, Ascending}
+use Rattle.settings.proofs.VersionLaws.{widths}
+use Rattle.settings.proofs.ValueLaws.{tagAt, tag-ext, fromOf, rightKind, tag-right, valid-parts}
 
--- a tag has one of the two widths
+-- a tag has one of the two widths, and a sign only with the first
 abbrev pub Wide : Tag → Type 0
-Wide t = (t .width ≡ 16) ⊎ (t .width ≡ 32)
+Wide t = ((t .width ≡ 16) × (t .sign ≡ 0)) ⊎ ((t .width ≡ 32) × (t .sign ≡ 0)) ⊎ ((t .width ≡ 16) × (t .sign ≡ 1))
 
--- a kind's number gives the kind back, and a width its own
+-- a kind's number gives the kind back
 kind-back : (kind : Kind) → kindFrom (kindNumber kind) ≡ kind
 unfolding kindFrom kindNumber
 kind-back Width16 = refl
 kind-back Width32 = refl
+kind-back Signed16 = refl
 
 kind-low : (kind : Kind) → kindNumber kind < 256
 unfolding kindNumber
 kind-low Width16 = omega arith
 kind-low Width32 = omega arith
+kind-low Signed16 = omega arith
 
-width-back : (t : Tag) → Wide t → widthOf (kindOf t) ≡ t .width
-unfolding widthOf kindOf
-width-back t w = ⊎-elim (λ (e : t .width ≡ 16). rw e) (λ (e : t .width ≡ 32). rw e) w
+-- a tag is the one of its address and its kind
+tag-back : (t : Tag) → Wide t → tagOfKind (t .address) (kindOf t) ≡ t
+unfolding widthOf signOf kindOf
+tag-back t (inl e) = tag-ext (tagOfKind (t .address) (kindOf t)) t refl (rw (e .0, e .1)) (rw (e .0, e .1))
+tag-back t (inr (inl e)) = tag-ext (tagOfKind (t .address) (kindOf t)) t refl (rw (e .0)) (rw (e .0) (sym (e .1)))
+tag-back t (inr (inr e)) = tag-ext (tagOfKind (t .address) (kindOf t)) t refl (rw (e .0, e .1)) (rw (e .0, e .1))
 
--- a tag of a kind's width has that kind
-pub kind-of-width : (kind : Kind) (address : ℕ) → kindOf (record { address = address; width = widthOf kind }) ≡ kind
-unfolding widthOf kindOf
-kind-of-width Width16 address = refl
-kind-of-width Width32 address = refl
+-- a tag of a kind's width and sign has that kind
+pub kind-of-tag : (kind : Kind) (address : ℕ) → kindOf (tagOfKind address kind) ≡ kind
+unfolding widthOf signOf kindOf
+kind-of-tag Width16 address = refl
+kind-of-tag Width32 address = refl
+kind-of-tag Signed16 address = refl
 
 -- a tag's word gives the tag back
 pub word-back : (t : Tag) → t .address < addresses → Wide t → tagOf (wordOf t) ≡ t
@@ -57,7 +65,7 @@ word-back t l w =
     let n = kind-low (kindOf t) in
     let a : (t .address + addresses * kindNumber (kindOf t)) % addresses ≡ t .address = omega arith in
     let k : (t .address + addresses * kindNumber (kindOf t)) / addresses ≡ kindNumber (kindOf t) = omega arith in
-    tag-ext (tagOf (wordOf t)) t a (rw (k, mod-eq-of-lt n, kind-back (kindOf t)) (width-back t w))
+    rw (a, k, mod-eq-of-lt n, kind-back (kindOf t)) (tag-back t w)
 
 -- words are below 2 ^ 24, so that the upper 40 bits are free
 pub word-low : (t : Tag) → t .address < addresses → wordOf t < 2 ^ 24
@@ -67,22 +75,30 @@ word-low t l = let n = kind-low (kindOf t) in omega arith
 -- the kind of a word's tag is that of the number above the address
 pub kind-of-word : (word : ℕ) → kindOf (tagOf word) ≡ kindFrom (word / addresses % 256)
 unfolding tagOf
-kind-of-word word = kind-of-width (kindFrom (word / addresses % 256)) (word % addresses)
+kind-of-word word = kind-of-tag (kindFrom (word / addresses % 256)) (word % addresses)
 
--- the width of a word's tag is its kind's
+-- the width and the sign of a word's tag are its kind's
 pub width-of-word : (word : ℕ) → widthOf (kindOf (tagOf word)) ≡ tagOf word .width
 unfolding tagOf
 width-of-word word = ap widthOf (kind-of-word word)
 
+pub sign-of-word : (word : ℕ) → signOf (kindOf (tagOf word)) ≡ tagOf word .sign
+unfolding tagOf
+sign-of-word word = ap signOf (kind-of-word word)
+
+-- how many registers a tag has, by its width
+registers-wide : (t : Tag) → registers (kindOf t) ≡ cond (eqb (t .width) 32) 2 1
+unfolding kindOf registers
+registers-wide t =
+    ⊎-elim (λ e. rw e) (λ e. rw e (⊎-elim (λ g. rw g) (λ g. rw g) (true-or (eqb (t .sign) 1)))) (true-or (eqb (t .width) 32))
+
 -- a tag's last register is the one that the grammar says
 last-register : (t : Tag) → lastRegister (tagNumbers t) ≡ lastOf t
-unfolding kindOf registers
-last-register t = ⊎-elim (λ e. rw e (omega arith)) (λ e. rw e (omega arith)) (true-or (eqb (t .width) 32))
+last-register t = rw (registers-wide t) (⊎-elim (λ e. rw e (omega arith)) (λ e. rw e (omega arith)) (true-or (eqb (t .width) 32)))
 
 -- a tag ends at or above its address
 pub address-last : (t : Tag) → t .address ≤ lastOf t
-unfolding kindOf registers
-address-last t = ⊎-elim (λ e. rw e (omega arith)) (λ e. rw e (omega arith)) (true-or (eqb (t .width) 32))
+address-last t = omega (arith, registers-least (kindOf t))
 
 -- what the rules of a tag's lines say of it
 pub record Right (prior : List ℕ) (t : Tag) : Type 0 where
@@ -91,17 +107,29 @@ pub record Right (prior : List ℕ) (t : Tag) : Type 0 where
   pub wide : Wide t
   pub ends : lastOf t < addresses
 
-wide-ends : (t : Tag) → t .address < addresses → rightWidth (t .address ∷ []) (t .width) ≡ true → Wide t × (lastOf t < addresses)
-unfolding kindOf registers
-wide-ends t l r =
+-- the kinds that the rules allow
+kind-wide : (t : Tag) → rightKind t ≡ true → Wide t
+kind-wide t r =
+    let w = and-left (rightWidth (t .address ∷ []) (t .width)) _ r in
+    let s = and-right (rightWidth (t .address ∷ []) (t .width)) _ r in
     ⊎-elim
-    (λ (e : eqb (t .width) 16 ≡ true). let q = eqb-true (t .width) 16 e in (inl q, rw q (omega arith)))
+    (λ (e : eqb (t .sign) 0 ≡ true). let z = eqb-true (t .sign) 0 e in ⊎-elim (λ (n : t .width ≡ 16). inl (n, z)) (λ (n : t .width ≡ 32). inr (inl (n, z))) (widths (t .address ∷ []) (t .width) w))
+    (λ (e : eqb (t .sign) 0 ≡ false).
+    let f = or-second (eqb (t .sign) 0) _ e s in
+    inr (inr (eqb-true (t .width) 16 (and-right (eqb (t .sign) 1) _ f), eqb-true (t .sign) 1 (and-left (eqb (t .sign) 1) _ f))))
+    (true-or (eqb (t .sign) 0))
+
+wide-ends : (t : Tag) → t .address < addresses → rightKind t ≡ true → lastOf t < addresses
+wide-ends t l r =
+    rw (registers-wide t)
+    (⊎-elim
+    (λ (e : eqb (t .width) 16 ≡ true). let q = eqb-true (t .width) 16 e in rw q (omega arith))
     (λ (e : eqb (t .width) 16 ≡ false).
-    let f = or-second (eqb (t .width) 16) _ e r in
+    let f = or-second (eqb (t .width) 16) _ e (and-left (rightWidth (t .address ∷ []) (t .width)) _ r) in
     let q = eqb-true (t .width) 32 (and-left (eqb (t .width) 32) _ f) in
     let h = ltb-true (t .address + 1) addresses (and-right (eqb (t .width) 32) _ f) in
-    (inr q, rw q (omega arith)))
-    (true-or (eqb (t .width) 16))
+    rw q (omega arith))
+    (true-or (eqb (t .width) 16)))
 
 right-low : (prior : List ℕ) (t : Tag) → allRight (newest .tag) prior [] (tagNumbers t) ≡ true → t .address < addresses
 unfolding allRight
@@ -111,8 +139,8 @@ right-tag : (prior : List ℕ) (t : Tag) → allRight (newest .tag) prior [] (ta
 right-tag prior t r =
     let l = right-low prior t r in
     let q = sym (tag-right prior t l) ∙ r in
-    let w = wide-ends t l (and-right (leb (fromOf prior) (t .address)) _ q) in
-    record { low = l; follows = leb-true (fromOf prior) (t .address) (and-left (leb (fromOf prior) (t .address)) _ q); wide = w .0; ends = w .1 }
+    let k = and-right (leb (fromOf prior) (t .address)) _ q in
+    record { low = l; follows = leb-true (fromOf prior) (t .address) (and-left (leb (fromOf prior) (t .address)) _ q); wide = kind-wide t k; ends = wide-ends t l k }
 
 -- the first of right tags, and the others behind it
 right-first : (prior : List ℕ) (t : Tag) (ts : List Tag) → tagsRight (newest .tag) prior (t ∷ ts) ≡ true → Right prior t × (tagsRight (newest .tag) (tagNumbers t) ts ≡ true)
@@ -232,25 +260,28 @@ worded-all {s} {k = k} h w = let e : k ≡ s .tags = omega (arith, w .within) in
 abbrev pub tagsOf : List ℕ → ℕ → List Tag
 tagsOf words k = map tagOf (take k words)
 
-pub record Taken (words : List ℕ) (tagged : ℕ) (addr width : List ℕ) (k : ℕ) : Type 0 where
+pub record Taken (words : List ℕ) (tagged : ℕ) (addr width sign : List ℕ) (k : ℕ) : Type 0 where
   pub within : k ≤ tagged
   pub few : tagged ≤ mostTags
   pub long : length words ≡ mostTags
   pub addrs : addr ≡ padded (map (λ (t : Tag). t .address) (tagsOf words k))
   pub widths : width ≡ padded (map (λ (t : Tag). t .width) (tagsOf words k))
+  pub signs : sign ≡ padded (map (λ (t : Tag). t .sign) (tagsOf words k))
 
-pub taken-none : (words : List ℕ) (tagged : ℕ) → tagged ≤ mostTags → length words ≡ mostTags → Taken words tagged (replicate mostTags 0) (replicate mostTags 0) 0
-taken-none words tagged h l = record { within = omega arith; few = h; long = l; addrs = refl; widths = refl }
+pub taken-none : (words : List ℕ) (tagged : ℕ) → tagged ≤ mostTags → length words ≡ mostTags → Taken words tagged (replicate mostTags 0) (replicate mostTags 0) (replicate mostTags 0) 0
+taken-none words tagged h l = record { within = omega arith; few = h; long = l; addrs = refl; widths = refl; signs = refl }
 
-pub taken-more : {words : List ℕ} {tagged : ℕ} {addr width : List ℕ} {k a w : ℕ} → k < tagged → Taken words tagged addr width k → a ≡ tagOf (getD words k 0) .address → w ≡ tagOf (getD words k 0) .width
-    → Taken words tagged (set addr k a) (set width k w) (k + 1)
-taken-more {words} {k = k} {a = a} {w = w} h t p q =
+pub taken-more : {words : List ℕ} {tagged : ℕ} {addr width sign : List ℕ} {k a w s : ℕ} → k < tagged → Taken words tagged addr width sign k
+    → a ≡ tagOf (getD words k 0) .address → w ≡ tagOf (getD words k 0) .width → s ≡ tagOf (getD words k 0) .sign
+    → Taken words tagged (set addr k a) (set width k w) (set sign k s) (k + 1)
+taken-more {words} {k = k} {a = a} {w = w} {s = s} h t p q r =
     record {
       within = omega arith;
       few = t .few;
       long = t .long;
       addrs = rw (t .addrs, more) (filled-more (λ (t : Tag). t .address) (tagsOf words k) (tagOf (getD words k 0)) k a sized low p);
       widths = rw (t .widths, more) (filled-more (λ (t : Tag). t .width) (tagsOf words k) (tagOf (getD words k 0)) k w sized low q);
+      signs = rw (t .signs, more) (filled-more (λ (t : Tag). t .sign) (tagsOf words k) (tagOf (getD words k 0)) k s sized low r);
     }
   where
     low : k < mostTags
@@ -262,12 +293,13 @@ taken-more {words} {k = k} {a = a} {w = w} h t p q =
     more : tagsOf words (k + 1) ≡ tagsOf words k ++ (tagOf (getD words k 0) ∷ [])
     more = rw (add-one k, take-suc words k 0 (omega (arith, t .few, t .long))) (map-append tagOf (take k words) (getD words k 0 ∷ []))
 
-pub taken-all : (timeout join : ℕ) {words : List ℕ} {tagged : ℕ} {addr width : List ℕ} {k : ℕ} → tagged ≤ k → Taken words tagged addr width k
-    → settings timeout join tagged addr width ≡ settingsOf (record { timeout = timeout; join = join; tags = tagsOf words tagged })
+pub taken-all : (timeout join : ℕ) {words : List ℕ} {tagged : ℕ} {addr width sign : List ℕ} {k : ℕ} → tagged ≤ k → Taken words tagged addr width sign k
+    → settings timeout join tagged addr width sign ≡ settingsOf (record { timeout = timeout; join = join; tags = tagsOf words tagged })
 unfolding settingsOf
 taken-all timeout join {words} {tagged} {k = k} h t =
     let e : k ≡ tagged = omega (arith, t .within) in
     let a = rw e at (t .addrs) in
     let w = rw e at (t .widths) in
+    let s = rw e at (t .signs) in
     let n : length (tagsOf words tagged) ≡ tagged = length-map (take tagged words) tagOf ∙ length-take-le tagged words (omega (arith, t .few, t .long)) in
-    rw (a, w, n)
+    rw (a, w, s, n)

@@ -16,12 +16,15 @@ use Rattle.laws.specs.Lists.{tab}
 use Rattle.laws.proofs.Choice.{eq-or, and-left, and-right}
 use Rattle.laws.proofs.ListLaws.{tab-ext, tab-more, length-tab, tab-getD, getD-map, getD-zeros}
 use Rattle.settings.specs.declared.Settings.{Settings}
-use Rattle.settings.specs.Grammar.{Tag, Value, Line, newest, tagNumbers, lastRegister, ascends, rightTimeout, rightJoin, rightTags, rightWidth, allRight, tagsRight, validIn, valid}
+use Rattle.settings.specs.Grammar.{Tag, Value, Line, newest, tagNumbers, lastRegister, ascends, rightTimeout, rightJoin, rightTags, rightWidth, rightSign, allRight, tagsRight, validIn, valid}
 use Rattle.settings.specs.Values.{valueOf, settingsOf, padded, sameTags, same}
 
 -- tags and values are equal where their fields are
-pub tag-ext : (t u : Tag) → t .address ≡ u .address → t .width ≡ u .width → t ≡ u
-tag-ext t u a w = ap (λ (x : ℕ). record { address = x; width = t .width }) a ∙ ap (λ (x : ℕ). record { address = u .address; width = x }) w
+pub tag-ext : (t u : Tag) → t .address ≡ u .address → t .width ≡ u .width → t .sign ≡ u .sign → t ≡ u
+tag-ext t u a w s =
+    ap (λ (x : ℕ). record { address = x; width = t .width; sign = t .sign }) a
+    ∙ ap (λ (x : ℕ). record { address = u .address; width = x; sign = t .sign }) w
+    ∙ ap (λ (x : ℕ). record { address = u .address; width = u .width; sign = x }) s
 
 pub value-ext : (v w : Value) → v .timeout ≡ w .timeout → v .join ≡ w .join → v .tags ≡ w .tags → v ≡ w
 value-ext v w t j s =
@@ -30,11 +33,11 @@ value-ext v w t j s =
     ∙ ap (λ (x : List Tag). record { timeout = w .timeout; join = w .join; tags = x }) s
 
 abbrev blank : Tag
-blank = record { address = 0; width = 0 }
+blank = record { address = 0; width = 0; sign = 0 }
 
 -- the tag at a place of the boundary's struct
 abbrev pub tagAt : Settings → ℕ → Tag
-tagAt s k = record { address = getD (s .addr) k 0; width = getD (s .width) k 0 }
+tagAt s k = record { address = getD (s .addr) k 0; width = getD (s .width) k 0; sign = getD (s .sign) k 0 }
 
 -- the numbers of the last tag, and those of the tag before where there is none
 unfoldable pub lastOr : List ℕ → List Tag → List ℕ
@@ -56,16 +59,19 @@ unfolding lastOr
 last-snoc prior [] t = refl
 last-snoc prior (u ∷ ts) t = last-snoc (tagNumbers u) ts t
 
-right-snoc : (ls : List Line) (prior : List ℕ) (ts : List Tag) (t : Tag) → tagsRight ls prior (ts ++ (t ∷ [])) ≡ (tagsRight ls prior ts && allRight ls (lastOr prior ts) [] (tagNumbers t))
+right-snoc : (prior : List ℕ) (ts : List Tag) (t : Tag) → tagsRight (newest .tag) prior (ts ++ (t ∷ [])) ≡ (tagsRight (newest .tag) prior ts && allRight (newest .tag) (lastOr prior ts) [] (tagNumbers t))
 unfolding lastOr tagsRight
-right-snoc ls prior [] t = and-true (allRight ls prior [] (tagNumbers t))
-right-snoc ls prior (u ∷ ts) t =
-    rw (right-snoc ls (tagNumbers u) ts t)
-    (sym (and-assoc (allRight ls prior [] (tagNumbers u)) (tagsRight ls (tagNumbers u) ts) (allRight ls (lastOr (tagNumbers u) ts) [] (tagNumbers t))))
+right-snoc prior [] t = and-true (allRight (newest .tag) prior [] (tagNumbers t))
+right-snoc prior (u ∷ ts) t =
+    rw (right-snoc (tagNumbers u) ts t)
+    (sym (and-assoc (allRight (newest .tag) prior [] (tagNumbers u)) (tagsRight (newest .tag) (tagNumbers u) ts) (allRight (newest .tag) (lastOr (tagNumbers u) ts) [] (tagNumbers t))))
 
--- the rules of a tag's lines, given the tag before
+-- the rules of a tag's lines behind its address, and of all of them, given the first address that may follow
+abbrev pub rightKind : Tag → Bool
+rightKind t = rightWidth (t .address ∷ []) (t .width) && rightSign (t .address ∷ t .width ∷ []) (t .sign)
+
 pub tag-right : (prior : List ℕ) (t : Tag) → t .address < addresses
-    → allRight (newest .tag) prior [] (tagNumbers t) ≡ (leb (fromOf prior) (t .address) && rightWidth (t .address ∷ []) (t .width))
+    → allRight (newest .tag) prior [] (tagNumbers t) ≡ (leb (fromOf prior) (t .address) && rightKind t)
 unfolding allRight
 tag-right prior t low = rw (lt-ltb (t .address) addresses low, ascends-from prior (t .address), and-true)
 
@@ -80,13 +86,13 @@ module _ (f : ℕ → Tag) where
   checked-none = record { so-far = refl; next = refl }
 
   pub checked-more : {right this : Bool} {from from′ k : ℕ} → f k .address < addresses → Checked f right from k
-      → this ≡ (leb from (f k .address) && rightWidth (f k .address ∷ []) (f k .width))
+      → this ≡ (leb from (f k .address) && rightKind (f k))
       → from′ ≡ lastRegister (tagNumbers (f k)) + 1
       → Checked f (right && this) from′ (k + 1)
   unfolding fromOf
   checked-more {k = k} low w e n =
       let m = tab-more k f in
-      let r = rw (tag-right (lastOr [] (tab k f)) (f k) low, ← w .so-far, ← w .next, ← e) at (right-snoc (newest .tag) [] (tab k f) (f k)) in
+      let r = rw (tag-right (lastOr [] (tab k f)) (f k) low, ← w .so-far, ← w .next, ← e) at (right-snoc [] (tab k f) (f k)) in
       let l : lastOr [] (tab (k + 1) f) ≡ tagNumbers (f k) = rw m (last-snoc [] (tab k f) (f k)) in
       record { so-far = rw m (sym r); next = rw l n }
 
@@ -116,7 +122,7 @@ checked-all s e t q w = w .so-far ∙ rw q (sym (valid-struct s ∙ rw (← e) (
 
 -- two lists of tags, tag by tag
 abbrev pub sameTag : Tag → Tag → Bool
-sameTag t u = eqb (t .address) (u .address) && eqb (t .width) (u .width)
+sameTag t u = eqb (t .address) (u .address) && (eqb (t .width) (u .width) && eqb (t .sign) (u .sign))
 
 same-snoc : (ts us : List Tag) (t u : Tag) → length ts ≡ length us → sameTags (ts ++ (t ∷ [])) (us ++ (u ∷ [])) ≡ (sameTags ts us && sameTag t u)
 unfolding sameTags
@@ -133,7 +139,7 @@ same-length (x ∷ ts) [] e = refl
 same-length (x ∷ ts) (y ∷ us) e = rw (same-length ts us (λ z. e (ap suc z))) (simp and-false)
 
 same-tag : (t : Tag) → sameTag t t ≡ true
-same-tag t = rw (eq-eqb (t .address) (t .address) refl, eq-eqb (t .width) (t .width) refl)
+same-tag t = rw (eq-eqb (t .address) (t .address) refl, eq-eqb (t .width) (t .width) refl, eq-eqb (t .sign) (t .sign) refl)
 
 module _ (f g : ℕ → Tag) where
   pub same-more : (k : ℕ) → sameTags (tab (k + 1) f) (tab (k + 1) g) ≡ (sameTags (tab k f) (tab k g) && sameTag (f k) (g k))
@@ -156,9 +162,12 @@ sameTo a b k = sameHead a b && sameTags (tab k (tagAt a)) (tab k (tagAt b))
 pub record Sized (s : Settings) : Type 0 where
   pub addresses : length (s .addr) ≡ mostTags
   pub widths : length (s .width) ≡ mostTags
+  pub signs : length (s .sign) ≡ mostTags
 
 blank-beyond : (s : Settings) (k : ℕ) → Sized s → mostTags ≤ k → tagAt s k ≡ blank
-blank-beyond s k z h = tag-ext (tagAt s k) blank (List·getD-eq-default (s .addr) 0 (omega (arith, z .addresses))) (List·getD-eq-default (s .width) 0 (omega (arith, z .widths)))
+blank-beyond s k z h =
+    tag-ext (tagAt s k) blank (List·getD-eq-default (s .addr) 0 (omega (arith, z .addresses))) (List·getD-eq-default (s .width) 0 (omega (arith, z .widths)))
+    (List·getD-eq-default (s .sign) 0 (omega (arith, z .signs)))
 
 pub same-none : (a b : Settings) → sameTo a b 0 ≡ sameHead a b
 unfolding tab sameTags
@@ -191,13 +200,15 @@ tags-equal (t ∷ ts) (u ∷ us) e =
     let a = eqb-true (t .address) (u .address) (and-left (eqb (t .address) (u .address)) _ e) in
     let r = and-right (eqb (t .address) (u .address)) _ e in
     let w = eqb-true (t .width) (u .width) (and-left (eqb (t .width) (u .width)) _ r) in
-    let s = tags-equal ts us (and-right (eqb (t .width) (u .width)) _ r) in
-    cc (tag-ext t u a w)
+    let q = and-right (eqb (t .width) (u .width)) _ r in
+    let g = eqb-true (t .sign) (u .sign) (and-left (eqb (t .sign) (u .sign)) _ q) in
+    let s = tags-equal ts us (and-right (eqb (t .sign) (u .sign)) _ q) in
+    cc (tag-ext t u a w g)
 
 tags-same : (ts : List Tag) → sameTags ts ts ≡ true
 unfolding sameTags
 tags-same [] = refl
-tags-same (t ∷ ts) = rw (eq-eqb (t .address) (t .address) refl, eq-eqb (t .width) (t .width) refl) (tags-same ts)
+tags-same (t ∷ ts) = rw (eq-eqb (t .address) (t .address) refl, eq-eqb (t .width) (t .width) refl, eq-eqb (t .sign) (t .sign) refl) (tags-same ts)
 
 -- two values are the same exactly if they are equal
 pub same-is-equal : (v w : Value) → (same v w ≡ true → v ≡ w) × (v ≡ w → same v w ≡ true)
@@ -218,7 +229,7 @@ unfolding valueOf settingsOf
 value-back v =
     value-ext (valueOf (settingsOf v)) v refl refl
     (tab-ext (length (v .tags)) (tagAt (settingsOf v)) (λ k. getD (v .tags) k blank)
-    (λ k h. tag-ext (tagAt (settingsOf v) k) (getD (v .tags) k blank) (of (λ t. t .address) k h) (of (λ t. t .width) k h))
+    (λ k h. tag-ext (tagAt (settingsOf v) k) (getD (v .tags) k blank) (of (λ t. t .address) k h) (of (λ t. t .width) k h) (of (λ t. t .sign) k h))
     ∙ tab-getD blank (v .tags) (length (v .tags)) refl)
   where
     of : (field : Tag → ℕ) (k : ℕ) → k < length (v .tags) → getD (padded (map field (v .tags))) k 0 ≡ field (getD (v .tags) k blank)

@@ -1,28 +1,29 @@
 -- What the theorems ask of a version, how reading a text goes, and how long its lines are.
 -- Assumes nothing.
-use Prim.Native.Nat.{suc, ℕ, _+_, _*_, _≤_, _<_}
-use mathlib.Core.Path.{_≡_, refl, ap, sym, _∙_}
+use Prim.Native.Nat.{ℕ, zero, suc, _+_, _*_, _≤_, _<_}
+use mathlib.Core.Path.{_≡_, refl, ap, sym, subst, _∙_}
 use mathlib.Core.Logic.{⊎-elim, _⊎_, inl, inr}
 use mathlib.Core.Bool.{Bool, true, false, _&&_, false≢true}
 use mathlib.Core.Option.{Option, some, none, Option·some-injective, Option·none-ne-some}
-use mathlib.Core.List.{List, [], _∷_, _++_, flatMap, append-nil, List·Memᴰ, List·Memᴰ·head, List·Memᴰ·tail, List·Memᴰ·cases-cons, List·Memᴰ·not-nil}
+use mathlib.Core.List.{List, [], _∷_, _++_, map, flatMap, append-nil, List·Memᴰ, List·Memᴰ·head, List·Memᴰ·tail, List·Memᴰ·cases-cons, List·Memᴰ·not-nil}
+use native.Mathlib.Nat.{suc-mul}
 use native.Mathlib.Omega.{arith}
-use lib.ListN.{length, getD, length-append}
+use lib.ListN.{length, getD, take, length-append, length-take}
 use lib.Dec.{eqb, ltb, leb}
 use borrow.Author.Tests.{leb-true, ltb-true, eqb-true, ne-eqb}
-use Rattle.laws.specs.Numbers.{mostTags, addresses}
+use Rattle.laws.specs.Numbers.{mostTags, leastTimeout, mostTimeout, addresses}
 use Rattle.laws.proofs.Choice.{true-or, and-left, and-right, or-second}
-use Rattle.settings.specs.Lines.{Numbered, lineIn}
-use Rattle.settings.specs.Grammar.{Tag, Value, Version, Read, headNumbers, tagNumbers, valueFrom, addrKey, widthKey, rightAddr, rightWidth, version1, versions, versionKey, versionIn, textOfLines, textIn, allRight, tagsRight, validIn, readLines, readTags, readIn, readText, readBehind}
+use Rattle.settings.specs.Lines.{Numbered, lineOf, lineIn}
+use Rattle.settings.specs.Grammar.{Tag, Value, Line, Version, Read, headNumbers, valueFrom, numbersIn, addrKey, widthKey, signKey, rightSign, rightWidth, headLines, tagLines, versionOf, versions, timeoutKey, joinKey, tagsKey, versionKey, versionIn, textOfLines, textIn, allRight, tagsRight, validIn, toldIn, readLines, readTags, readIn, readText, readBehind}
 use Rattle.settings.specs.Grammar.Read.{got, wrong}
 use Rattle.settings.proofs.LineLaws.{numbered, line-length, line-back}
-use Rattle.settings.proofs.RowLaws.{Bounded, lines-back, tagsText, tags-back}
+use Rattle.settings.proofs.RowLaws.{Bounded, Few, told, lines-back, tagsText, tags-back}
 
--- what is asked of a version: a line for each number of a value and of a tag, and rules that bound the numbers
+-- what is asked of a version: a line for each number of a value, none that a tag has no number for, and rules that bound the numbers
 pub record Fit (x : Version) : Type 0 where
   pub small : x .number < addresses
   pub heads : length (x .head) ≡ 3
-  pub tags : length (x .tag) ≡ 2
+  pub tags : Few (x .tag)
   pub headBounded : Bounded (x .head)
   pub tagBounded : Bounded (x .tag)
   pub few : (ns : List ℕ) → allRight (x .head) [] [] ns ≡ true → getD ns 2 0 ≤ mostTags
@@ -37,33 +38,60 @@ widths own n t =
 pub width-most : (own : List ℕ) (n : ℕ) → rightWidth own n ≡ true → n ≤ 32
 width-most own n t = ⊎-elim (λ (e : n ≡ 16). omega arith) (λ (e : n ≡ 32). omega arith) (widths own n t)
 
-pub few-tags : (ns : List ℕ) → allRight (version1 .head) [] [] ns ≡ true → getD ns 2 0 ≤ mostTags
+pub sign-most : (own : List ℕ) (n : ℕ) → rightSign own n ≡ true → n ≤ 1
+sign-most own n t =
+    ⊎-elim
+    (λ (e : eqb n 0 ≡ true). omega (arith, eqb-true n 0 e))
+    (λ (e : eqb n 0 ≡ false). omega (arith, eqb-true n 1 (and-left (eqb n 1) _ (or-second (eqb n 0) _ e t))))
+    (true-or (eqb n 0))
+
+pub few-tags : (ns : List ℕ) → allRight headLines [] [] ns ≡ true → getD ns 2 0 ≤ mostTags
 unfolding allRight
 few-tags [] t = absurd (false≢true t)
 few-tags (a ∷ []) t = omega arith
 few-tags (a ∷ b ∷ []) t = omega arith
 few-tags (a ∷ b ∷ c ∷ ns) t = leb-true c mostTags (and-left (leb c mostTags) _ (and-right (leb b 1) _ (and-right (leb 100 a && leb a 60000) _ t)))
 
-pub fit1 : Fit version1
-fit1 =
+pub tags-bounded : Bounded tagLines
+tags-bounded = (
+  λ prior own n t. ltb-true n addresses (and-left (ltb n addresses) _ t),
+  (λ prior own n t. omega (arith, width-most own n t), (λ prior own n t. omega (arith, sign-most own n t), tt)),
+)
+
+first-bounded : (n : ℕ) (ls : List Line) → Bounded ls → Bounded (take n ls)
+first-bounded zero ls b = tt
+first-bounded (suc n) [] b = tt
+first-bounded (suc n) (l ∷ ls) b = (b .0, first-bounded n ls (b .1))
+
+-- every version is fit
+pub fit : (n : ℕ) → n < addresses → Fit (versionOf n)
+fit n l =
     record {
-      small = omega arith;
+      small = l;
       heads = refl;
-      tags = refl;
+      tags = omega (arith, length-take (suc n) tagLines);
       headBounded = (
         λ prior own n t. omega (arith, leb-true n 60000 (and-right (leb 100 n) (leb n 60000) t)),
         (λ prior own n t. omega (arith, leb-true n 1 t), (λ prior own n t. omega (arith, leb-true n 256 t), tt)),
       );
-      tagBounded = (λ prior own n t. ltb-true n addresses (and-left (ltb n addresses) _ t), (λ prior own n t. omega (arith, width-most own n t), tt));
+      tagBounded = first-bounded (suc n) tagLines tags-bounded;
       few = few-tags;
     }
 
+-- a listed version is one of these
+pub one-of : (P : Version → Type 0) → P (versionOf 1) → P (versionOf 2) → (x : Version) → List·Memᴰ x versions → P x
+one-of P p q x m =
+    ⊎-elim
+    (λ (e : x ≡ versionOf 1). subst P (sym e) p)
+    (λ n. ⊎-elim (λ (e : x ≡ versionOf 2). subst P (sym e) q) (λ k. absurd (List·Memᴰ·not-nil k)) (List·Memᴰ·cases-cons n))
+    (List·Memᴰ·cases-cons m)
+
 pub fits : (x : Version) → List·Memᴰ x versions → Fit x
-fits x m = ⊎-elim (λ (e : x ≡ version1). rw e fit1) (λ n. absurd (List·Memᴰ·not-nil n)) (List·Memᴰ·cases-cons m)
+fits = one-of Fit (fit 1 (omega arith)) (fit 2 (omega arith))
 
 pub found : (x : Version) → List·Memᴰ x versions → versionIn versions (x .number) ≡ some x
 unfolding versionIn
-found x m = ⊎-elim (λ (e : x ≡ version1). rw e refl) (λ n. absurd (List·Memᴰ·not-nil n)) (List·Memᴰ·cases-cons m)
+found = one-of (λ x. versionIn versions (x .number) ≡ some x) refl refl
 
 pub listed : (xs : List Version) (n : ℕ) (x : Version) → versionIn xs n ≡ some x → List·Memᴰ x xs × (x .number ≡ n)
 unfolding versionIn
@@ -132,31 +160,54 @@ went t = version (lineIn versionKey t) refl
     version none e = rw (e, readText) unversioned
     version (some y) e = number y e (versionIn versions (y .number)) refl
 
--- a valid value's text is read
-pub back : (x : Version) (v : Value) → Fit x → versionIn versions (x .number) ≡ some x → validIn x v ≡ true → readText (textIn x v) ≡ got v []
-unfolding textIn validIn
+-- a valid value's text is read to what it tells
+pub back : (x : Version) (v : Value) → Fit x → versionIn versions (x .number) ≡ some x → validIn x v ≡ true → readText (textIn x v) ≡ got (toldIn x v) []
+unfolding textIn validIn toldIn
 back x v f l r =
     let first : Bool = allRight (x .head) [] [] (headNumbers v) in
     let head : List ℕ = textOfLines (x .head) (headNumbers v) in
     let tags : List ℕ = tagsText (x .tag) (v .tags) in
     text-version (textIn x v) (numbered (x .number) (head ++ tags)) x (line-back versionKey (x .number) (head ++ tags) (omega (arith, f .small))) l
     ∙ text-head x (head ++ tags) (headNumbers v) tags (lines-back 2 (x .head) [] [] (headNumbers v) tags (f .headBounded) (sym (f .heads)) (and-left first _ r))
-    ∙ text-tags x (headNumbers v) tags (v .tags) (rw (append-nil tags) at (tags-back (2 + length (x .head)) (x .tag) [] (v .tags) [] (f .tagBounded) (f .tags) (and-right first _ r)))
+    ∙ text-tags x (headNumbers v) tags (map (told (x .tag)) (v .tags)) (rw (append-nil tags) at (tags-back (2 + length (x .head)) (x .tag) [] (v .tags) [] (f .tagBounded) (f .tags) (and-right first _ r)))
 
--- how long the tags' lines are
-tag-length : (t : Tag) (prior : List ℕ) → allRight (version1 .tag) prior [] (tagNumbers t) ≡ true → length (textOfLines (version1 .tag) (tagNumbers t)) ≤ 20
-unfolding allRight textOfLines
-tag-length t prior r =
-    let first = and-left (rightAddr prior (t .address)) _ r in
-    let second = and-left (rightWidth (t .address ∷ []) (t .width)) true (and-right (rightAddr prior (t .address)) _ r) in
-    let address = line-length addrKey 4 (t .address) (omega (arith, fit1 .tagBounded .0 prior [] (t .address) first)) in
-    let width = line-length widthKey 1 (t .width) (omega (arith, width-most (t .address ∷ []) (t .width) second)) in
+-- how long right lines are: each of them at most so many bytes
+abbrev pub Long : List Line → List ℕ → Type 0
+Long [] ms = Unit {0}
+Long (l ∷ ls) [] = Unit {0} → ⊥
+Long (l ∷ ls) (m ∷ ms) = ((prior own : List ℕ) (n : ℕ) → l .right prior own n ≡ true → length (lineOf (l .key) n) ≤ m) × Long ls ms
+
+unfoldable pub total : List ℕ → ℕ
+total [] = 0
+total (m ∷ ms) = m + total ms
+
+pub lines-length : (ls : List Line) (ms prior own ns : List ℕ) → Long ls ms → allRight ls prior own ns ≡ true → length (textOfLines ls ns) ≤ total ms
+unfolding allRight textOfLines total
+lines-length [] ms prior own ns f r = omega arith
+lines-length (l ∷ ls) [] prior own ns f r = absurd (f tt)
+lines-length (l ∷ ls) (m ∷ ms) prior own [] f r = absurd (false≢true r)
+lines-length (l ∷ ls) (m ∷ ms) prior own (n ∷ ns) f r =
+    let here = f .0 prior own n (and-left (l .right prior own n) _ r) in
+    let rest = lines-length ls ms prior (own ++ (n ∷ [])) ns (f .1) (and-right (l .right prior own n) _ r) in
     simp length-append (omega arith)
 
-pub tags-length : (ts : List Tag) (prior : List ℕ) → tagsRight (version1 .tag) prior ts ≡ true → length (tagsText (version1 .tag) ts) ≤ 20 * length ts
+pub tags-length : (ls : List Line) (ms : List ℕ) → Long ls ms → (ts : List Tag) (prior : List ℕ) → tagsRight ls prior ts ≡ true → length (tagsText ls ts) ≤ length ts * total ms
 unfolding tagsRight flatMap
-tags-length [] prior r = omega arith
-tags-length (t ∷ ts) prior r =
-    let here = tag-length t prior (and-left _ (tagsRight (version1 .tag) (tagNumbers t) ts) r) in
-    let rest = tags-length ts (tagNumbers t) (and-right (allRight (version1 .tag) prior [] (tagNumbers t)) _ r) in
-    simp length-append (omega arith)
+tags-length ls ms f [] prior r = omega arith
+tags-length ls ms f (t ∷ ts) prior r =
+    let here = lines-length ls ms prior [] (numbersIn ls t) f (and-left _ (tagsRight ls (numbersIn ls t) ts) r) in
+    let rest = tags-length ls ms f ts (numbersIn ls t) (and-right (allRight ls prior [] (numbersIn ls t)) _ r) in
+    simp (length-append, suc-mul) (omega arith)
+
+-- the lines before the tags, and those of a tag
+pub head-long : Long headLines (14 ∷ 7 ∷ 9 ∷ [])
+head-long = (
+  λ prior own n t. line-length timeoutKey 4 n (omega (arith, leb-true n mostTimeout (and-right (leb leastTimeout n) (leb n mostTimeout) t))),
+  (λ prior own n t. line-length joinKey 0 n (omega (arith, leb-true n 1 t)), (λ prior own n t. line-length tagsKey 2 n (omega (arith, leb-true n mostTags t)), tt)),
+)
+
+pub tag-long : Long tagLines (11 ∷ 9 ∷ 7 ∷ [])
+tag-long = (
+  λ prior own n t. line-length addrKey 4 n (omega (arith, tags-bounded .0 prior own n t)),
+  (λ prior own n t. line-length widthKey 1 n (omega (arith, width-most own n t)), (λ prior own n t. line-length signKey 0 n (omega (arith, sign-most own n t)), tt)),
+)

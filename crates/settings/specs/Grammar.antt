@@ -3,31 +3,32 @@
 use Prim.Native.Nat.{ℕ, zero, suc, _+_, _*_}
 use mathlib.Core.Bool.{Bool, true, false, cond, _&&_, _||_}
 use mathlib.Core.Option.{Option, some, none}
-use mathlib.Core.List.{List, [], _∷_, _++_, flatMap}
-use lib.ListN.{length, getD}
+use mathlib.Core.List.{List, [], _∷_, _++_, map, flatMap}
+use lib.ListN.{length, getD, take}
 use lib.Dec.{eqb, ltb, leb}
-use Rattle.laws.specs.Numbers.{mostTags, leastTimeout, mostTimeout, addresses}
+use Rattle.laws.specs.Numbers.{mostTags, leastTimeout, mostTimeout, addresses, newestVersion}
 use Rattle.settings.specs.Lines.{Numbered, lineOf, lineIn}
 
 -- a settings value: timeout, join, and its tags in their order
 pub record Tag : Type 0 where
   pub address : ℕ
   pub width : ℕ
+  pub sign : ℕ
 
 pub record Value : Type 0 where
   pub timeout : ℕ
   pub join : ℕ
   pub tags : List Tag
 
--- the numbers of a value's lines behind the version line, and of a tag's lines, in the newest version; an older version has the first of them
+-- the numbers of a value's lines behind the version line, and of a tag's lines, in the newest version; an older version has the first of a tag's lines, and the others' numbers are 0
 abbrev pub headNumbers : Value → List ℕ
 headNumbers v = v .timeout ∷ v .join ∷ length (v .tags) ∷ []
 
 abbrev pub tagNumbers : Tag → List ℕ
-tagNumbers t = t .address ∷ t .width ∷ []
+tagNumbers t = t .address ∷ t .width ∷ t .sign ∷ []
 
 abbrev pub tagFrom : List ℕ → Tag
-tagFrom ns = record { address = getD ns 0 0; width = getD ns 1 0 }
+tagFrom ns = record { address = getD ns 0 0; width = getD ns 1 0; sign = getD ns 2 0 }
 
 abbrev pub valueFrom : List ℕ → List Tag → Value
 valueFrom ns ts = record { timeout = getD ns 0 0; join = getD ns 1 0; tags = ts }
@@ -48,7 +49,7 @@ unfoldable pub ascends : List ℕ → ℕ → Bool
 ascends [] n = true
 ascends (a ∷ ns) n = ltb (lastRegister (a ∷ ns)) n
 
--- "version", "timeout", "join", "tags", "addr", "width"
+-- "version", "timeout", "join", "tags", "addr", "width", "sign"
 abbrev pub versionKey : List ℕ
 versionKey = 118 ∷ 101 ∷ 114 ∷ 115 ∷ 105 ∷ 111 ∷ 110 ∷ []
 
@@ -67,6 +68,9 @@ addrKey = 97 ∷ 100 ∷ 100 ∷ 114 ∷ []
 abbrev pub widthKey : List ℕ
 widthKey = 119 ∷ 105 ∷ 100 ∷ 116 ∷ 104 ∷ []
 
+abbrev pub signKey : List ℕ
+signKey = 115 ∷ 105 ∷ 103 ∷ 110 ∷ []
+
 -- the rule of each line
 abbrev pub rightTimeout : ℕ → Bool
 rightTimeout n = leb leastTimeout n && leb n mostTimeout
@@ -83,25 +87,32 @@ rightAddr prior n = ltb n addresses && ascends prior n
 abbrev pub rightWidth : List ℕ → ℕ → Bool
 rightWidth own n = eqb n 16 || (eqb n 32 && ltb (getD own 0 0 + 1) addresses)
 
--- a version: its number, its lines behind the version line, and the lines of each tag. A later version is one more of these
+-- only a tag of width 16 has a sign
+abbrev pub rightSign : List ℕ → ℕ → Bool
+rightSign own n = eqb n 0 || (eqb n 1 && eqb (getD own 1 0) 16)
+
+-- the lines before the tags, and the lines of a tag in the order in which the versions brought them: a later line of a tag is one more here
+abbrev pub headLines : List Line
+headLines = line timeoutKey (λ prior own n. rightTimeout n) ∷ line joinKey (λ prior own n. rightJoin n) ∷ line tagsKey (λ prior own n. rightTags n) ∷ []
+
+abbrev pub tagLines : List Line
+tagLines = line addrKey (λ prior own n. rightAddr prior n) ∷ line widthKey (λ prior own n. rightWidth own n) ∷ line signKey (λ prior own n. rightSign own n) ∷ []
+
+-- a version: its number, its lines behind the version line, and the lines of each tag
 pub record Version : Type 0 where
   pub number : ℕ
   pub head : List Line
   pub tag : List Line
 
-abbrev pub version1 : Version
-version1 =
-    record {
-      number = 1;
-      head = line timeoutKey (λ prior own n. rightTimeout n) ∷ line joinKey (λ prior own n. rightJoin n) ∷ line tagsKey (λ prior own n. rightTags n) ∷ [];
-      tag = line addrKey (λ prior own n. rightAddr prior n) ∷ line widthKey (λ prior own n. rightWidth own n) ∷ [];
-    }
+-- version 1 has address and width, and each version one line more
+abbrev pub versionOf : ℕ → Version
+versionOf n = record { number = n; head = headLines; tag = take (suc n) tagLines }
 
 abbrev pub versions : List Version
-versions = version1 ∷ []
+versions = versionOf 1 ∷ versionOf 2 ∷ []
 
 abbrev pub newest : Version
-newest = version1
+newest = versionOf newestVersion
 
 -- the listed version of that number
 unfoldable pub versionIn : List Version → ℕ → Option Version
@@ -114,9 +125,13 @@ textOfLines [] ns = []
 textOfLines (l ∷ ls) [] = []
 textOfLines (l ∷ ls) (n ∷ ns) = lineOf (l .key) n ++ textOfLines ls ns
 
+-- the numbers of a tag that have a line
+abbrev pub numbersIn : List Line → Tag → List ℕ
+numbersIn ls t = take (length ls) (tagNumbers t)
+
 unfoldable pub textIn : Version → Value → List ℕ
 textIn x v =
-    lineOf versionKey (x .number) ++ (textOfLines (x .head) (headNumbers v) ++ flatMap (λ t. textOfLines (x .tag) (tagNumbers t)) (v .tags))
+    lineOf versionKey (x .number) ++ (textOfLines (x .head) (headNumbers v) ++ flatMap (λ t. textOfLines (x .tag) (numbersIn (x .tag) t)) (v .tags))
 
 -- every number follows the rule of its line
 unfoldable pub allRight : List Line → List ℕ → List ℕ → List ℕ → Bool
@@ -126,13 +141,17 @@ allRight (l ∷ ls) prior own (n ∷ ns) = l .right prior own n && allRight ls p
 
 unfoldable pub tagsRight : List Line → List ℕ → List Tag → Bool
 tagsRight ls prior [] = true
-tagsRight ls prior (t ∷ ts) = allRight ls prior [] (tagNumbers t) && tagsRight ls (tagNumbers t) ts
+tagsRight ls prior (t ∷ ts) = allRight ls prior [] (numbersIn ls t) && tagsRight ls (numbersIn ls t) ts
 
 unfoldable pub validIn : Version → Value → Bool
 validIn x v = allRight (x .head) [] [] (headNumbers v) && tagsRight (x .tag) [] (v .tags)
 
 abbrev pub valid : Value → Bool
 valid v = validIn newest v
+
+-- what a version's text tells of a value: the numbers of the lines that it has, and 0 for the others
+unfoldable pub toldIn : Version → Value → Value
+toldIn x v = record { timeout = v .timeout; join = v .join; tags = map (λ (t : Tag). tagFrom (numbersIn (x .tag) t)) (v .tags) }
 
 -- a line whose number follows a rule
 unfoldable pub kept : (ℕ → Bool) → Option Numbered → Option Numbered

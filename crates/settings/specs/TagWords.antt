@@ -6,32 +6,42 @@ use mathlib.Core.List.{List, [], _∷_}
 use lib.Dec.{eqb}
 use Rattle.laws.specs.Numbers.{addresses}
 use Rattle.bcd.specs.declared.Kind.{Kind}
-use Rattle.bcd.specs.declared.Kind.the-variants.{Width16, Width32}
+use Rattle.bcd.specs.declared.Kind.the-variants.{Width16, Width32, Signed16}
 use Rattle.bcd.specs.Bcd.{registers}
 use Rattle.settings.specs.Grammar.{Tag}
 
--- a tag's kind, and a kind's width
+-- a tag's kind, and a kind's width and sign
 unfoldable pub kindOf : Tag → Kind
-kindOf t = cond (eqb (t .width) 32) Width32 Width16
+kindOf t = cond (eqb (t .width) 32) Width32 (cond (eqb (t .sign) 1) Signed16 Width16)
 
 unfoldable pub widthOf : Kind → ℕ
 widthOf Width16 = 16
 widthOf Width32 = 32
+widthOf Signed16 = 16
+
+unfoldable pub signOf : Kind → ℕ
+signOf Width16 = 0
+signOf Width32 = 0
+signOf Signed16 = 1
 
 -- the kinds' numbers in a word
 unfoldable pub kindNumber : Kind → ℕ
 kindNumber Width16 = 0
 kindNumber Width32 = 1
+kindNumber Signed16 = 2
 
 unfoldable pub kindFrom : ℕ → Kind
-kindFrom n = cond (eqb n 1) Width32 Width16
+kindFrom n = cond (eqb n 1) Width32 (cond (eqb n 2) Signed16 Width16)
 
 -- a tag's word; and the tag of any word
 unfoldable pub wordOf : Tag → ℕ
 wordOf t = t .address + addresses * kindNumber (kindOf t)
 
+abbrev pub tagOfKind : ℕ → Kind → Tag
+tagOfKind a k = record { address = a; width = widthOf k; sign = signOf k }
+
 unfoldable pub tagOf : ℕ → Tag
-tagOf word = record { address = word % addresses; width = widthOf (kindFrom (word / addresses % 256)) }
+tagOf word = tagOfKind (word % addresses) (kindFrom (word / addresses % 256))
 
 -- the last register of a tag
 abbrev pub lastOf : Tag → ℕ

@@ -4,7 +4,7 @@ ghost use Prim.Native.Nat.{ℕ};
 ghost use Rattle.settings.specs.TagWords.{kindOf};
 use bcd::Kind;
 
-// The boundary's settings: how many of the tag places count, and each tag's address and width.
+// The boundary's settings: how many of the tag places count, and each tag's address, width and sign.
 #[repr(C)]
 pub struct Settings {
     pub timeout: u32,
@@ -12,14 +12,17 @@ pub struct Settings {
     pub tags: u32,
     pub addr: [u16; laws::MOST_TAGS],
     pub width: [u16; laws::MOST_TAGS],
+    pub sign: [u16; laws::MOST_TAGS],
 }
 
-// The kind of a tag, which its width alone decides.
-pub fn kind_of(width: u16) -> Kind
-    ensures { λ r. ⌜ ((address : ℕ) → r ≡ kindOf (record { address = address; width = width })) ⌝ }
+// The kind of a tag, which its width and its sign decide.
+pub fn kind_of(width: u16, sign: u16) -> Kind
+    ensures { λ r. ⌜ ((address : ℕ) → r ≡ kindOf (record { address = address; width = width; sign = sign })) ⌝ }
 {
     if width == 32 {
         Kind::Width32
+    } else if sign == 1 {
+        Kind::Signed16
     } else {
         Kind::Width16
     }

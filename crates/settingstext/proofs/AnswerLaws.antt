@@ -1,32 +1,30 @@
 -- The answers of the line reader: what a rule keeps, the place behind a line, and each answer as a step of reading several lines or a tag.
 -- Assumes nothing.
-use Prim.Native.Nat.{ℕ, suc, _+_, _-_, _≤_, _<_, min}
+use Prim.Native.Nat.{ℕ, zero, suc, _+_, _-_, _/_, _≤_, _<_, min}
 use mathlib.Core.Path.{_≡_, refl, ap, sym, _∙_}
-use mathlib.Core.Logic.{⊎-elim, _⊎_}
-use mathlib.Core.Bool.{Bool, true, false, true≢false, false≢true}
+use mathlib.Core.Logic.{⊎-elim}
+use mathlib.Core.Bool.{Bool, true, false, cond, and-false, true≢false, false≢true}
 use mathlib.Core.Option.{Option, some, none}
 use mathlib.Core.List.{List, [], _∷_, _++_, append-assoc}
 use native.Mathlib.Numerals.{add-one}
 use native.Mathlib.Omega.{arith}
-use lib.ListN.{length, getD, drop, length-append, length-drop}
-use lib.Seq.{drop-drop, drop-append-seam}
-use lib.Dec.{ltb, leb}
-use borrow.Author.Tests.{le-leb, leb-true, lt-ltb, ltb-true}
+use lib.ListN.{length, getD, take, drop, length-append, length-drop}
+use lib.Seq.{take-nil, drop-drop, drop-append-seam}
+use lib.Dec.{eqb, ltb, leb}
+use borrow.Author.Tests.{le-leb, lt-leb, leb-true, lt-ltb, le-ltb, ltb-true, ne-eqb}
 use Rattle.laws.specs.Numbers.{addresses}
-use Rattle.laws.specs.Lists.{tab}
-use Rattle.laws.proofs.Choice.{true-or, lt-or, and-left, and-right, same-test, never}
+use Rattle.laws.proofs.Choice.{true-or, eq-or, lt-or, and-left, and-right, same-test, never}
 use Rattle.settings.specs.Lines.{Numbered, equals, lineFeed, behind, numberIn, lineIn}
-use Rattle.settings.specs.Grammar.{Line, line, addrKey, widthKey, lastRegister, ascends, rightAddr, rightWidth, newest, textOfLines, allRight, Read, readLines, kept}
+use Rattle.settings.specs.Grammar.{Tag, Line, line, addrKey, widthKey, signKey, lastRegister, ascends, rightAddr, rightWidth, rightSign, tagLines, versionOf, tagFrom, textOfLines, allRight, Read, readLines, kept}
 use Rattle.settings.specs.Grammar.Read.{got, wrong}
 use Rattle.settingstext.specs.declared.reading.LineRead.{LineRead}
 use Rattle.settingstext.specs.declared.reading.LineRead.the-variants.{Numbered as numberedAt, Wrong}
 use Rattle.settingstext.specs.declared.reading.TagRead.{TagRead}
 use Rattle.settingstext.specs.declared.reading.TagRead.the-variants.{Tagged, WrongAt}
-use Rattle.settingstext.specs.Reading.{ceiling, capped, found, lineBehind, within, lowest, placed, placedTag}
+use Rattle.settingstext.specs.Reading.{ceiling, capped, found, lineBehind, within, lowest, placed, placedTag, signRead}
 use Rattle.settings.proofs.LineLaws.{behind-only, number-read, line-read}
-use Rattle.settings.proofs.RowLaws.{kept-rule, line-wrong, line-right, lines-only}
-use Rattle.settings.proofs.VersionLaws.{widths, width-most, fit1}
-use Rattle.laws.proofs.ListLaws.{tab-getD}
+use Rattle.settings.proofs.RowLaws.{Bounded, kept-rule, line-wrong, line-right, lines-only}
+use Rattle.settings.proofs.VersionLaws.{widths, Fit, fit}
 
 -- what an answer says of what was read
 pub unplaced : (text : List ℕ) (o : Option Numbered) → Wrong ≡ placed text o → o ≡ none
@@ -204,7 +202,31 @@ placed-most text least most n next o e =
     let t = kept-rule (within least most) o (x .0) (x .1) .1 in
     rw (x .2) (leb-true (x .0 .number) most (and-right (leb least (x .0 .number)) _ t))
 
--- the outcomes of reading a tag's two lines
+pub placed-least : (text : List ℕ) (least most n next : ℕ) (o : Option Numbered) → numberedAt n next ≡ placed text (kept (within least most) o) → least ≤ n
+placed-least text least most n next o e =
+    let x = replaced text n next (kept (within least most) o) e in
+    let t = kept-rule (within least most) o (x .0) (x .1) .1 in
+    rw (x .2) (leb-true least (x .0 .number) (and-left (leb least (x .0 .number)) _ t))
+
+-- the sign's rule is a range by the width
+pub sign-rule : (width n : ℕ) → within 0 (cond (eqb width 16) 1 0) n ≡ rightSign (0 ∷ width ∷ []) n
+sign-rule width n =
+    ⊎-elim
+    (λ (w : width ≡ 16). rw w (⊎-elim (λ (e : n ≡ 0). rw e) (λ (d : n ≡ 0 → ⊥). ⊎-elim (λ (e : n ≡ 1). rw e) (λ (c : n ≡ 1 → ⊥). rw (ne-eqb n 0 d, ne-eqb n 1 c, le-leb 0 n (omega arith), lt-leb n 1 (omega arith))) (eq-or n 1)) (eq-or n 0)))
+    (λ (w : width ≡ 16 → ⊥). rw (ne-eqb width 16 w) (⊎-elim (λ (e : n ≡ 0). rw e) (λ (d : n ≡ 0 → ⊥). rw (ne-eqb n 0 d, and-false, le-leb 0 n (omega arith), lt-leb n 0 (omega arith))) (eq-or n 0)))
+    (eq-or width 16)
+
+pub sign-small : (width : ℕ) → cond (eqb width 16) 1 0 ≤ 1
+sign-small width = ⊎-elim (λ e. rw e (omega arith)) (λ e. rw e (omega arith)) (true-or (eqb width 16))
+
+pub sign-read : (text : List ℕ) (v width at : ℕ) → 2 ≤ v
+    → placed text (kept (within 0 (cond (eqb width 16) 1 0)) (lineBehind (signKey ++ (equals ∷ [])) (drop at text))) ≡ signRead v width at text
+unfolding signRead
+sign-read text v width at l =
+    ap (placed text) (kept-ext (within 0 (cond (eqb width 16) 1 0)) (rightSign (0 ∷ width ∷ [])) (sign-rule width) _ ∙ ap (kept (rightSign (0 ∷ width ∷ []))) (key-line signKey (drop at text)))
+    ∙ rw (le-ltb v 2 l)
+
+-- the outcomes of reading a tag's lines
 
 abbrev addressLine : Line
 addressLine = line addrKey (λ prior own n. rightAddr prior n)
@@ -212,88 +234,152 @@ addressLine = line addrKey (λ prior own n. rightAddr prior n)
 abbrev widthLine : Line
 widthLine = line widthKey (λ prior own n. rightWidth own n)
 
+abbrev signLine : Line
+signLine = line signKey (λ prior own n. rightSign own n)
+
+-- the lines behind address and width, in the version behind this one
+abbrev laterLines : ℕ → List Line
+laterLines m = take m (signLine ∷ [])
+
 module _ (text : List ℕ) (at number least : ℕ) (inside : at ≤ length text) (prior : List ℕ) (low : least ≡ lowest prior) where
   abbrev addressAnswer : LineRead
   addressAnswer = placed text (kept (within least (addresses - 1)) (lineBehind (addrKey ++ (equals ∷ [])) (drop at text)))
 
-  abbrev tagAnswer : TagRead
-  tagAnswer = placedTag text (readLines number (newest .tag) prior [] (drop at text))
+  abbrev tagAnswer : ℕ → TagRead
+  tagAnswer v = placedTag text (readLines number (versionOf v .tag) prior [] (drop at text))
 
   ruled-by : (n : ℕ) → within least (addresses - 1) n ≡ rightAddr prior n
   ruled-by n = rw low (address-rule prior n)
 
-  pub tag-unaddressed : Wrong ≡ addressAnswer → WrongAt number ≡ tagAnswer
+  pub tag-unaddressed : (v : ℕ) → 1 ≤ v → Wrong ≡ addressAnswer → WrongAt number ≡ tagAnswer v
   unfolding placedTag
-  tag-unaddressed e = sym (ap (placedTag text) (read-stop text at number addressLine (widthLine ∷ []) prior [] (within least (addresses - 1)) ruled-by e))
+  tag-unaddressed zero l e = absurd (omega arith)
+  tag-unaddressed (suc m) l e = sym (ap (placedTag text) (read-stop text at number addressLine (widthLine ∷ laterLines m) prior [] (within least (addresses - 1)) ruled-by e))
 
   module _ (address second : ℕ) (first : numberedAt address second ≡ addressAnswer) where
     abbrev widthAnswer : LineRead
     widthAnswer = placed text (kept (within 16 32) (lineBehind (widthKey ++ (equals ∷ [])) (drop second text)))
 
-    fit : ℕ → Bool
-    fit n = rightWidth (address ∷ []) n
+    fit-in : ℕ → Bool
+    fit-in n = rightWidth (address ∷ []) n
 
-    narrowed : kept fit (kept (within 16 32) (lineBehind (widthKey ++ (equals ∷ [])) (drop second text))) ≡ kept fit (lineBehind (widthKey ++ (equals ∷ [])) (drop second text))
-    unfolding fit
-    narrowed = kept-kept fit (within 16 32) (width-rule (address ∷ [])) _
+    narrowed : kept fit-in (kept (within 16 32) (lineBehind (widthKey ++ (equals ∷ [])) (drop second text))) ≡ kept fit-in (lineBehind (widthKey ++ (equals ∷ [])) (drop second text))
+    unfolding fit-in
+    narrowed = kept-kept fit-in (within 16 32) (width-rule (address ∷ [])) _
 
-    addressed : readLines number (newest .tag) prior [] (drop at text) ≡ readLines (suc number) (widthLine ∷ []) prior (address ∷ []) (drop second text)
-    addressed = read-step text at number addressLine (widthLine ∷ []) prior [] (within least (addresses - 1)) ruled-by address second inside first
+    addressed : (m : ℕ) → readLines number (versionOf (suc m) .tag) prior [] (drop at text) ≡ readLines (suc number) (widthLine ∷ laterLines m) prior (address ∷ []) (drop second text)
+    addressed m = read-step text at number addressLine (widthLine ∷ laterLines m) prior [] (within least (addresses - 1)) ruled-by address second inside first
 
-    stopped : Wrong ≡ placed text (kept fit (kept (within 16 32) (lineBehind (widthKey ++ (equals ∷ [])) (drop second text)))) → WrongAt (number + 1) ≡ tagAnswer
-    unfolding fit placedTag
-    stopped e =
-        sym (ap (placedTag text) (addressed ∙ read-stop text second (suc number) widthLine [] prior (address ∷ []) fit (λ n. refl) (rw narrowed at e)) ∙ rw (add-one number))
+    stopped : (v : ℕ) → 1 ≤ v → Wrong ≡ placed text (kept fit-in (kept (within 16 32) (lineBehind (widthKey ++ (equals ∷ [])) (drop second text)))) → WrongAt (number + 1) ≡ tagAnswer v
+    unfolding fit-in placedTag
+    stopped zero l e = absurd (omega arith)
+    stopped (suc m) l e =
+        sym (ap (placedTag text) (addressed m ∙ read-stop text second (suc number) widthLine (laterLines m) prior (address ∷ []) fit-in (λ n. refl) (rw narrowed at e)) ∙ rw (add-one number))
 
-    pub tag-unwidthed : Wrong ≡ widthAnswer → WrongAt (number + 1) ≡ tagAnswer
-    tag-unwidthed e = stopped (kept-wrong text fit _ e)
+    pub tag-unwidthed : (v : ℕ) → 1 ≤ v → Wrong ≡ widthAnswer → WrongAt (number + 1) ≡ tagAnswer v
+    tag-unwidthed v l e = stopped v l (kept-wrong text fit-in _ e)
 
-    module _ (width next : ℕ) (last : numberedAt width next ≡ widthAnswer) where
-      pub tag-unfit : rightWidth (address ∷ []) width ≡ false → WrongAt (number + 1) ≡ tagAnswer
-      unfolding fit
-      tag-unfit f = stopped (kept-out text fit width next _ last f)
+    module _ (width third : ℕ) (last : numberedAt width third ≡ widthAnswer) where
+      pub tag-unfit : (v : ℕ) → 1 ≤ v → rightWidth (address ∷ []) width ≡ false → WrongAt (number + 1) ≡ tagAnswer v
+      unfolding fit-in
+      tag-unfit v l f = stopped v l (kept-out text fit-in width third _ last f)
 
-      pub tag-fit : rightWidth (address ∷ []) width ≡ true → Tagged address width next ≡ tagAnswer
-      unfolding fit placedTag readLines
-      tag-fit t =
-          let e : numberedAt width next ≡ placed text (kept fit (lineBehind (widthKey ++ (equals ∷ [])) (drop second text))) = rw narrowed at (kept-in text fit width next _ last t) in
-          let q : length text - length (drop next text) ≡ next = omega (arith, length-drop next text, placed-inside text width next _ last) in
-          sym (ap (placedTag text) (addressed ∙ read-step text second (suc number) widthLine [] prior (address ∷ []) fit (λ n. refl) width next (placed-inside text address second _ first) e) ∙ rw q)
+      module _ (t : rightWidth (address ∷ []) width ≡ true) where
+        widened : (m : ℕ) → readLines number (versionOf (suc m) .tag) prior [] (drop at text) ≡ readLines (suc (suc number)) (laterLines m) prior (address ∷ width ∷ []) (drop third text)
+        unfolding fit-in
+        widened m =
+            let e : numberedAt width third ≡ placed text (kept fit-in (lineBehind (widthKey ++ (equals ∷ [])) (drop second text))) = rw narrowed at (kept-in text fit-in width third _ last t) in
+            addressed m ∙ read-step text second (suc number) widthLine (laterLines m) prior (address ∷ []) fit-in (λ n. refl) width third (placed-inside text address second _ first) e
 
--- what an answer of a tag's two lines says
+        -- from version 2 on the sign's line is asked for
+        sign-asked : (m : ℕ) → signRead (suc (suc m)) width third text ≡ placed text (kept (rightSign (0 ∷ width ∷ [])) (lineBehind (signKey ++ (equals ∷ [])) (drop third text)))
+        unfolding signRead
+        sign-asked m = rw (le-ltb (suc (suc m)) 2 (omega arith), key-line signKey (drop third text))
+
+        pub tag-unsigned : (v : ℕ) → 1 ≤ v → Wrong ≡ signRead v width third text → WrongAt (number + 2) ≡ tagAnswer v
+        unfolding placedTag signRead
+        tag-unsigned zero l e = absurd (omega arith)
+        tag-unsigned (suc zero) l e = let q : Wrong ≡ numberedAt 0 third = e in never (cc)
+        tag-unsigned (suc (suc m)) l e =
+            let two : suc (suc number) ≡ number + 2 = omega arith in
+            sym (ap (placedTag text) (widened (suc m) ∙ read-stop text third (suc (suc number)) signLine (take m []) prior (address ∷ width ∷ []) (rightSign (0 ∷ width ∷ [])) (λ n. refl) (e ∙ sign-asked m)) ∙ ap WrongAt two)
+
+        pub tag-fit : (v sign next : ℕ) → 1 ≤ v → numberedAt sign next ≡ signRead v width third text → Tagged address width sign next ≡ tagAnswer v
+        unfolding placedTag readLines signRead
+        tag-fit zero sign next l e = absurd (omega arith)
+        tag-fit (suc zero) sign next l e =
+            let d : numberedAt sign next ≡ numberedAt 0 third = e in
+            let s : sign ≡ 0 = cc in
+            let n : next ≡ third = cc in
+            let q : length text - length (drop third text) ≡ third = omega (arith, length-drop third text, placed-inside text width third _ last) in
+            sym (ap (placedTag text) (widened 0) ∙ rw (q, s, n))
+        tag-fit (suc (suc m)) sign next l e =
+            let q : length text - length (drop next text) ≡ next = omega (arith, length-drop next text, placed-inside text sign next _ (e ∙ sign-asked m)) in
+            let none : _≡_ {A = List Line} (take m []) [] = take-nil m in
+            let all : readLines number (versionOf (suc (suc m)) .tag) prior [] (drop at text) ≡ got (address ∷ width ∷ sign ∷ []) (drop next text) =
+            widened (suc m)
+            ∙ read-step text third (suc (suc number)) signLine (take m []) prior (address ∷ width ∷ []) (rightSign (0 ∷ width ∷ [])) (λ n. refl) sign next (placed-inside text width third _ last) (e ∙ sign-asked m)
+            ∙ rw none in
+            sym (ap (placedTag text) all ∙ rw q)
+
+-- what an answer of a tag's lines says
 
 pub untagged : (text : List ℕ) (j : ℕ) (o : Read (List ℕ)) → WrongAt j ≡ placedTag text o → o ≡ wrong j
 unfolding placedTag
 untagged text j (wrong i) e = let q : j ≡ i = cc in ap wrong (sym q)
 untagged text j (got own r) e = never (cc)
 
-pub record TagTold (text prior : List ℕ) (at number address width next : ℕ) : Type 0 where
-  pub read : readLines number (newest .tag) prior [] (drop at text) ≡ got (address ∷ width ∷ []) (drop next text)
-  pub small : address < addresses
-  pub fit : (width ≡ 16) ⊎ (width ≡ 32)
-  pub narrow : width ≤ 32
+-- right numbers are small
+numbers-small : (ls : List Line) (prior own ns : List ℕ) → Bounded ls → length ns ≡ length ls → allRight ls prior own ns ≡ true → (i : ℕ) → getD ns i 0 < addresses
+unfolding allRight
+numbers-small ls prior own [] b c r i = omega arith
+numbers-small [] prior own (n ∷ ns) b c r i = absurd (omega arith)
+numbers-small (l ∷ ls) prior own (n ∷ ns) b c r zero = b .0 prior own n (and-left (l .right prior own n) _ r)
+numbers-small (l ∷ ls) prior own (n ∷ ns) b c r (suc i) = numbers-small ls prior (own ++ (n ∷ [])) ns (b .1) (omega arith) (and-right (l .right prior own n) _ r) i
+
+-- the lowest address behind a tag is one register for each 16 bits further
+first-two : (ls : List Line) (prior ns : List ℕ) → length ns ≡ length (addressLine ∷ widthLine ∷ ls) → allRight (addressLine ∷ widthLine ∷ ls) prior [] ns ≡ true → lowest ns ≡ getD ns 0 0 + getD ns 1 0 / 16
+unfolding allRight lowest
+first-two ls prior [] c r = absurd (omega arith)
+first-two ls prior (a ∷ []) c r = absurd (omega arith)
+first-two ls prior (a ∷ w ∷ ns) c r =
+    ⊎-elim (λ (e : w ≡ 16). rw e) (λ (e : w ≡ 32). rw e (omega arith)) (widths (a ∷ []) w (and-left (rightWidth (a ∷ []) w) _ (and-right (rightAddr prior a) _ r)))
+
+pub record TagTold (text prior : List ℕ) (v at number address width sign next : ℕ) : Type 0 where
+  pub own : List ℕ
+  pub read : readLines number (versionOf v .tag) prior [] (drop at text) ≡ got own (drop next text)
+  pub tag : tagFrom own ≡ record { address = address; width = width; sign = sign }
+  pub small : (address < addresses) × (width < addresses) × (sign < addresses)
+  pub low : lowest own ≡ address + width / 16
   pub inside : next ≤ length text
 
-pub tagged : (text prior : List ℕ) (at number address width next : ℕ) → at ≤ length text
-    → Tagged address width next ≡ placedTag text (readLines number (newest .tag) prior [] (drop at text)) → TagTold text prior at number address width next
-unfolding placedTag tab allRight
-tagged text prior at number address width next h e = go (readLines number (newest .tag) prior [] (drop at text)) refl
+pub tagged : (text prior : List ℕ) (v at number address width sign next : ℕ) → 1 ≤ v → v < addresses → at ≤ length text
+    → Tagged address width sign next ≡ placedTag text (readLines number (versionOf v .tag) prior [] (drop at text)) → TagTold text prior v at number address width sign next
+unfolding placedTag
+tagged text prior zero at number address width sign next o b h e = absurd (omega arith)
+tagged text prior (suc m) at number address width sign next o b h e = go (readLines number (versionOf (suc m) .tag) prior [] (drop at text)) refl
   where
-    go : (o : Read (List ℕ)) → readLines number (newest .tag) prior [] (drop at text) ≡ o → TagTold text prior at number address width next
+    -- the first two numbers
+    behind-two : (ns : List ℕ) → length ns ≡ length (versionOf (suc m) .tag) → allRight (versionOf (suc m) .tag) prior [] ns ≡ true → lowest ns ≡ getD ns 0 0 + getD ns 1 0 / 16
+    behind-two ns c r = first-two (laterLines m) prior ns c r
+
+    go : (o : Read (List ℕ)) → readLines number (versionOf (suc m) .tag) prior [] (drop at text) ≡ o → TagTold text prior (suc m) at number address width sign next
     go (wrong j) q = never (cc (rw q at e))
     go (got own r) q =
-        let f : Tagged address width next ≡ Tagged (getD own 0 0) (getD own 1 0) (length text - length r) = rw q at e in
+        let f : Tagged address width sign next ≡ Tagged (getD own 0 0) (getD own 1 0) (getD own 2 0) (length text - length r) = rw q at e in
         let a : address ≡ getD own 0 0 = cc in
         let w : width ≡ getD own 1 0 = cc in
+        let s : sign ≡ getD own 2 0 = cc in
         let n : next ≡ length text - length r = cc in
-        let l = lines-only number (newest .tag) prior [] (drop at text) own r (fit1 .tagBounded) q in
-        let two : address ∷ width ∷ [] ≡ own = rw (a, w) (tab-getD 0 own 2 (ap length (l .whole) ∙ l .all)) in
-        let right : allRight (newest .tag) prior [] (address ∷ width ∷ []) ≡ true = ap (allRight (newest .tag) prior []) (two ∙ l .whole) ∙ l .right in
-        let fits = and-left (rightWidth (address ∷ []) width) true (and-right (rightAddr prior address) _ right) in
+        let l = lines-only number (versionOf (suc m) .tag) prior [] (drop at text) own r (fit (suc m) b .tagBounded) q in
+        let c : length own ≡ length (versionOf (suc m) .tag) = ap length (l .whole) ∙ l .all in
+        let right : allRight (versionOf (suc m) .tag) prior [] own ≡ true = rw (l .whole) (l .right) in
+        let small = numbers-small (versionOf (suc m) .tag) prior [] own (fit (suc m) b .tagBounded) c right in
         record {
-          read = q ∙ rw (two, n, rest-placed (textOfLines (newest .tag) (l .numbers)) r text at h (l .text));
-          small = ltb-true address addresses (and-left (ltb address addresses) _ (and-left (rightAddr prior address) _ right));
-          fit = widths (address ∷ []) width fits;
-          narrow = width-most (address ∷ []) width fits;
+          own = own;
+          read = q ∙ ap (got own) (sym (rw n (rest-placed (textOfLines (versionOf (suc m) .tag) (l .numbers)) r text at h (l .text))));
+          tag = rw (a, w, s);
+          small = rw (a, w, s) (small 0, small 1, small 2);
+          low = rw (a, w) (behind-two own c right);
           inside = omega arith;
         }

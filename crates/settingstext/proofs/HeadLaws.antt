@@ -3,17 +3,17 @@
 use Prim.Native.Nat.{ℕ, _-_, _≤_}
 use mathlib.Core.Path.{_≡_, refl, ap, sym, _∙_}
 use mathlib.Core.Logic.{⊎-elim}
-use mathlib.Core.Bool.{true, false}
+use mathlib.Core.Bool.{true, false, true≢false}
 use mathlib.Core.Option.{Option, some, none, Option·some-ne-none}
 use mathlib.Core.List.{List, [], _∷_, _++_}
 use native.Mathlib.Omega.{arith}
 use lib.ListN.{length, drop}
-use lib.Dec.{leb, eqb}
-use borrow.Author.Tests.{le-leb, leb-true, eq-eqb, eqb-true}
+use lib.Dec.{leb}
+use borrow.Author.Tests.{le-leb, leb-true, ne-eqb}
 use Rattle.laws.specs.Numbers.{newestVersion, leastTimeout, mostTimeout, mostTags}
-use Rattle.laws.proofs.Choice.{true-or, and-left, and-right, same-test}
+use Rattle.laws.proofs.Choice.{true-or, eq-or, and-left, and-right}
 use Rattle.settings.specs.Lines.{Numbered, equals, lineIn}
-use Rattle.settings.specs.Grammar.{Value, Read, Line, line, versionKey, timeoutKey, joinKey, tagsKey, rightTimeout, rightJoin, rightTags, newest, versionIn, readLines, readIn, readText, readBehind, kept}
+use Rattle.settings.specs.Grammar.{Value, Read, Line, line, versionKey, timeoutKey, joinKey, tagsKey, rightTimeout, rightJoin, rightTags, headLines, versions, versionOf, versionIn, readLines, readIn, readText, readBehind, kept}
 use Rattle.settings.specs.Grammar.Read.{wrong}
 use Rattle.settingstext.specs.declared.reading.LineRead.{LineRead}
 use Rattle.settingstext.specs.declared.reading.LineRead.the-variants.{Numbered as numberedAt, Wrong}
@@ -21,7 +21,7 @@ use Rattle.settingstext.specs.declared.reading.Head.{Head}
 use Rattle.settingstext.specs.Reading.{lineBehind, within, placed, stoppedAt, Headed}
 use Rattle.settings.proofs.RowLaws.{kept-rule}
 use Rattle.settings.proofs.VersionLaws.{text-version, text-head}
-use Rattle.settingstext.proofs.AnswerLaws.{unplaced, replaced, placed-inside, key-line, line-placed, read-stop, read-step}
+use Rattle.settingstext.proofs.AnswerLaws.{unplaced, replaced, placed-inside, placed-least, placed-most, key-line, line-placed, read-stop, read-step}
 
 -- the answer of the code's line reader
 abbrev pub asked : List ℕ → ℕ → List ℕ → ℕ → ℕ → LineRead
@@ -38,71 +38,77 @@ tagsLine = line tagsKey (λ prior own n. rightTags n)
 
 -- a wrong line before the tags
 pub stop-headed : (whole : Read Value) (text : List ℕ) (k : ℕ) {h : Head} → 1 ≤ k → whole ≡ wrong k → h ≡ stoppedAt k → Headed whole text h
-stop-headed whole text k {h} l e q = rw q (record { right = λ z. absurd (omega arith); stop = λ z. (e, refl); inside = omega arith; few = omega arith })
+stop-headed whole text k {h} l e q = rw q (record { right = λ z. absurd (omega arith); stop = λ z. (e, refl); inside = omega arith; few = omega arith; listed = (omega arith, omega arith) })
 
--- the version's rule is a range of one number
-version-rule : (n : ℕ) → within newestVersion newestVersion n ≡ eqb newestVersion n
-version-rule n =
-    same-test _ _
-    (λ t. eq-eqb newestVersion n (omega (arith, leb-true newestVersion n (and-left (leb newestVersion n) _ t), leb-true n newestVersion (and-right (leb newestVersion n) _ t))))
-    (λ t. let e : n ≡ newestVersion = sym (eqb-true newestVersion n t) in rw e)
+-- the listed versions are a range of numbers
+version-listed : (n : ℕ) → within 1 newestVersion n ≡ true → versionIn versions n ≡ some (versionOf n)
+unfolding versionIn
+version-listed n t =
+    ⊎-elim (λ (e : n ≡ 1). rw e) (λ (d : n ≡ 1 → ⊥). let e : n ≡ 2 = omega (arith, leb-true 1 n (and-left (leb 1 n) _ t), leb-true n 2 (and-right (leb 1 n) _ t), d) in rw e) (eq-or n 1)
+
+version-unlisted : (n : ℕ) → within 1 newestVersion n ≡ false → versionIn versions n ≡ none
+unfolding versionIn
+version-unlisted n f = rw (ne-eqb 1 n (λ e. true≢false (rw (← e) at f)), ne-eqb 2 n (λ e. true≢false (rw (← e) at f)))
 
 from-zero : (most n : ℕ) → within 0 most n ≡ leb n most
 from-zero most n = rw (le-leb 0 n (omega arith))
 
-pub version-stop : (text : List ℕ) → Wrong ≡ asked text 0 versionKey newestVersion newestVersion → readText text ≡ wrong 1
-unfolding readText versionIn kept
+pub version-stop : (text : List ℕ) → Wrong ≡ asked text 0 versionKey 1 newestVersion → readText text ≡ wrong 1
+unfolding readText kept
 version-stop text e = go (lineIn versionKey text) refl
   where
-    unkept : kept (within newestVersion newestVersion) (lineIn versionKey text) ≡ none
-    unkept = unplaced text _ (e ∙ ap (λ o. placed text (kept (within newestVersion newestVersion) o)) (key-line versionKey text))
+    unkept : kept (within 1 newestVersion) (lineIn versionKey text) ≡ none
+    unkept = unplaced text _ (e ∙ ap (λ o. placed text (kept (within 1 newestVersion) o)) (key-line versionKey text))
 
     go : (o : Option Numbered) → lineIn versionKey text ≡ o → readText text ≡ wrong 1
     go none q = rw (q, readText)
     go (some x) q =
         ⊎-elim
-        (λ (t : within newestVersion newestVersion (x .number) ≡ true). absurd (Option·some-ne-none x (rw (q, t) at unkept)))
-        (λ (t : within newestVersion newestVersion (x .number) ≡ false). rw (q, readText) (rw (sym (version-rule (x .number)) ∙ t)))
-        (true-or (within newestVersion newestVersion (x .number)))
+        (λ (t : within 1 newestVersion (x .number) ≡ true). absurd (Option·some-ne-none x (rw (q, t) at unkept)))
+        (λ (t : within 1 newestVersion (x .number) ≡ false). rw (q, readText) (rw (version-unlisted (x .number) t)))
+        (true-or (within 1 newestVersion (x .number)))
 
-pub version-read : (text : List ℕ) (n second : ℕ) → numberedAt n second ≡ asked text 0 versionKey newestVersion newestVersion → readText text ≡ readIn newest (drop second text)
-unfolding versionIn
+pub version-read : (text : List ℕ) (n second : ℕ) → numberedAt n second ≡ asked text 0 versionKey 1 newestVersion → readText text ≡ readIn (versionOf n) (drop second text)
 version-read text n second e =
-    let x = replaced text n second _ (e ∙ ap (λ o. placed text (kept (within newestVersion newestVersion) o)) (key-line versionKey text)) in
-    go (x .0) (kept-rule (within newestVersion newestVersion) (lineIn versionKey text) (x .0) (x .1)) (x .3)
+    let x = replaced text n second _ (e ∙ ap (λ o. placed text (kept (within 1 newestVersion) o)) (key-line versionKey text)) in
+    go (x .0) (kept-rule (within 1 newestVersion) (lineIn versionKey text) (x .0) (x .1)) (x .2) (x .3)
   where
-    go : (x : Numbered) → (lineIn versionKey text ≡ some x) × (within newestVersion newestVersion (x .number) ≡ true) → second ≡ length text - length (x .rest) → readText text ≡ readIn newest (drop second text)
-    go x k p =
-        text-version text x newest (k .0) (rw (sym (version-rule (x .number)) ∙ k .1))
-        ∙ ap (readIn newest) (sym (rw p (line-placed versionKey text 0 x (omega arith) (k .0))))
+    go : (x : Numbered) → (lineIn versionKey text ≡ some x) × (within 1 newestVersion (x .number) ≡ true) → n ≡ x .number → second ≡ length text - length (x .rest) → readText text ≡ readIn (versionOf n) (drop second text)
+    go x k m p =
+        text-version text x (versionOf (x .number)) (k .0) (version-listed (x .number) (k .1))
+        ∙ rw m (ap (readIn (versionOf (x .number))) (sym (rw p (line-placed versionKey text 0 x (omega arith) (k .0)))))
+
+-- the version that was read is a listed one
+pub version-bounds : (text : List ℕ) (n second : ℕ) → numberedAt n second ≡ asked text 0 versionKey 1 newestVersion → (1 ≤ n) × (n ≤ newestVersion)
+version-bounds text n second e = (placed-least text 1 newestVersion n second _ e, placed-most text 1 newestVersion n second _ e)
 
 -- the three lines behind the version line
-module _ (text : List ℕ) (start : ℕ) (inside : start ≤ length text) where
-  head-wrong : (k : ℕ) → readLines 2 (newest .head) [] [] (drop start text) ≡ wrong k → readIn newest (drop start text) ≡ wrong k
+module _ (v : ℕ) (text : List ℕ) (start : ℕ) (inside : start ≤ length text) where
+  head-wrong : (k : ℕ) → readLines 2 (headLines) [] [] (drop start text) ≡ wrong k → readIn (versionOf v) (drop start text) ≡ wrong k
   unfolding readIn
   head-wrong k e = rw (e, readIn)
 
-  pub timeout-stop : Wrong ≡ asked text start timeoutKey leastTimeout mostTimeout → readIn newest (drop start text) ≡ wrong 2
+  pub timeout-stop : Wrong ≡ asked text start timeoutKey leastTimeout mostTimeout → readIn (versionOf v) (drop start text) ≡ wrong 2
   timeout-stop e = head-wrong 2 (read-stop text start 2 timeoutLine (joinLine ∷ tagsLine ∷ []) [] [] (within leastTimeout mostTimeout) (λ m. refl) e)
 
   module _ (timeout third : ℕ) (first : numberedAt timeout third ≡ asked text start timeoutKey leastTimeout mostTimeout) where
-    timeout-read : readLines 2 (newest .head) [] [] (drop start text) ≡ readLines 3 (joinLine ∷ tagsLine ∷ []) [] (timeout ∷ []) (drop third text)
+    timeout-read : readLines 2 (headLines) [] [] (drop start text) ≡ readLines 3 (joinLine ∷ tagsLine ∷ []) [] (timeout ∷ []) (drop third text)
     timeout-read = read-step text start 2 timeoutLine (joinLine ∷ tagsLine ∷ []) [] [] (within leastTimeout mostTimeout) (λ m. refl) timeout third inside first
 
-    pub join-stop : Wrong ≡ asked text third joinKey 0 1 → readIn newest (drop start text) ≡ wrong 3
+    pub join-stop : Wrong ≡ asked text third joinKey 0 1 → readIn (versionOf v) (drop start text) ≡ wrong 3
     join-stop e = head-wrong 3 (timeout-read ∙ read-stop text third 3 joinLine (tagsLine ∷ []) [] (timeout ∷ []) (within 0 1) (from-zero 1) e)
 
     module _ (join fourth : ℕ) (second : numberedAt join fourth ≡ asked text third joinKey 0 1) where
-      join-read : readLines 2 (newest .head) [] [] (drop start text) ≡ readLines 4 (tagsLine ∷ []) [] (timeout ∷ join ∷ []) (drop fourth text)
+      join-read : readLines 2 (headLines) [] [] (drop start text) ≡ readLines 4 (tagsLine ∷ []) [] (timeout ∷ join ∷ []) (drop fourth text)
       join-read =
           timeout-read
           ∙ read-step text third 3 joinLine (tagsLine ∷ []) [] (timeout ∷ []) (within 0 1) (from-zero 1) join fourth (placed-inside text timeout third _ first) second
 
-      pub tags-stop : Wrong ≡ asked text fourth tagsKey 0 mostTags → readIn newest (drop start text) ≡ wrong 4
+      pub tags-stop : Wrong ≡ asked text fourth tagsKey 0 mostTags → readIn (versionOf v) (drop start text) ≡ wrong 4
       tags-stop e = head-wrong 4 (join-read ∙ read-stop text fourth 4 tagsLine [] [] (timeout ∷ join ∷ []) (within 0 mostTags) (from-zero mostTags) e)
 
-      pub head-read : (tags next : ℕ) → numberedAt tags next ≡ asked text fourth tagsKey 0 mostTags → readIn newest (drop start text) ≡ readBehind newest (timeout ∷ join ∷ tags ∷ []) (drop next text)
+      pub head-read : (tags next : ℕ) → numberedAt tags next ≡ asked text fourth tagsKey 0 mostTags → readIn (versionOf v) (drop start text) ≡ readBehind (versionOf v) (timeout ∷ join ∷ tags ∷ []) (drop next text)
       unfolding readLines
       head-read tags next e =
-          text-head newest (drop start text) (timeout ∷ join ∷ tags ∷ []) (drop next text)
+          text-head (versionOf v) (drop start text) (timeout ∷ join ∷ tags ∷ []) (drop next text)
           (join-read ∙ read-step text fourth 4 tagsLine [] [] (timeout ∷ join ∷ []) (within 0 mostTags) (from-zero mostTags) tags next (placed-inside text join fourth _ second) e)

@@ -16,7 +16,7 @@ use Rattle.laws.specs.Bytes.{overAt, over}
 use Rattle.laws.proofs.Choice.{lt-or}
 use Rattle.laws.proofs.ListLaws.{length-tab, flatMap-more}
 use Rattle.settings.specs.Lines.{equals, lineFeed, digitZero, decimalOf, decimal, lineOf}
-use Rattle.settings.specs.Grammar.{Tag, Value, newest, versionKey, timeoutKey, joinKey, tagsKey, addrKey, widthKey, textOfLines, textIn, valid}
+use Rattle.settings.specs.Grammar.{Tag, Value, newest, versionKey, timeoutKey, joinKey, tagsKey, addrKey, widthKey, signKey, textOfLines, textIn, valid}
 use Rattle.settings.specs.declared.Settings.{Settings}
 use Rattle.settings.specs.Values.{valueOf}
 use Rattle.settingstext.specs.TextWritten.{writing, writtenTo}
@@ -126,9 +126,9 @@ pub head-lines : (timeout join tags : ℕ) → headText timeout join tags ≡ li
 unfolding headText textOfLines
 head-lines timeout join tags = rw append-nil
 
-pub tag-lines : (address width : ℕ) → tagText address width ≡ lineOf addrKey address ++ lineOf widthKey width
+pub tag-lines : (address width sign : ℕ) → tagText address width sign ≡ lineOf addrKey address ++ (lineOf widthKey width ++ lineOf signKey sign)
 unfolding tagText textOfLines
-tag-lines address width = rw append-nil
+tag-lines address width sign = rw append-nil
 
 pub length-head : (timeout join tags : ℕ) → length (headText timeout join tags) ≡ length (lineOf versionKey (newest .number)) + length (lineOf timeoutKey timeout) + length (lineOf joinKey join) + length (lineOf tagsKey tags)
 length-head timeout join tags =
@@ -140,12 +140,14 @@ length-head timeout join tags =
       length-append (lineOf joinKey join) (lineOf tagsKey tags),
     ))
 
-pub length-tag : (address width : ℕ) → length (tagText address width) ≡ length (lineOf addrKey address) + length (lineOf widthKey width)
-length-tag address width = rw (tag-lines address width) (length-append (lineOf addrKey address) (lineOf widthKey width))
+pub length-tag : (address width sign : ℕ) → length (tagText address width sign) ≡ length (lineOf addrKey address) + length (lineOf widthKey width) + length (lineOf signKey sign)
+length-tag address width sign =
+    rw (tag-lines address width sign)
+    (omega (arith, length-append (lineOf addrKey address) (lineOf widthKey width ++ lineOf signKey sign), length-append (lineOf widthKey width) (lineOf signKey sign)))
 
 -- the text of a place, and of the first k places
 abbrev pub placeText : Settings → ℕ → List ℕ
-placeText s k = tagText (tagAt s k .address) (tagAt s k .width)
+placeText s k = tagText (tagAt s k .address) (tagAt s k .width) (tagAt s k .sign)
 
 abbrev pub tagsTo : Settings → ℕ → List ℕ
 tagsTo s k = tagsText (tab k (tagAt s))
@@ -166,7 +168,7 @@ tags-none s = refl
 
 tags-more : (s : Settings) (k : ℕ) → tagsTo s (k + 1) ≡ tagsTo s k ++ placeText s k
 unfolding tagsText
-tags-more s k = flatMap-more (λ (t : Tag). tagText (t .address) (t .width)) k (tagAt s)
+tags-more s k = flatMap-more (λ (t : Tag). tagText (t .address) (t .width) (t .sign)) k (tagAt s)
 
 length-more : (s : Settings) (k : ℕ) → length (tagsTo s (k + 1)) ≡ length (tagsTo s k) + length (placeText s k)
 length-more s k = ap length (tags-more s k) ∙ length-append (tagsTo s k) (placeText s k)
@@ -235,7 +237,7 @@ module _ {n at : ℕ} {b a : List ℕ} {left place : ℕ} (w : Digits n at b a l
 pub record Measured (s : Settings) (size k : ℕ) : Type 0 where
   pub within : k ≤ s .tags
   pub all : size ≡ length (headText (s .timeout) (s .join) (s .tags)) + length (tagsTo s k)
-  pub most : size ≤ 110 + 53 * k
+  pub most : size ≤ 110 + 79 * k
 
 pub measured-none : (s : Settings) (size : ℕ) → size ≡ length (headText (s .timeout) (s .join) (s .tags)) → Measured s size 0
 measured-none s size e =
@@ -257,7 +259,7 @@ measured-more {s} {size} {size′} {k} h w e =
     record {
       within = omega arith;
       all = omega (arith, e, w .all, length-more s k);
-      most = omega (arith, e, w .most, length-tag (tagAt s k .address) (tagAt s k .width), line-most addrKey (tagAt s k .address), line-most widthKey (tagAt s k .width));
+      most = omega (arith, e, w .most, length-tag (tagAt s k .address) (tagAt s k .width) (tagAt s k .sign), line-most addrKey (tagAt s k .address), line-most widthKey (tagAt s k .width), line-most signKey (tagAt s k .sign));
     }
 
 pub measured-all : {s : Settings} {size k : ℕ} → s .tags ≤ k → Measured s size k → size ≡ length (textIn newest (valueOf s))
@@ -284,8 +286,9 @@ laid-head timeout join tags {b} x y z t =
     let h : 0 ≤ length b = omega arith in
     rw (head-lines timeout join tags) (simp append-assoc at (laid-then h (laid-then h (laid-then h x y) z) t))
 
-pub laid-tag : (address width : ℕ) {at : ℕ} {b m a : List ℕ} {next end : ℕ} → at ≤ length b → Laid (lineOf addrKey address) at b m next → Laid (lineOf widthKey width) next m a end → Laid (tagText address width) at b a end
-laid-tag address width h x y = rw (tag-lines address width) (laid-then h x y)
+pub laid-tag : (address width sign : ℕ) {at : ℕ} {b m₁ m₂ a : List ℕ} {e₁ e₂ end : ℕ} → at ≤ length b
+    → Laid (lineOf addrKey address) at b m₁ e₁ → Laid (lineOf widthKey width) e₁ m₁ m₂ e₂ → Laid (lineOf signKey sign) e₂ m₂ a end → Laid (tagText address width sign) at b a end
+laid-tag address width sign h x y z = rw (tag-lines address width sign) (simp append-assoc at (laid-then h (laid-then h x y) z))
 
 -- writing the tags: the first k stand
 pub record Written (s : Settings) (at : ℕ) (before after : List ℕ) (next k : ℕ) : Type 0 where

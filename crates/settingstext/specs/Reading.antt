@@ -6,10 +6,10 @@ use mathlib.Core.Bool.{Bool, true, false, _&&_, cond, not}
 use mathlib.Core.Option.{Option, some, none}
 use mathlib.Core.List.{List, [], _∷_}
 use lib.ListN.{length, getD, drop}
-use lib.Dec.{eqb, leb}
-use Rattle.laws.specs.Numbers.{mostTags, usualTimeout}
-use Rattle.settings.specs.Lines.{Numbered, behind, numberIn}
-use Rattle.settings.specs.Grammar.{Value, Read, newest, lastRegister, readBehind}
+use lib.Dec.{eqb, ltb, leb}
+use Rattle.laws.specs.Numbers.{mostTags, usualTimeout, newestVersion}
+use Rattle.settings.specs.Lines.{Numbered, behind, numberIn, lineIn}
+use Rattle.settings.specs.Grammar.{Value, Read, versionOf, signKey, rightSign, lastRegister, readBehind, kept}
 use Rattle.settings.specs.Grammar.Read.{got, wrong}
 use Rattle.settingstext.specs.declared.reading.LineRead.{LineRead}
 use Rattle.settingstext.specs.declared.reading.LineRead.the-variants.{Numbered as numberedAt, Wrong}
@@ -49,18 +49,23 @@ placed text (some x) = numberedAt (x .number) (length text - length (x .rest))
 
 unfoldable pub placedTag : List ℕ → Read (List ℕ) → TagRead
 placedTag text (wrong k) = WrongAt k
-placedTag text (got ns r) = Tagged (getD ns 0 0) (getD ns 1 0) (length text - length r)
+placedTag text (got ns r) = Tagged (getD ns 0 0) (getD ns 1 0) (getD ns 2 0) (length text - length r)
 
--- a wrong line, with the usual numbers
+-- the sign of a tag of this width, from a place on: version 1 has no line for it, and it is 0
+unfoldable pub signRead : (version width at : ℕ) → List ℕ → LineRead
+signRead version width at text = cond (ltb version 2) (numberedAt 0 at) (placed text (kept (rightSign (0 ∷ width ∷ [])) (lineIn signKey (drop at text))))
+
+-- a wrong line, with the usual numbers and the newest version
 abbrev pub stoppedAt : ℕ → Head
-stoppedAt line = record { wrong = line; timeout = usualTimeout; join = 1; tags = 0; next = 0 }
+stoppedAt line = record { wrong = line; version = newestVersion; timeout = usualTimeout; join = 1; tags = 0; next = 0 }
 
 -- what the lines before the tags say of reading: the numbers, and where the rest of it begins; or the first wrong line, and no tags
 pub record Headed (whole : Read Value) (text : List ℕ) (h : Head) : Type 0 where
-  pub right : h .wrong ≡ 0 → whole ≡ readBehind newest (h .timeout ∷ h .join ∷ h .tags ∷ []) (drop (h .next) text)
+  pub right : h .wrong ≡ 0 → whole ≡ readBehind (versionOf (h .version)) (h .timeout ∷ h .join ∷ h .tags ∷ []) (drop (h .next) text)
   pub stop : (h .wrong ≡ 0 → ⊥) → (whole ≡ wrong (h .wrong)) × (h .tags ≡ 0)
   pub inside : h .next ≤ length text
   pub few : h .tags ≤ mostTags
+  pub listed : (1 ≤ h .version) × (h .version ≤ newestVersion)
 
 -- the line that stopped the reader, or the next one where the text does not end
 unfoldable pub wrongLine : ℕ → ℕ → Bool → ℕ

@@ -1,13 +1,16 @@
 // From a settings text to the value: forward, each byte once.
 ghost use mathlib.Core.Path.{_≡_};
+ghost use mathlib.Core.Bool.{cond};
 ghost use mathlib.Core.List.{List, []};
 ghost use Prim.Native.Nat.{ℕ, _+_, _*_, _-_, _≤_, _<_, min};
+ghost use lib.Dec.{eqb};
 ghost use lib.ListN.{length, drop};
 ghost use Rattle.settings.specs.Lines.{behind, numberIn};
-ghost use Rattle.settings.specs.Grammar.{newest, readLines, readIn, readText};
+ghost use Rattle.laws.specs.Numbers.{newestVersion};
+ghost use Rattle.settings.specs.Grammar.{versionOf, readLines, readIn, readText};
 ghost use Rattle.settingstext.specs.TextRead.{reported};
 ghost use Rattle.settings.specs.Grammar.{kept};
-ghost use Rattle.settingstext.specs.Reading.{ceiling, found, capped, placed, within, lineBehind, lowest, placedTag, stoppedAt, Headed, wrongLine};
+ghost use Rattle.settingstext.specs.Reading.{ceiling, found, capped, placed, within, lineBehind, lowest, placedTag, signRead, stoppedAt, Headed, wrongLine};
 use settings::Settings;
 
 // What reading a text comes to: line 0 and the value, or the first wrong line and the usual value.
@@ -26,9 +29,9 @@ pub enum LineRead {
     Wrong,
 }
 
-// A tag's address and width and the place behind its lines; or the number of its wrong line.
+// A tag's address, width and sign and the place behind its lines; or the number of its wrong line.
 pub enum TagRead {
-    Tagged(u32, u32, usize),
+    Tagged(u32, u32, u32, usize),
     WrongAt(u32),
 }
 
@@ -98,10 +101,28 @@ fn line_at(text: &[u8], at: usize, key: &[u8], least: u32, most: u32) -> LineRea
     }
 }
 
-// The two lines of a tag whose address is at least `least`.
-fn tag_at(text: &[u8], at: usize, line: u32, least: u32) -> TagRead
-    requires { ⌜ (at ≤ length (now text)) × (line < ceiling) ⌝ }
-    ensures { λ r. ⌜ ((prior : List ℕ) → least ≡ lowest prior → r ≡ placedTag (now (text .entry)) (readLines line (newest .tag) prior [] (drop at (now (text .entry))))) ⌝ }
+// The most that the sign of a tag of this width may be: only width 16 has one.
+fn most_sign(width: u32) -> u32
+    ensures { λ r. ⌜ r ≡ cond (eqb width 16) 1 0 ⌝ }
+{
+    if width == 16 { 1 } else { 0 }
+}
+
+// The sign of a tag of this width; version 1 has no line for it.
+fn sign_at(text: &[u8], at: usize, version: u32, width: u32) -> LineRead
+    requires { ⌜ at ≤ length (now text) ⌝ }
+    ensures { λ r. ⌜ r ≡ signRead version width at (now (text .entry)) ⌝ }
+{
+    if version < 2 {
+        return LineRead::Numbered(0, at);
+    }
+    line_at(text, at, b"sign=", 0, most_sign(width))
+}
+
+// The lines that a tag has in a version; its address is at least `least`.
+fn tag_at(text: &[u8], at: usize, version: u32, line: u32, least: u32) -> TagRead
+    requires { ⌜ (at ≤ length (now text)) × (1 ≤ version) × (line < ceiling) ⌝ }
+    ensures { λ r. ⌜ ((prior : List ℕ) → least ≡ lowest prior → r ≡ placedTag (now (text .entry)) (readLines line (versionOf version .tag) prior [] (drop at (now (text .entry))))) ⌝ }
 {
     let LineRead::Numbered(address, second) = line_at(
         text,
@@ -112,19 +133,22 @@ fn tag_at(text: &[u8], at: usize, line: u32, least: u32) -> TagRead
     ) else {
         return TagRead::WrongAt(line);
     };
-    let LineRead::Numbered(width, next) = line_at(text, second, b"width=", 16, 32) else {
+    let LineRead::Numbered(width, third) = line_at(text, second, b"width=", 16, 32) else {
         return TagRead::WrongAt(line + 1);
     };
-    if (width == 16) | ((width == 32) & (address + 1 < laws::ADDRESSES)) {
-        TagRead::Tagged(address, width, next)
-    } else {
-        TagRead::WrongAt(line + 1)
+    if !((width == 16) | ((width == 32) & (address + 1 < laws::ADDRESSES))) {
+        return TagRead::WrongAt(line + 1);
     }
+    let LineRead::Numbered(sign, next) = sign_at(text, third, version, width) else {
+        return TagRead::WrongAt(line + 2);
+    };
+    TagRead::Tagged(address, width, sign, next)
 }
 
-// The numbers of the lines before the tags and the place behind them; or a wrong line, and the usual numbers.
+// The numbers of the lines before the tags, the version's first, and the place behind them; or a wrong line, and the usual numbers.
 struct Head {
     wrong: u32,
+    version: u32,
     timeout: u32,
     join: u32,
     tags: u32,
@@ -137,6 +161,7 @@ fn stopped_at(line: u32) -> Head
 {
     Head {
         wrong: line,
+        version: laws::NEWEST_VERSION,
         timeout: laws::USUAL_TIMEOUT,
         join: 1,
         tags: 0,
@@ -145,9 +170,9 @@ fn stopped_at(line: u32) -> Head
 }
 
 // The lines behind the version line and before the tags.
-fn read_in(text: &[u8], start: usize) -> Head
-    requires { ⌜ start ≤ length (now text) ⌝ }
-    ensures { λ r. ⌜ Headed (readIn newest (drop start (now (text .entry)))) (now (text .entry)) r ⌝ }
+fn read_in(text: &[u8], start: usize, version: u32) -> Head
+    requires { ⌜ (start ≤ length (now text)) × (1 ≤ version) × (version ≤ newestVersion) ⌝ }
+    ensures { λ r. ⌜ Headed (readIn (versionOf version) (drop start (now (text .entry)))) (now (text .entry)) r ⌝ }
 {
     let LineRead::Numbered(timeout, third) = line_at(
         text,
@@ -167,6 +192,7 @@ fn read_in(text: &[u8], start: usize) -> Head
     };
     Head {
         wrong: 0,
+        version,
         timeout,
         join,
         tags,
@@ -178,16 +204,11 @@ fn read_in(text: &[u8], start: usize) -> Head
 fn read_head(text: &[u8]) -> Head
     ensures { λ r. ⌜ Headed (readText (now (text .entry))) (now (text .entry)) r ⌝ }
 {
-    let LineRead::Numbered(_, next) = line_at(
-        text,
-        0,
-        b"version=",
-        laws::NEWEST_VERSION,
-        laws::NEWEST_VERSION,
-    ) else {
+    let LineRead::Numbered(version, next) = line_at(text, 0, b"version=", 1, laws::NEWEST_VERSION)
+    else {
         return stopped_at(1);
     };
-    read_in(text, next)
+    read_in(text, next, version)
 }
 
 // The first wrong line, if any: the one that stopped the reader, or the next one where the text does not end.
@@ -209,26 +230,29 @@ pub fn read_text(text: &[u8]) -> ReadText
     let count = head.tags as usize;
     let mut addr = [0u16; laws::MOST_TAGS];
     let mut width = [0u16; laws::MOST_TAGS];
+    let mut sign = [0u16; laws::MOST_TAGS];
     let mut stopped = head.wrong;
     let mut at = head.next;
     let mut line: u32 = 5;
     let mut least: u32 = 0;
     let mut k = 0;
     while k < count {
-        match tag_at(text, at, line, least) {
+        match tag_at(text, at, head.version, line, least) {
             TagRead::WrongAt(first) => {
                 stopped = first;
                 break;
             }
-            TagRead::Tagged(address, bits, next) => {
+            TagRead::Tagged(address, bits, signed, next) => {
                 addr[k] = address as u16;
                 width[k] = bits as u16;
+                sign[k] = signed as u16;
                 // One register for each 16 bits.
                 least = address + bits / 16;
                 at = next;
             }
         }
-        line += 2;
+        // Version 1 has two lines a tag, and each version one more.
+        line += 1 + head.version;
         k += 1;
     }
     let wrong = first_wrong(stopped, line, at == text.len());
@@ -236,6 +260,7 @@ pub fn read_text(text: &[u8]) -> ReadText
         head = stopped_at(wrong);
         addr = [0u16; laws::MOST_TAGS];
         width = [0u16; laws::MOST_TAGS];
+        sign = [0u16; laws::MOST_TAGS];
     }
     let settings = Settings {
         timeout: head.timeout,
@@ -243,6 +268,7 @@ pub fn read_text(text: &[u8]) -> ReadText
         tags: head.tags,
         addr,
         width,
+        sign,
     };
     ReadText {
         line: wrong,

@@ -46,10 +46,12 @@ fn head_length(timeout: u32, join: u32, tags: u32) -> usize
         + line_length(b"tags", tags)
 }
 
-fn tag_length(address: u16, width: u16) -> usize
-    ensures { λ r. ⌜ r ≡ length (tagText address width) ⌝ }
+fn tag_length(address: u16, width: u16, sign: u16) -> usize
+    ensures { λ r. ⌜ r ≡ length (tagText address width sign) ⌝ }
 {
-    line_length(b"addr", address as u32) + line_length(b"width", width as u32)
+    line_length(b"addr", address as u32)
+        + line_length(b"width", width as u32)
+        + line_length(b"sign", sign as u32)
 }
 
 fn text_length<'a>(
@@ -58,14 +60,15 @@ fn text_length<'a>(
     tags: u32,
     addr: &'a [u16; laws::MOST_TAGS],
     width: &'a [u16; laws::MOST_TAGS],
+    sign: &'a [u16; laws::MOST_TAGS],
 ) -> usize
     requires { ⌜ tags ≤ mostTags ⌝ }
-    ensures { λ r. ⌜ r ≡ length (textIn newest (valueOf (settings timeout join tags (now (addr .entry)) (now (width .entry))))) ⌝ }
+    ensures { λ r. ⌜ r ≡ length (textIn newest (valueOf (settings timeout join tags (now (addr .entry)) (now (width .entry)) (now (sign .entry))))) ⌝ }
 {
     let mut size = head_length(timeout, join, tags);
     let mut k: usize = 0;
     while k < tags as usize {
-        size += tag_length(addr[k], width[k]);
+        size += tag_length(addr[k], width[k], sign[k]);
         k += 1;
     }
     size
@@ -135,28 +138,30 @@ fn write_head(timeout: u32, join: u32, tags: u32, text: &mut [u8]) -> usize
     write_line(b"tags", tags, fourth, text)
 }
 
-fn write_tag(address: u16, width: u16, at: usize, text: &mut [u8]) -> usize
-    requires { ⌜ at + length (tagText address width) ≤ length (now text) ⌝ }
-    ensures { λ r. ⌜ Laid (tagText address width) at (now (text .entry)) (now (text .exit)) r ⌝ }
+fn write_tag(address: u16, width: u16, sign: u16, at: usize, text: &mut [u8]) -> usize
+    requires { ⌜ at + length (tagText address width sign) ≤ length (now text) ⌝ }
+    ensures { λ r. ⌜ Laid (tagText address width sign) at (now (text .entry)) (now (text .exit)) r ⌝ }
 {
     let second = write_line(b"addr", address as u32, at, text);
-    write_line(b"width", width as u32, second, text)
+    let third = write_line(b"width", width as u32, second, text);
+    write_line(b"sign", sign as u32, third, text)
 }
 
 fn write_tags<'a>(
     tags: u32,
     addr: &'a [u16; laws::MOST_TAGS],
     width: &'a [u16; laws::MOST_TAGS],
+    sign: &'a [u16; laws::MOST_TAGS],
     at: usize,
     text: &mut [u8],
 ) -> usize
-    requires { ⌜ (tags ≤ mostTags) × (at + length (tagsText (listed tags (now addr) (now width))) ≤ length (now text)) ⌝ }
-    ensures { λ r. ⌜ Laid (tagsText (listed tags (now (addr .entry)) (now (width .entry)))) at (now (text .entry)) (now (text .exit)) r ⌝ }
+    requires { ⌜ (tags ≤ mostTags) × (at + length (tagsText (listed tags (now addr) (now width) (now sign))) ≤ length (now text)) ⌝ }
+    ensures { λ r. ⌜ Laid (tagsText (listed tags (now (addr .entry)) (now (width .entry)) (now (sign .entry)))) at (now (text .entry)) (now (text .exit)) r ⌝ }
 {
     let mut next = at;
     let mut k: usize = 0;
     while k < tags as usize {
-        next = write_tag(addr[k], width[k], next, text);
+        next = write_tag(addr[k], width[k], sign[k], next, text);
         k += 1;
     }
     next
@@ -169,16 +174,17 @@ pub fn write_text<'a>(
     tags: u32,
     addr: &'a [u16; laws::MOST_TAGS],
     width: &'a [u16; laws::MOST_TAGS],
+    sign: &'a [u16; laws::MOST_TAGS],
     text: &mut [u8],
 ) -> Wrote
-    ensures { λ r. ⌜ writing r (now (text .exit)) ≡ writtenTo (valueOf (settings timeout join tags (now (addr .entry)) (now (width .entry)))) (now (text .entry)) ⌝ }
+    ensures { λ r. ⌜ writing r (now (text .exit)) ≡ writtenTo (valueOf (settings timeout join tags (now (addr .entry)) (now (width .entry)) (now (sign .entry)))) (now (text .entry)) ⌝ }
 {
-    if !is_valid(timeout, join, tags, addr, width) {
+    if !is_valid(timeout, join, tags, addr, width, sign) {
         return Wrote::Invalid;
     }
-    if text.len() < text_length(timeout, join, tags, addr, width) {
+    if text.len() < text_length(timeout, join, tags, addr, width, sign) {
         return Wrote::TooShort;
     }
     let at = write_head(timeout, join, tags, text);
-    Wrote::Text(write_tags(tags, addr, width, at, text))
+    Wrote::Text(write_tags(tags, addr, width, sign, at, text))
 }

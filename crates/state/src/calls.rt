@@ -91,6 +91,7 @@ fn freshened(
         from.tags,
         &from.addr,
         &from.width,
+        &from.sign,
     );
     let state = crate::gather(
         ids,

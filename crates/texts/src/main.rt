@@ -1,6 +1,7 @@
 // Settings texts, each with the line at which document 01 finds it wrong, or 0 where it is right: the table is in the file stdin.
 // Its first line is the pieces that the rows name, each ended by '|'. A row is the wrong line, a blank, and the text as it is spelled: ';' is LF, '^' CR,
-// '~' tab, '_' a blank, '$' NUL, and '@1' to '@9' the pieces. In place of a line's number, v has the value looked at.
+// '~' tab, '_' a blank, '$' NUL, and '@1' to '@9' and '@A' to '@C' the pieces. Behind a '|' stands the text that is written of the value, where it is another.
+// In place of a line's number, v has the value looked at, and s the same with a sign at its first tag.
 mod spelling;
 mod texts;
 
@@ -17,9 +18,12 @@ fn row<'a>(t: Tally, pieces: &'a [u8], row: &'a [u8]) -> Tally {
         return t;
     }
     let mut text = [0u8; 8192];
-    let size = spelling::spell(pieces, rest(row, b' '), &mut text);
+    let mut other = [0u8; 8192];
+    let spelled = rest(row, b' ');
+    let size = spelling::spell(pieces, head(spelled, b'|'), &mut text);
+    let room = spelling::spell(pieces, rest(spelled, b'|'), &mut other);
     let word = head(row, b' ');
-    texts::read(t, word, before(&text, size))
+    texts::read(t, word, before(&text, size), before(&other, room))
 }
 
 // Every row of a table.

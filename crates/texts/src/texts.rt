@@ -19,6 +19,7 @@ fn written(s: Settings, buffer: &mut [u8], lent: usize) -> usize {
         s.tags,
         &s.addr,
         &s.width,
+        &s.sign,
         &mut buffer[0..lent],
     ) {
         Wrote::Text(size) => size,
@@ -41,32 +42,42 @@ fn is_usual(s: Settings, tags: u32) -> bool {
     (s.timeout == 3000) & (s.join == 1) & (s.tags == tags)
 }
 
-fn has_tag(s: Settings, k: usize, address: u16, width: u16) -> bool
+fn has_tag(s: Settings, k: usize, address: u16, width: u16, sign: u16) -> bool
     requires { ⌜ k < 256 ⌝ }
 {
-    (s.addr[k] == address) & (s.width[k] == width)
+    (s.addr[k] == address) & (s.width[k] == width) & (s.sign[k] == sign)
 }
 
-// Whether a value is document 01's, number by number; unused tag places are 0.
-fn is_document(s: Settings) -> bool {
-    let used = has_tag(s, 0, 1024, 16) & has_tag(s, 1, 1026, 32);
-    let unused = has_tag(s, 2, 0, 0) & has_tag(s, 255, 0, 0);
+// Whether a value is document 01's with this sign at its first tag, number by number; unused tag places are 0.
+fn is_document(s: Settings, sign: u16) -> bool {
+    let used = has_tag(s, 0, 1024, 16, sign) & has_tag(s, 1, 1026, 32, 0);
+    let unused = has_tag(s, 2, 0, 0, 0) & has_tag(s, 255, 0, 0, 0);
     is_usual(s, 2) & used & unused
 }
 
+// Whether what is written of the value is the other text, or the text itself where there is no other.
+fn is_written(s: Settings, text: &[u8], other: &[u8]) -> bool {
+    if other.len() == 0 {
+        comes_back(s, text)
+    } else {
+        comes_back(s, other)
+    }
+}
+
 // Whether the value that a text was read to is right: that of a wrong text has timeout 3000, join 1 and no tags.
-fn is_right(s: Settings, word: &[u8], text: &[u8]) -> bool {
+fn is_right(s: Settings, word: &[u8], text: &[u8], other: &[u8]) -> bool {
     match wire::byte_at(word, 0) {
-        b'v' => is_document(s),
-        b'0' => comes_back(s, text),
+        b'v' => is_document(s, 0),
+        b's' => is_document(s, 1),
+        b'0' => is_written(s, text, other),
         _ => is_usual(s, 0),
     }
 }
 
-// Reads a text, of which the word tells the wrong line; one that comes out otherwise is printed.
-pub fn read(t: Tally, word: &[u8], text: &[u8]) -> Tally {
+// Reads a text, of which the word tells the wrong line, and the other text what is written of it; one that comes out otherwise is printed.
+pub fn read(t: Tally, word: &[u8], text: &[u8], other: &[u8]) -> Tally {
     let found = settingstext::reading::read_text(text);
-    let right = is_right(found.settings, word, text);
+    let right = is_right(found.settings, word, text, other);
     if right & (found.line as u64 == number(word, 0)) {
         return counted(t, 0);
     }

@@ -7,7 +7,7 @@ ghost use mathlib.Core.List.{[], _∷_};
 ghost use Prim.Native.Nat.{_+_, _<_, min};
 ghost use lib.Dec.{leb};
 ghost use Rattle.laws.specs.Numbers.{mostTags, addresses};
-ghost use Rattle.settings.specs.Grammar.{valid, lastRegister, rightTimeout, rightJoin, rightTags, rightWidth};
+ghost use Rattle.settings.specs.Grammar.{valid, lastRegister, rightTimeout, rightJoin, rightTags, rightWidth, rightSign};
 ghost use Rattle.settings.specs.Values.{settings, valueOf, same};
 use settings::Settings;
 
@@ -20,11 +20,12 @@ fn head_right(timeout: u32, join: u32, tags: u32) -> bool
 }
 
 // The rules of a tag's lines; `from` is the first address above the tag before.
-fn tag_right(from: u32, address: u16, width: u16) -> bool
-    ensures { λ r. ⌜ r ≡ (leb from address && rightWidth (address ∷ []) width) ⌝ }
+fn tag_right(from: u32, address: u16, width: u16, sign: u16) -> bool
+    ensures { λ r. ⌜ r ≡ (leb from address && (rightWidth (address ∷ []) width && rightSign (address ∷ width ∷ []) sign)) ⌝ }
 {
     (from <= address as u32)
-        & ((width == 16) | ((width == 32) & (address as u32 + 1 < laws::ADDRESSES)))
+        & (((width == 16) | ((width == 32) & (address as u32 + 1 < laws::ADDRESSES)))
+            & ((sign == 0) | ((sign == 1) & (width == 16))))
 }
 
 // The first address above a tag; and that a column's number is an address.
@@ -45,8 +46,9 @@ pub fn is_valid<'a>(
     tags: u32,
     addr: &'a [u16; laws::MOST_TAGS],
     width: &'a [u16; laws::MOST_TAGS],
+    sign: &'a [u16; laws::MOST_TAGS],
 ) -> bool
-    ensures { λ r. ⌜ r ≡ valid (valueOf (settings timeout join tags (now (addr .entry)) (now (width .entry)))) ⌝ }
+    ensures { λ r. ⌜ r ≡ valid (valueOf (settings timeout join tags (now (addr .entry)) (now (width .entry)) (now (sign .entry)))) ⌝ }
 {
     if !head_right(timeout, join, tags) {
         return false;
@@ -55,7 +57,7 @@ pub fn is_valid<'a>(
     let mut from: u32 = 0;
     let mut k: usize = 0;
     while k < tags as usize {
-        right = right & tag_right(from, addr[k], width[k]);
+        right = right & tag_right(from, addr[k], width[k], sign[k]);
         from = above(addr[k], width[k]);
         k += 1;
     }
@@ -73,7 +75,7 @@ fn places(tags: u32) -> usize
     }
 }
 
-// Equal are timeout, join and the listed tags; a place beyond the arrays counts as 0 on both sides.
+// Equal are timeout, join and the listed tags with their signs; a place beyond the arrays counts as 0 on both sides.
 pub fn are_equal(a: Settings, b: Settings) -> bool
     ensures { λ r. ⌜ r ≡ same (valueOf a) (valueOf b) ⌝ }
 {
@@ -81,7 +83,8 @@ pub fn are_equal(a: Settings, b: Settings) -> bool
     let listed = places(a.tags);
     let mut k: usize = 0;
     while k < listed {
-        equal = equal & ((a.addr[k] == b.addr[k]) & (a.width[k] == b.width[k]));
+        equal = equal
+            & ((a.addr[k] == b.addr[k]) & ((a.width[k] == b.width[k]) & (a.sign[k] == b.sign[k])));
         k += 1;
     }
     equal

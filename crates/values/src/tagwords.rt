@@ -5,7 +5,7 @@ ghost use Prim.Native.Nat.{_≤_};
 ghost use lib.ListN.{length, take};
 ghost use Rattle.laws.specs.Numbers.{mostTags};
 ghost use Rattle.settings.specs.Values.{listed, settingsOf, padded};
-ghost use Rattle.settings.specs.TagWords.{kindOf, kindNumber, kindFrom, widthOf, wordOf, tagOf};
+ghost use Rattle.settings.specs.TagWords.{kindOf, kindNumber, kindFrom, widthOf, signOf, wordOf, tagOf};
 use bcd::Kind;
 use settings::Settings;
 use settings::kind_of;
@@ -16,6 +16,7 @@ fn kind_number(kind: Kind) -> u64
     match kind {
         Kind::Width16 => 0,
         Kind::Width32 => 1,
+        Kind::Signed16 => 2,
     }
 }
 
@@ -24,6 +25,8 @@ fn kind_from(number: u64) -> Kind
 {
     if number == 1 {
         Kind::Width32
+    } else if number == 2 {
+        Kind::Signed16
     } else {
         Kind::Width16
     }
@@ -35,14 +38,25 @@ fn width_of(kind: Kind) -> u16
     match kind {
         Kind::Width16 => 16,
         Kind::Width32 => 32,
+        Kind::Signed16 => 16,
+    }
+}
+
+fn sign_of(kind: Kind) -> u16
+    ensures { λ r. ⌜ r ≡ signOf kind ⌝ }
+{
+    match kind {
+        Kind::Width16 => 0,
+        Kind::Width32 => 0,
+        Kind::Signed16 => 1,
     }
 }
 
 // The word of a tag.
-pub fn tag_word(address: u16, width: u16) -> u64
-    ensures { λ r. ⌜ r ≡ wordOf (record { address = address; width = width }) ⌝ }
+pub fn tag_word(address: u16, width: u16, sign: u16) -> u64
+    ensures { λ r. ⌜ r ≡ wordOf (record { address = address; width = width; sign = sign }) ⌝ }
 {
-    address as u64 + laws::ADDRESSES as u64 * kind_number(kind_of(width))
+    address as u64 + laws::ADDRESSES as u64 * kind_number(kind_of(width, sign))
 }
 
 pub fn tag_address(word: u64) -> u16
@@ -62,15 +76,16 @@ pub fn fill_words<'a>(
     tags: u32,
     addr: &'a [u16; laws::MOST_TAGS],
     width: &'a [u16; laws::MOST_TAGS],
+    sign: &'a [u16; laws::MOST_TAGS],
     words: &mut [u64; laws::MOST_TAGS],
 )
     requires { ⌜ tags ≤ mostTags ⌝ }
-    ensures { λ r. ⌜ now (words .exit) ≡ padded (map wordOf (listed tags (now (addr .entry)) (now (width .entry)))) ⌝ }
+    ensures { λ r. ⌜ now (words .exit) ≡ padded (map wordOf (listed tags (now (addr .entry)) (now (width .entry)) (now (sign .entry)))) ⌝ }
 {
     *words = [0u64; laws::MOST_TAGS];
     let mut k: usize = 0;
     while k < tags as usize {
-        words[k] = tag_word(addr[k], width[k]);
+        words[k] = tag_word(addr[k], width[k], sign[k]);
         k += 1;
     }
 }
@@ -93,10 +108,13 @@ pub fn settings_from(
     told(*words);
     let mut addr = [0u16; laws::MOST_TAGS];
     let mut width = [0u16; laws::MOST_TAGS];
+    let mut sign = [0u16; laws::MOST_TAGS];
     let mut k: usize = 0;
     while k < tagged as usize {
         addr[k] = tag_address(words[k]);
-        width[k] = width_of(tag_kind(words[k]));
+        let kind = tag_kind(words[k]);
+        width[k] = width_of(kind);
+        sign[k] = sign_of(kind);
         k += 1;
     }
     Settings {
@@ -105,5 +123,6 @@ pub fn settings_from(
         tags: tagged,
         addr: addr,
         width: width,
+        sign: sign,
     }
 }

@@ -38,6 +38,7 @@ pub extern "C" fn zb_settings_write(from: &Settings, text: &mut [u8]) -> Report
         &from.tags,
         &from.addr,
         &from.width,
+        &from.sign,
         text,
     )
 }

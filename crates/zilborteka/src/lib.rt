@@ -36,6 +36,7 @@ pub extern "C" fn zb_fresh(st: &mut Device, from: &Settings) -> Report
         &from.tags,
         &from.addr,
         &from.width,
+        &from.sign,
     )
 }
 

@@ -1,4 +1,4 @@
--- `settings::kind_of` meets its contract: a width gives its kind.
+-- `settings::kind_of` meets its contract: width and sign give the kind.
 -- Assumes nothing.
 use borrow.Author.Tests.{eq-eqb, ne-eqb}
 use Rattle.settings.specs.TagWords.{kindOf}
@@ -11,7 +11,11 @@ returns c = λ address. rw (eq-eqb _ 32 (c .if1 .taken))
 
 returns-2 : tie.Need-returns-2
 unfolding kindOf
-returns-2 c = λ address. rw (ne-eqb _ 32 (c .if1 .left))
+returns-2 c = λ address. rw (ne-eqb _ 32 (c .before .if1 .left), eq-eqb _ 1 (c .if2 .taken))
+
+returns-3 : tie.Need-returns-3
+unfolding kindOf
+returns-3 c = λ address. rw (ne-eqb _ 32 (c .before .if1 .left), ne-eqb _ 1 (c .if2 .left))
 
 pub kind-of-spec : {M : Type 1} → statement M
-kind-of-spec = tie.close (tie.spec returns returns-2)
+kind-of-spec = tie.close (tie.spec returns returns-2 returns-3)

@@ -19,7 +19,7 @@ abbrev R : Rel
 R = λ d from r d′. Freshly from r d′
 
 abbrev Rc : CoreRel
-Rc = λ a0 a1 a2 a3 a4 a5 a6 a7 a8 a9 a10 a11 a12 a13 a14 s0 s1 s2 s3 s4 r w0 w1 w2 w3 w4 w5 w6 w7 w8 w9 w10 w11 w12 w13 w14. R (device a0 a1 a2 a3 a4 a5 a6 a7 a8 a9 a10 a11 a12 a13 a14) (settings s0 s1 s2 s3 s4) r (device w0 w1 w2 w3 w4 w5 w6 w7 w8 w9 w10 w11 w12 w13 w14)
+Rc = λ a0 a1 a2 a3 a4 a5 a6 a7 a8 a9 a10 a11 a12 a13 a14 s0 s1 s2 s3 s4 s5 r w0 w1 w2 w3 w4 w5 w6 w7 w8 w9 w10 w11 w12 w13 w14. R (device a0 a1 a2 a3 a4 a5 a6 a7 a8 a9 a10 a11 a12 a13 a14) (settings s0 s1 s2 s3 s4 s5) r (device w0 w1 w2 w3 w4 w5 w6 w7 w8 w9 w10 w11 w12 w13 w14)
 
 pub zb-fresh-spec : {M : Type 1} → stated.statement M
 unfolding code.routine tablesOf

@@ -1,4 +1,4 @@
--- `scripts::naming::document_value` meets its contract: both lists of places are padded with zeros.
+-- `scripts::naming::document_value` meets its contract: every list of places is padded with zeros.
 -- Assumes nothing.
 use mathlib.Core.Path.{refl}
 use Rattle.settings.specs.Values.{settingsOf}

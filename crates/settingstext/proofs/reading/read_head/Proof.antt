@@ -3,7 +3,7 @@
 use mathlib.Core.Path.{sym, _∙_}
 use native.Mathlib.Omega.{arith}
 use Rattle.settingstext.proofs.AnswerLaws.{placed-inside}
-use Rattle.settingstext.proofs.HeadLaws.{stop-headed, version-stop, version-read}
+use Rattle.settingstext.proofs.HeadLaws.{stop-headed, version-stop, version-read, version-bounds}
 use borrow.Author.Needs.{needs}
 use Rattle.settingstext.proofs.reading.read_head.Statement.{statement}
 use Rattle.settingstext.proofs.reading.read_head.Tie as tie
@@ -12,10 +12,10 @@ returns : tie.Need-returns
 returns c = stop-headed _ _ 1 (omega arith) (version-stop _ (sym (c .before .enum-told .given .1) ∙ c .before .before .before .line-at .ensures)) (c .stopped-at .ensures)
 
 read-in-requires : tie.Need-read-in-requires
-read-in-requires c κs = placed-inside _ _ _ _ (sym (c .before .next .given .1) ∙ c .before .before .before .line-at .ensures)
+read-in-requires c κs = let line = sym (c .before .version .given .1) ∙ c .before .before .before .line-at .ensures in let listed = version-bounds _ _ _ line in (placed-inside _ _ _ _ line, listed .0, listed .1)
 
 returns-2 : tie.Need-returns-2
-returns-2 c = rw (version-read _ _ _ (sym (c .before .before .next .given .1) ∙ c .before .before .before .before .line-at .ensures)) (c .read-in .ensures)
+returns-2 c = rw (version-read _ _ _ (sym (c .before .before .version .given .1) ∙ c .before .before .before .before .line-at .ensures)) (c .read-in .ensures)
 
 pub read-head-spec : {M : Type 1} → statement M
 read-head-spec =

@@ -9,28 +9,29 @@ use Rattle.settingstext.proofs.reading.read_in.Statement.{statement}
 use Rattle.settingstext.proofs.reading.read_in.Tie as tie
 
 returns : tie.Need-returns
-returns c = stop-headed _ _ 2 (omega arith) (timeout-stop _ _ (c .before .before .before .before .before .before .pre) (sym (c .before .enum-told .given .1) ∙ c .before .before .before .line-at .ensures)) (c .stopped-at .ensures)
+returns c = stop-headed _ _ 2 (omega arith) (timeout-stop _ _ _ (c .before .before .before .before .before .before .pre .0) (sym (c .before .enum-told .given .1) ∙ c .before .before .before .line-at .ensures)) (c .stopped-at .ensures)
 
 line-at-requires-2 : tie.Need-line-at-requires-2
 line-at-requires-2 c κs = (placed-inside _ _ _ _ (sym (c .before .before .timeout .given .1) ∙ c .before .before .before .before .line-at .ensures), omega arith)
 
 returns-2 : tie.Need-returns-2
-returns-2 c = stop-headed _ _ 3 (omega arith) (join-stop _ _ (c .before .before .before .before .before .before .before .before .before .before .before .pre) _ _ (sym (c .before .before .before .before .before .before .timeout .given .1) ∙ c .before .before .before .before .before .before .before .before .line-at .ensures) (sym (c .before .enum-told2 .given .1) ∙ c .before .before .before .line-at2 .ensures)) (c .stopped-at2 .ensures)
+returns-2 c = stop-headed _ _ 3 (omega arith) (join-stop _ _ _ (c .before .before .before .before .before .before .before .before .before .before .before .pre .0) _ _ (sym (c .before .before .before .before .before .before .timeout .given .1) ∙ c .before .before .before .before .before .before .before .before .line-at .ensures) (sym (c .before .enum-told2 .given .1) ∙ c .before .before .before .line-at2 .ensures)) (c .stopped-at2 .ensures)
 
 line-at-requires-3 : tie.Need-line-at-requires-3
 line-at-requires-3 c κs = (placed-inside _ _ _ _ (sym (c .before .before .join .given .1) ∙ c .before .before .before .before .line-at2 .ensures), omega arith)
 
 returns-3 : tie.Need-returns-3
-returns-3 c = stop-headed _ _ 4 (omega arith) (tags-stop _ _ (c .before .before .before .before .before .before .before .before .before .before .before .before .before .before .before .before .pre) _ _ (sym (c .before .before .before .before .before .before .before .before .before .before .before .timeout .given .1) ∙ c .before .before .before .before .before .before .before .before .before .before .before .before .before .line-at .ensures) _ _ (sym (c .before .before .before .before .before .before .join .given .1) ∙ c .before .before .before .before .before .before .before .before .line-at2 .ensures) (sym (c .before .enum-told3 .given .1) ∙ c .before .before .before .line-at3 .ensures)) (c .stopped-at3 .ensures)
+returns-3 c = stop-headed _ _ 4 (omega arith) (tags-stop _ _ _ (c .before .before .before .before .before .before .before .before .before .before .before .before .before .before .before .before .pre .0) _ _ (sym (c .before .before .before .before .before .before .before .before .before .before .before .timeout .given .1) ∙ c .before .before .before .before .before .before .before .before .before .before .before .before .before .line-at .ensures) _ _ (sym (c .before .before .before .before .before .before .join .given .1) ∙ c .before .before .before .before .before .before .before .before .line-at2 .ensures) (sym (c .before .enum-told3 .given .1) ∙ c .before .before .before .line-at3 .ensures)) (c .stopped-at3 .ensures)
 
 returns-4 : tie.Need-returns-4
 returns-4 c =
     let tags = sym (c .before .tags .given .1) ∙ c .before .before .before .line-at3 .ensures in
     record {
-      right = λ z. head-read _ _ (c .before .before .before .before .before .before .before .before .before .before .before .before .before .before .before .before .pre) _ _ (sym (c .before .before .before .before .before .before .before .before .before .before .before .timeout .given .1) ∙ c .before .before .before .before .before .before .before .before .before .before .before .before .before .line-at .ensures) _ _ (sym (c .before .before .before .before .before .before .join .given .1) ∙ c .before .before .before .before .before .before .before .before .line-at2 .ensures) _ _ (sym (c .before .tags .given .1) ∙ c .before .before .before .line-at3 .ensures);
+      right = λ z. head-read _ _ _ (c .before .before .before .before .before .before .before .before .before .before .before .before .before .before .before .before .pre .0) _ _ (sym (c .before .before .before .before .before .before .before .before .before .before .before .timeout .given .1) ∙ c .before .before .before .before .before .before .before .before .before .before .before .before .before .line-at .ensures) _ _ (sym (c .before .before .before .before .before .before .join .given .1) ∙ c .before .before .before .before .before .before .before .before .line-at2 .ensures) _ _ (sym (c .before .tags .given .1) ∙ c .before .before .before .line-at3 .ensures);
       stop = λ n. absurd (n refl);
       inside = placed-inside _ _ _ _ tags;
       few = placed-most _ _ _ _ _ _ tags;
+      listed = let p = c .before .before .before .before .before .before .before .before .before .before .before .before .before .before .before .before .pre in (p .1, p .2);
     }
 
 pub read-in-spec : {M : Type 1} → statement M

@@ -1,50 +1,60 @@
 -- `settingstext::reading::read_text` meets its contract: the tags so far stand in the columns. The measure is how many are left.
 -- Assumes nothing.
-use Prim.Native.Nat.{_-_, _<_, _≤_}
+use Prim.Native.Nat.{_+_, _*_, _-_, _<_, _≤_}
 use mathlib.Core.Path.{_≡_, refl, sym, _∙_}
 use mathlib.Core.Logic.{⊎-elim}
 use native.Mathlib.Omega.{arith}
 use lib.ListN.{drop}
 use denote.Ref.{now}
-use Rattle.laws.specs.Numbers.{mostTags, addresses}
+use Rattle.laws.specs.Numbers.{mostTags, addresses, newestVersion}
 use Rattle.settings.specs.Values.{settings, settingsOf}
 use Rattle.settingstext.specs.TextRead.{reported}
 use Rattle.settingstext.proofs.AnswerLaws.{tagged}
-use Rattle.settingstext.proofs.ListingLaws.{Listed, listed-none, listed-more, Found, found-all, found-stop}
+use Rattle.settingstext.proofs.ListingLaws.{Listed, listed-none, listed-more, line-small, Found, found-all, found-stop}
 use borrow.Author.Needs.{needs}
 use Rattle.settingstext.proofs.reading.read_text.Statement.{statement}
 use Rattle.settingstext.proofs.reading.read_text.Tie as tie
 
 abbrev Inv-loop : tie.InvT-loop
-Inv-loop text head count addr₀ width₀ stopped₀ at₀ line₀ least₀ k₀ addr width stopped at line least k = (stopped ≡ head .wrong) × Listed text (drop (head .next) text) (head .tags) k at line least addr width
+Inv-loop text head count addr₀ width₀ sign₀ stopped₀ at₀ line₀ least₀ k₀ addr width sign stopped at line least k = (stopped ≡ head .wrong) × Listed (head .version) text (drop (head .next) text) (head .tags) k at line least addr width sign
 
 abbrev μ-loop : tie.MeasureT-loop
-μ-loop text head count addr₀ width₀ stopped₀ at₀ line₀ least₀ k₀ addr width stopped at line least k = head .tags - k
+μ-loop text head count addr₀ width₀ sign₀ stopped₀ at₀ line₀ least₀ k₀ addr width sign stopped at line least k = head .tags - k
 
 loop-holds : tie.Need-loop-holds Inv-loop μ-loop
-loop-holds c = (refl, listed-none _ _ _ (c .before .read-head .ensures .inside))
+loop-holds c = (refl, listed-none _ _ _ _ (c .before .read-head .ensures .inside))
 
 tag-at-requires : tie.Need-tag-at-requires Inv-loop μ-loop
-tag-at-requires c κs = let l = c .before .loop .inv .1 in (l .inside, omega (arith, l .line, l .few, c .before .before .before .read-head .ensures .few))
+tag-at-requires c κs = let l = c .before .loop .inv .1 in let h = c .before .before .before .read-head .ensures in (l .inside, h .listed .0, omega (arith, line-small l (h .few) (h .listed)))
 
 -- in a turn that read a tag: there is a place for it, and its numbers are small
-small : (c : tie.After-known-told2 Inv-loop μ-loop) → (c .before .before .before .before .before .loop .k < mostTags) × (c .before .address .given .0 .0 < addresses) × (c .before .address .given .0 .1 .0 ≤ 32)
+small : (c : tie.After-known-told2 Inv-loop μ-loop) → (c .before .before .before .before .before .loop .k < mostTags) × (c .before .address .given .0 .0 < addresses) × (c .before .address .given .0 .1 .0 < addresses) × (c .before .address .given .0 .1 .1 .0 < addresses)
 small c =
     let turn = c .before .before .before .before in
     let l = turn .before .loop .inv .1 in
-    let t = tagged _ _ _ _ _ _ _ (l .inside) (sym (c .before .address .given .1) ∙ c .before .before .before .tag-at .ensures (l .prior) (l .low)) in
-    (omega (arith, turn .loop-test .taken, turn .before .before .before .read-head .ensures .few), t .small, t .narrow)
+    let h = turn .before .before .before .read-head .ensures in
+    let t = tagged _ _ _ _ _ _ _ _ _ (h .listed .0) (omega (arith, h .listed .1)) (l .inside) (sym (c .before .address .given .1) ∙ c .before .before .before .tag-at .ensures (l .prior) (l .low)) in
+    (omega (arith, turn .loop-test .taken, h .few), t .small .0, t .small .1, t .small .2)
+
+-- its line's number is small, and so is the version
+low-line : (c : tie.After-known-told2 Inv-loop μ-loop) → (c .before .before .before .before .before .loop .line ≤ 5 + 3 * mostTags) × (c .before .before .before .before .before .before .before .read-head .result .version ≤ newestVersion)
+low-line c =
+    let turn = c .before .before .before .before in
+    let h = turn .before .before .before .read-head .ensures in
+    (line-small (turn .before .loop .inv .1) (h .few) (h .listed), h .listed .1)
 
 loop-again : tie.Need-loop-again Inv-loop μ-loop
 loop-again c =
-    let turn = c .before .before .before .before in
-    let l = turn .before .loop .inv in (
+    let read = c .before in
+    let turn = read .before .before .before .before in
+    let l = turn .before .loop .inv in
+    let h = turn .before .before .before .read-head .ensures in (
       l .0,
-      listed-more _ _ 0 0 _ _ _ _ _ _ _ (l .1) (turn .loop-test .taken) (turn .before .before .before .read-head .ensures .few) _ _ _ (sym (c .before .address .given .1) ∙ c .before .before .before .tag-at .ensures (l .1 .prior) (l .1 .low)),
+      listed-more _ (h .listed) _ _ 0 0 _ _ _ _ _ _ _ _ (l .1) (turn .loop-test .taken) (h .few) _ _ _ _ (sym (read .before .address .given .1) ∙ read .before .before .before .tag-at .ensures (l .1 .prior) (l .1 .low)),
     )
 
 -- behind the loop: all tags were read, or a wrong line stopped it
-found : (c : tie.After-first-wrong Inv-loop μ-loop) → let here = c .before .before in let h = here .before .before .read-head .result in Found (now (here .before .before .before .before .args .text)) (c .first-wrong .result) (settings (h .timeout) (h .join) (h .tags) (here .loop .addr) (here .loop .width))
+found : (c : tie.After-first-wrong Inv-loop μ-loop) → let here = c .before .before in let h = here .before .before .read-head .result in Found (now (here .before .before .before .before .args .text)) (c .first-wrong .result) (settings (h .timeout) (h .join) (h .tags) (here .loop .addr) (here .loop .width) (here .loop .sign))
 found c =
     let here = c .before .before in
     let head = here .before .before .read-head in
@@ -66,5 +76,5 @@ read-text-spec =
     tie.close
     (tie.spec Inv-loop μ-loop (λ c κs. search needs) (λ c. search needs) loop-holds tag-at-requires (λ c. search needs) (λ c. search needs)
     (λ c. omega (arith, small c .1)) (λ c. omega (arith, small c .0)) (λ c. small c .0) (λ c. omega (arith, small c .2)) (λ c. omega (arith, small c .0)) (λ c. small c .0)
-    (λ c. omega (arith, small c .1, small c .2)) (λ c. omega (arith, small c .0, c .before .before .before .before .before .loop .inv .1 .line)) (λ c. search needs) (λ c. search needs) loop-again
+    (λ c. omega (arith, small c .3)) (λ c. omega (arith, small c .0)) (λ c. small c .0) (λ c. omega (arith, small c .1, small c .2)) (λ c. omega (arith, low-line (c .before))) (λ c. omega (arith, low-line (c .before))) (λ c. search needs) (λ c. search needs) loop-again
     (λ c κs. search needs) (λ c κs. search needs) returns returns-2)

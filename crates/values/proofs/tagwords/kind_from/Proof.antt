@@ -11,7 +11,11 @@ returns c = rw (eq-eqb _ 1 (c .if1 .taken))
 
 returns-2 : tie.Need-returns-2
 unfolding kindFrom
-returns-2 c = rw (ne-eqb _ 1 (c .if1 .left))
+returns-2 c = rw (ne-eqb _ 1 (c .before .if1 .left), eq-eqb _ 2 (c .if2 .taken))
+
+returns-3 : tie.Need-returns-3
+unfolding kindFrom
+returns-3 c = rw (ne-eqb _ 1 (c .before .if1 .left), ne-eqb _ 2 (c .if2 .left))
 
 pub kind-from-spec : {M : Type 1} → statement M
-kind-from-spec = tie.close (tie.spec returns returns-2)
+kind-from-spec = tie.close (tie.spec returns returns-2 returns-3)

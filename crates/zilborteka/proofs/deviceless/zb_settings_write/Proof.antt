@@ -21,7 +21,7 @@ abbrev R : Rel
 R = λ from text r text′. textSeen r text′ ≡ writeTold (writtenTo (valueOf from) text)
 
 abbrev Rc : CoreRel
-Rc = λ s0 s1 s2 s3 s4 p1 r z1. R (settings s0 s1 s2 s3 s4) p1 r z1
+Rc = λ s0 s1 s2 s3 s4 s5 p1 r z1. R (settings s0 s1 s2 s3 s4 s5) p1 r z1
 
 pub zb-settings-write-spec : {M : Type 1} → stated.statement M
 unfolding code.routine tablesOf
