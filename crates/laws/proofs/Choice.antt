@@ -35,6 +35,13 @@ pub or-right : (a b : Bool) → (a || b) ≡ false → b ≡ false
 or-right true b e = absurd (true≢false e)
 or-right false b e = e
 
+-- where none of four holds
+pub or-four : (a b c d : Bool) → (((a || b) || c) || d) ≡ false → (a ≡ false) × (b ≡ false) × (c ≡ false) × (d ≡ false)
+or-four a b c d e =
+    let f = or-left ((a || b) || c) d e in
+    let g = or-left (a || b) c f in
+    (or-left a b g, or-right a b g, or-right (a || b) c f, or-right ((a || b) || c) d e)
+
 -- where one holds and it is not the first
 pub or-second : (a b : Bool) → a ≡ false → (a || b) ≡ true → b ≡ true
 or-second true b e t = absurd (true≢false e)

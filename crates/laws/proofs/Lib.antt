@@ -3,7 +3,9 @@ pub mod TestLaws
 pub mod ListLaws
 pub mod FilterLaws
 pub mod LastLaws
+pub mod SpanLaws
 pub mod SearchLaws
+pub mod SoonerLaws
 pub mod LeastLaws
 pub mod CountLaws
 pub mod PigeonLaws

@@ -191,6 +191,16 @@ module _ (test : ℕ → Bool) (beats : ℕ → ℕ → Bool) (none : ℕ) where
       (λ (q : m ≡ suc n → ⊥). rw (h n (omega (arith, q)) (omega arith)) (best-cut m n (omega (arith, q)) (λ k a b. h k a (omega arith))))
       (eq-or m (suc n))
 
+  -- what was found stays found past places that do not beat it
+  pub best-on : (m n b : ℕ) → m ≤ n → b ≡ best test beats none m → ((k : ℕ) → m ≤ k → k < n → (test k && (eqb b none || beats k b)) ≡ false) → b ≡ best test beats none n
+  unfolding best
+  best-on m zero b l e h = let q : m ≡ zero = omega arith in rw q at e
+  best-on m (suc n) b l e h =
+      ⊎-elim
+      (λ (q : m ≡ suc n). rw q at e)
+      (λ (q : m ≡ suc n → ⊥). rw add-one at (best-stays test beats none n b (best-on m n b (omega (arith, q)) e (λ k a c. h k a (omega arith))) (h n (omega (arith, q)) (omega arith))))
+      (eq-or m (suc n))
+
 module _ (test : ℕ → Bool) where
   -- a place that passes, where none before it does, is the first
   pub first-found : (none n k : ℕ) → n ≤ none → k < n → ((j : ℕ) → j < k → test j ≡ false) → test k ≡ true → best test (λ i j. false) none n ≡ k
@@ -229,3 +239,32 @@ pub first-ext : (test test′ : ℕ → Bool) (n : ℕ) → ((k : ℕ) → test 
 unfolding first
 first-ext test test′ zero h = refl
 first-ext test test′ (suc n) h = rw (h 0, first-ext (λ k. test (suc k)) (λ k. test′ (suc k)) n (λ k. h (suc k)))
+
+-- A search that goes on from a place that beats what was found to the next that does: all before `next` are passed, and `next` beats what was found, or is n.
+module _ (test : ℕ → Bool) (beats : ℕ → ℕ → Bool) (none n : ℕ) where
+  pub record Leap (found next : ℕ) : Type 0 where
+    pub within : next ≤ n
+    pub so-far : found ≡ best test beats none next
+    pub wins : next < n → (test next && (eqb found none || beats next found)) ≡ true
+
+  -- at first nothing is found, and the first that passes is next
+  pub leap-starts : {next : ℕ} → next ≡ first test n → Leap none next
+  leap-starts {next} e =
+      record {
+        within = rw e (first-le test n);
+        so-far = sym (best-nothing test beats none next (λ k h. first-before test n k (omega arith)));
+        wins = λ h. rw (eq-eqb none none refl, e) (rw (first-here test n (omega arith)));
+      }
+
+  -- what was next is found, and none before the new one beats it
+  pub leap-on : {found next new : ℕ} → Leap found next → next < n → next < new → new ≤ n → ((k : ℕ) → next < k → k < new → (test k && (eqb next none || beats k next)) ≡ false)
+      → (new < n → (test new && (eqb next none || beats new next)) ≡ true) → Leap next new
+  leap-on {found} {next} {new} s h l w f t =
+      record {
+        within = w;
+        so-far = best-on test beats none (next + 1) new next (omega arith) (best-wins test beats none next found (s .so-far) (s .wins h)) (λ k a b. f k (omega arith) b);
+        wins = t;
+      }
+
+  pub leap-ends : {found next : ℕ} → Leap found next → n ≤ next → found ≡ best test beats none n
+  leap-ends {found} {next} s h = let w = s .within in let e : next ≡ n = omega arith in rw e at (s .so-far)

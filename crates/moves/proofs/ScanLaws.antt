@@ -1,18 +1,20 @@
 -- What a scan of the places has found so far, turn by turn, and what it has found when it stops.
 -- Assumes nothing.
-use Prim.Native.Nat.{ℕ, _+_, _≤_, _<_}
-use mathlib.Core.Path.{_≡_, refl, _∙_}
+use Prim.Native.Nat.{ℕ, _+_, _-_, _≤_, _<_}
+use mathlib.Core.Path.{_≡_, refl, sym, _∙_}
 use mathlib.Core.Logic.{⊎-elim}
 use mathlib.Core.Bool.{Bool, true, false, _&&_, _||_, and-true, or-false}
 use mathlib.Core.List.{List}
 use native.Mathlib.Omega.{arith}
 use lib.ListN.{getD}
-use lib.Dec.{eqb}
-use borrow.Author.Tests.{eq-eqb, ne-eqb}
+use lib.Dec.{eqb, ltb, leb}
+use borrow.Author.Tests.{eq-eqb, ne-eqb, eqb-false, leb-true, not-true}
 use Rattle.laws.specs.Numbers.{places}
 use Rattle.laws.specs.Search.{best}
+use Rattle.laws.proofs.Choice.{and-right}
 use Rattle.laws.proofs.SearchLaws.{best-in, best-wins, best-stays, first-cut}
-use Rattle.table.specs.Places.{isFree, Topped}
+use Rattle.laws.proofs.SoonerLaws.{sooner-come, later-not, sooner-by, higher-not}
+use Rattle.table.specs.Places.{isFree, isTaken, isDue, isSooner, Topped}
 
 -- A place beats nothing: that it passes is enough.
 pub beats-none : {t r : Bool} (b : Bool) {found none : ℕ} → r ≡ t → found ≡ none → r ≡ (t && (eqb found none || b))
@@ -61,3 +63,22 @@ module _ {test : ℕ → Bool} {none n k found r : ℕ} (s : Scan test (λ i j. 
 -- The lowest free place below top, or top itself, is the lowest free place of all.
 pub free-below : (is : List ℕ) (top : ℕ) → Topped is top → best (isFree is) (λ j k. false) places places ≡ best (isFree is) (λ j k. false) top top
 free-below is top t = first-cut (isFree is) top places (t .within) (λ k h l. eq-eqb (getD is k 0) 0 (t .above k h))
+
+-- What makes a place sooner than the live place b, and what keeps it from that, on the columns.
+module _ (is ds : List ℕ) (b : ℕ) (t : isTaken is b ≡ true) where
+  pub live-id : 0 < getD is b 0
+  live-id = let z = eqb-false (getD is b 0) 0 (not-true _ t) in omega (arith, z)
+
+  pub place-later : (j : ℕ) → getD ds b 0 < getD ds j 0 → (isTaken is j && isSooner is ds j b) ≡ false
+  place-later = later-not (isTaken is) (λ j. getD ds j 0) (λ j. getD is j 0) b
+
+  pub place-higher : (j : ℕ) → (ltb (getD ds j 0) (getD ds b 0) || (isTaken is j && leb (getD is j 0) (getD is b 0 - 1))) ≡ false → (isTaken is j && isSooner is ds j b) ≡ false
+  place-higher j = higher-not (isTaken is) (λ j. getD ds j 0) (λ j. getD is j 0) b j live-id
+
+  pub place-sooner : {r : Bool} (j : ℕ) → r ≡ (leb (getD ds j 0) (getD ds b 0) && (isTaken is j && (ltb (getD ds j 0) (getD ds b 0) || leb (getD is j 0) (getD is b 0 - 1))))
+      → (isTaken is j && isSooner is ds j b) ≡ r
+  place-sooner j e = sooner-by (isTaken is) (λ j. getD ds j 0) (λ j. getD is j 0) b j live-id ∙ sym e
+
+-- Beside a place that is due a sooner one is due.
+pub place-due : (is ds : List ℕ) (time b : ℕ) → b < places → isDue is ds time b ≡ true → (j : ℕ) → (isDue is ds time j && (eqb b places || isSooner is ds j b)) ≡ (isTaken is j && isSooner is ds j b)
+place-due is ds time b h t j = sooner-come (isTaken is) (λ j. getD ds j 0) (λ j. getD is j 0) time places b j (λ z. omega arith) (leb-true _ _ (and-right (isTaken is b) _ t))

@@ -1,14 +1,14 @@
 // Searches over the places: they stop at the last live place.
 use pdu::ProxyId;
 ghost use mathlib.Core.Path.{_≡_};
-ghost use Prim.Native.Nat.{_+_, _<_, _≤_};
-ghost use mathlib.Core.Bool.{cond, false, _&&_, _||_};
+ghost use Prim.Native.Nat.{ℕ, _+_, _<_, _≤_};
+ghost use mathlib.Core.Bool.{cond, true, false, _&&_, _||_};
 ghost use lib.ListN.{getD};
-ghost use lib.Dec.{eqb};
+ghost use lib.Dec.{eqb, ltb, leb};
 ghost use Rattle.laws.specs.Numbers.{places};
-ghost use Rattle.laws.specs.Search.{best, least, count};
+ghost use Rattle.laws.specs.Search.{best, first, least, count};
 ghost use Rattle.machine.specs.Waiting.{noDeadline};
-ghost use Rattle.table.specs.Places.{isFree, isTaken, holds, isOpen, isDue, isDueAt, isLower, isSooner, freeIdFrom, Topped};
+ghost use Rattle.table.specs.Places.{isFree, isTaken, holds, isOpen, isDue, isLower, isSooner, freeIdFrom, Topped};
 
 // The place that is live under that id, and PLACES where none is.
 pub fn find(ids: &[u32; laws::PLACES], top: usize, id: ProxyId) -> usize
@@ -71,60 +71,132 @@ pub fn count_live(ids: &[u32; laws::PLACES], top: usize) -> u32
     live
 }
 
-fn is_due_at(
-    ids: &[u32; laws::PLACES],
-    deadlines: &[u64; laws::PLACES],
-    deadline: u64,
-    k: usize,
-) -> bool
+fn is_due(ids: &[u32; laws::PLACES], deadlines: &[u64; laws::PLACES], time: u64, k: usize) -> bool
     requires { ⌜ k < places ⌝ }
-    ensures { λ r. ⌜ r ≡ isDueAt (now (ids .entry)) (now (deadlines .entry)) deadline k ⌝ }
+    ensures { λ r. ⌜ r ≡ isDue (now (ids .entry)) (now (deadlines .entry)) time k ⌝ }
 {
-    (ids[k] != 0) & (deadlines[k] == deadline)
+    (ids[k] != 0) & (deadlines[k] <= time)
 }
 
-// The place is live with that deadline, and has a smaller id than what was found so far.
-fn is_lowest_due(
-    ids: &[u32; laws::PLACES],
-    deadlines: &[u64; laws::PLACES],
-    deadline: u64,
-    k: usize,
-    found: usize,
-) -> bool
-    requires { ⌜ (k < places) × (found ≤ places) ⌝ }
-    ensures { λ r. ⌜ r ≡ (isDueAt (now (ids .entry)) (now (deadlines .entry)) deadline k && (eqb found places || isLower (now (ids .entry)) k found)) ⌝ }
+// A place from `from` on up to which every deadline is later: four a turn, and all that a tick with nothing due looks at.
+fn skip_later(deadlines: &[u64; laws::PLACES], from: usize, top: usize, latest: u64) -> usize
+    requires { ⌜ (from ≤ top) × (top ≤ places) ⌝ }
+    ensures { λ r. ⌜ (from ≤ r) × (r ≤ top) × ((j : ℕ) → from ≤ j → j < r → latest < getD (now (deadlines .entry)) j 0) ⌝ }
 {
-    if !is_due_at(ids, deadlines, deadline, k) {
-        return false;
+    let mut k = from;
+    while k + 3 < top {
+        if (deadlines[k] <= latest)
+            | (deadlines[k + 1] <= latest)
+            | (deadlines[k + 2] <= latest)
+            | (deadlines[k + 3] <= latest)
+        {
+            return k;
+        }
+        k += 4;
     }
-    if found == laws::PLACES {
-        return true;
-    }
-    ids[k] < ids[found]
+    k
 }
 
-// Of the live places with that deadline the one with the smallest id; PLACES where none has it.
-fn lowest_due(
+// The first place that is due, and top where none is.
+fn first_due(
     ids: &[u32; laws::PLACES],
     deadlines: &[u64; laws::PLACES],
     top: usize,
-    deadline: u64,
+    time: u64,
 ) -> usize
     requires { ⌜ top ≤ places ⌝ }
-    ensures { λ r. ⌜ r ≡ best (isDueAt (now (ids .entry)) (now (deadlines .entry)) deadline) (isLower (now (ids .entry))) places top ⌝ }
+    ensures { λ r. ⌜ r ≡ first (isDue (now (ids .entry)) (now (deadlines .entry)) time) top ⌝ }
 {
-    let mut found: usize = laws::PLACES;
-    let mut k: usize = 0;
+    let mut k = skip_later(deadlines, 0, top, time);
     while k < top {
-        if is_lowest_due(ids, deadlines, deadline, k, found) {
-            found = k;
+        if is_due(ids, deadlines, time, k) {
+            return k;
         }
         k += 1;
     }
-    found
+    k
 }
 
-// Of the places that are due, the earliest, ties to the smallest id; PLACES where none is. Two passes: most ticks find nothing due in the first.
+// Every place passes that is live with an earlier deadline, or with that one and an id up to the highest.
+fn may_be_sooner(
+    ids: &[u32; laws::PLACES],
+    deadlines: &[u64; laws::PLACES],
+    latest: u64,
+    highest: u32,
+    k: usize,
+) -> bool
+    requires { ⌜ k < places ⌝ }
+    ensures { λ r. ⌜ r ≡ (ltb (getD (now (deadlines .entry)) k 0) latest || (isTaken (now (ids .entry)) k && leb (getD (now (ids .entry)) k 0) highest)) ⌝ }
+{
+    (deadlines[k] < latest) | ((ids[k] != 0) & (ids[k] <= highest))
+}
+
+// A place from `from` on up to which none passes that: four a turn, for many that are due together.
+fn skip_higher(
+    ids: &[u32; laws::PLACES],
+    deadlines: &[u64; laws::PLACES],
+    from: usize,
+    top: usize,
+    latest: u64,
+    highest: u32,
+) -> usize
+    requires { ⌜ (from ≤ top) × (top ≤ places) ⌝ }
+    ensures { λ r. ⌜ (from ≤ r) × (r ≤ top) × ((j : ℕ) → from ≤ j → j < r → (ltb (getD (now (deadlines .entry)) j 0) latest || (isTaken (now (ids .entry)) j && leb (getD (now (ids .entry)) j 0) highest)) ≡ false) ⌝ }
+{
+    let mut k = from;
+    while k + 3 < top {
+        if may_be_sooner(ids, deadlines, latest, highest, k)
+            | may_be_sooner(ids, deadlines, latest, highest, k + 1)
+            | may_be_sooner(ids, deadlines, latest, highest, k + 2)
+            | may_be_sooner(ids, deadlines, latest, highest, k + 3)
+        {
+            return k;
+        }
+        k += 4;
+    }
+    k
+}
+
+// The place is live with an earlier deadline, or with that one and an id up to the highest.
+fn is_sooner(
+    ids: &[u32; laws::PLACES],
+    deadlines: &[u64; laws::PLACES],
+    latest: u64,
+    highest: u32,
+    k: usize,
+) -> bool
+    requires { ⌜ k < places ⌝ }
+    ensures { λ r. ⌜ r ≡ (leb (getD (now (deadlines .entry)) k 0) latest && (isTaken (now (ids .entry)) k && (ltb (getD (now (deadlines .entry)) k 0) latest || leb (getD (now (ids .entry)) k 0) highest))) ⌝ }
+{
+    (deadlines[k] <= latest) & ((ids[k] != 0) & ((deadlines[k] < latest) | (ids[k] <= highest)))
+}
+
+// The next place that is live and sooner than the one that was found, and top where none is.
+fn next_sooner(
+    ids: &[u32; laws::PLACES],
+    deadlines: &[u64; laws::PLACES],
+    top: usize,
+    found: usize,
+) -> usize
+    requires { ⌜ (found < top) × (top ≤ places) × (isTaken (now ids) found ≡ true) ⌝ }
+    ensures { λ r. ⌜ (found < r) × (r ≤ top)
+        × ((j : ℕ) → found < j → j < r → (isTaken (now (ids .entry)) j && isSooner (now (ids .entry)) (now (deadlines .entry)) j found) ≡ false)
+        × (r < top → (isTaken (now (ids .entry)) r && isSooner (now (ids .entry)) (now (deadlines .entry)) r found) ≡ true) ⌝ }
+{
+    let latest = deadlines[found];
+    let highest = ids[found] - 1;
+    let from = skip_later(deadlines, found + 1, top, latest);
+    let mut k = skip_higher(ids, deadlines, from, top, latest, highest);
+    while k < top {
+        if is_sooner(ids, deadlines, latest, highest, k) {
+            return k;
+        }
+        k += 1;
+    }
+    k
+}
+
+// Of the places that are due, the earliest, ties to the smallest id; PLACES where none is.
 pub fn earliest(
     ids: &[u32; laws::PLACES],
     deadlines: &[u64; laws::PLACES],
@@ -134,11 +206,13 @@ pub fn earliest(
     requires { ⌜ top ≤ places ⌝ }
     ensures { λ r. ⌜ r ≡ best (isDue (now (ids .entry)) (now (deadlines .entry)) time) (isSooner (now (ids .entry)) (now (deadlines .entry))) places top ⌝ }
 {
-    let deadline = least_deadline(ids, deadlines, top);
-    if time < deadline {
-        return laws::PLACES;
+    let mut found: usize = laws::PLACES;
+    let mut next = first_due(ids, deadlines, top, time);
+    while next < top {
+        found = next;
+        next = next_sooner(ids, deadlines, top, found);
     }
-    lowest_due(ids, deadlines, top, deadline)
+    found
 }
 
 // What a request may take: the place that it joins, and the place that it would be issued into; PLACES where there is none.

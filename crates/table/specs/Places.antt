@@ -29,10 +29,6 @@ isOpen is ws ds ns word time k =
 abbrev pub isDue : (ids deadlines : List ℕ) → ℕ → ℕ → Bool
 isDue is ds time k = isTaken is k && leb (getD ds k 0) time
 
--- it is live and has that deadline
-abbrev pub isDueAt : (ids deadlines : List ℕ) → ℕ → ℕ → Bool
-isDueAt is ds deadline k = isTaken is k && eqb (getD ds k 0) deadline
-
 -- a smaller id; an earlier deadline, and of equal deadlines a smaller id
 abbrev pub isLower : List ℕ → ℕ → ℕ → Bool
 isLower is j k = ltb (getD is j 0) (getD is k 0)
