@@ -6,12 +6,10 @@ ghost use lib.ListN.{length};
 ghost use Rattle.laws.specs.Bytes.{pairAt};
 ghost use Rattle.laws.specs.Search.{first};
 ghost use Rattle.bcd.specs.Bcd.{registers};
-ghost use Rattle.bcd.specs.Words.{wordsOf, numberOf};
 ghost use Rattle.settings.specs.TagWords.{tagOf};
-ghost use Rattle.rewrite.specs.Registers.{registersAt, laidAt};
 ghost use Rattle.rewrite.specs.Rewriting.{turned, outcome, rewriting};
 ghost use Rattle.rewrite.specs.Frames.{reencoded};
-ghost use Rattle.rewrite.specs.Lent.{tagsOf, TagWords, Run, reaches, numberIn};
+ghost use Rattle.rewrite.specs.Lent.{tagsOf, TagWords, Run, reaches, numberIn, wholeLaid};
 use bcd::Decoded;
 use bcd::Encoded;
 use bcd::Kind;
@@ -78,30 +76,6 @@ pub fn is_reencoded(tags: &[u64; laws::MOST_TAGS], tagged: usize, address: u16, 
     bcd::is_in_range(tag_kind(word), value as u32)
 }
 
-// The number that a tag's registers from byte k on are.
-fn number_at(d: &[u8], k: usize, kind: Kind) -> u32
-    requires { ⌜ k + 2 * registers kind ≤ length (now d) ⌝ }
-    ensures { λ r. ⌜ r ≡ numberOf (registersAt k (registers kind) (now (d .entry))) ⌝ }
-{
-    let low = register_at(d, k);
-    if bcd::registers_of(kind) == 1 {
-        return low;
-    }
-    let high = register_at(d, k + 2);
-    low + WORDS * high
-}
-
-// Lays a number into a tag's registers from byte k on.
-fn lay_number(d: &mut [u8], k: usize, kind: Kind, n: u32)
-    requires { ⌜ k + 2 * registers kind ≤ length (now d) ⌝ }
-    ensures { λ r. ⌜ now (d .exit) ≡ laidAt k (wordsOf kind n) (now (d .entry)) ⌝ }
-{
-    if 1 < bcd::registers_of(kind) {
-        wire::put_at(d, k + 2, (n / WORDS) as u16);
-    }
-    wire::put_at(d, k, (n % WORDS) as u16);
-}
-
 // A tag's number, rewritten if its value allows.
 fn turn(way: Way, kind: Kind, n: u32) -> Turned
     ensures { λ r. ⌜ numberIn r ≡ turned way kind n ⌝ }
@@ -116,6 +90,33 @@ fn turn(way: Way, kind: Kind, n: u32) -> Turned
             Decoded::NoNumber => Turned::LeftRaw,
         },
     }
+}
+
+// A whole tag of two registers, the low word first.
+fn whole_pair(d: &mut [u8], k: usize, way: Way) -> Raw
+    requires { ⌜ k + 3 < length (now d) ⌝ }
+    ensures { λ r. ⌜ outcome (r .partial) (r .value) (now (d .exit)) ≡ wholeLaid way Kind.Width32 k (now (d .entry)) ⌝ }
+{
+    let low = register_at(d, k);
+    let high = register_at(d, k + 2);
+    let Turned::Number(n) = turn(way, Kind::Width32, low + WORDS * high) else {
+        return RAW_VALUE;
+    };
+    wire::put_at(d, k + 2, (n / WORDS) as u16);
+    wire::put_at(d, k, (n % WORDS) as u16);
+    rewrite::NOT_RAW
+}
+
+// A whole tag of one register, which stands from byte k on.
+fn whole_word(d: &mut [u8], k: usize, way: Way, kind: Kind) -> Raw
+    requires { ⌜ (registers kind ≡ 1) × (k + 1 < length (now d)) ⌝ }
+    ensures { λ r. ⌜ outcome (r .partial) (r .value) (now (d .exit)) ≡ wholeLaid way kind k (now (d .entry)) ⌝ }
+{
+    let Turned::Number(n) = turn(way, kind, register_at(d, k)) else {
+        return RAW_VALUE;
+    };
+    wire::put_at(d, k, (n % WORDS) as u16);
+    rewrite::NOT_RAW
 }
 
 // One tag over a run of registers.
@@ -135,11 +136,11 @@ fn one_tag(d: &mut [u8], base: usize, start: u16, quantity: u16, way: Way, word:
         return RAW_PARTIAL;
     }
     let k = base + 2 * (address - from);
-    let Turned::Number(n) = turn(way, kind, number_at(d, k, kind)) else {
-        return RAW_VALUE;
-    };
-    lay_number(d, k, kind, n);
-    rewrite::NOT_RAW
+    match kind {
+        Kind::Width32 => whole_pair(d, k, way),
+        Kind::Width16 => whole_word(d, k, way, Kind::Width16),
+        Kind::Signed16 => whole_word(d, k, way, Kind::Signed16),
+    }
 }
 
 // Every tag over the run of registers from byte base on, those of the addresses from start on.

@@ -3,7 +3,7 @@
 use Prim.Native.Nat.{ℕ, _+_, _*_, _-_, _/_, _%_, _≤_, _<_}
 use mathlib.Core.Path.{_≡_, refl, ap, sym, _∙_}
 use mathlib.Core.Bool.{true, false, cond, _||_}
-use mathlib.Core.Option.{some, none}
+use mathlib.Core.Option.{Option, some, none}
 use mathlib.Core.List.{List, [], _∷_}
 use native.Mathlib.Omega.{arith}
 use lib.ListN.{length, getD}
@@ -23,6 +23,7 @@ use Rattle.rewrite.specs.Registers.{registersAt, laidAt}
 use Rattle.rewrite.specs.Rewriting.{turned, Verdict, isOutside, isPartial, ownIn, verdict, laidBy, rewrittenFrom, isRawPartial, isRawValue, partials, values, Rewritten, outcome, rewriting}
 use Rattle.rewrite.specs.Rewriting.Verdict.{outside, partial, value, done}
 use Rattle.rewrite.specs.Plain.{Whole}
+use Rattle.rewrite.specs.Lent.{wholeLaid}
 use Rattle.rewrite.proofs.RegisterLaws.{length-registers, registers-part, laid-registers, laid-part}
 use Rattle.rewrite.proofs.OrderLaws.{behind-last}
 use Rattle.rewrite.proofs.VerdictLaws.{not-partial, verdict-outside, verdict-partial, value-exactly, done-exactly}
@@ -104,24 +105,24 @@ module _ (way : Way) (base start q : ℕ) {t : Tag} {d : List ℕ} {a z : ℕ} (
     one-room = let b = behind-last t in let f = n .first-is in (omega (arith, whole .0), omega (arith, whole .0, whole .1))
 
     -- the tag's number, at its registers in the buffer
-    module _ (k m : ℕ) (hk : k ≡ base + 2 * (a - start)) (hm : m ≡ numberOf (registersAt k (registers (kindOf t)) d)) where
-      number : numberOf (ownIn start (registersAt base q d) t) ≡ m
+    module _ (k : ℕ) (hk : k ≡ base + 2 * (a - start)) where
+      abbrev own : ℕ
+      own = numberOf (registersAt k (registers (kindOf t)) d)
+
+      number : numberOf (ownIn start (registersAt base q d) t) ≡ own
       number =
           ap numberOf (registers-part base q d (t .address - start) (registers (kindOf t)) (rw (n .first-is) at (one-room .1)))
-          ∙ rw (hm, hk, n .first-is) refl
+          ∙ rw (hk, n .first-is) refl
 
-      -- A tag whose number stays raw changes nothing and is counted for its value.
-      pub one-value : none ≡ turned way (kindOf t) m → outcome 0 1 d ≡ rewriting way base start q (t ∷ []) d
+      one-value : turned way (kindOf t) own ≡ none → outcome 0 1 d ≡ rewriting way base start q (t ∷ []) d
       unfolding laidBy
       one-value e =
           ap (outcome 0 1) same
-          ∙ sym (by-verdict way base start q t d value (value-exactly way start (registersAt base q d) t .1 (whole-run, rw number (sym e))))
+          ∙ sym (by-verdict way base start q t d value (value-exactly way start (registersAt base q d) t .1 (whole-run, rw number e)))
 
-      -- A tag whose number is rewritten has its words in the buffer, and is not counted.
-      pub one-done : (r : ℕ) (d′ : List ℕ) → some r ≡ turned way (kindOf t) m → d′ ≡ laidAt k (wordsOf (kindOf t) r) d
-          → outcome 0 0 d′ ≡ rewriting way base start q (t ∷ []) d
+      one-done : (r : ℕ) → turned way (kindOf t) own ≡ some r → outcome 0 0 (laidAt k (wordsOf (kindOf t) r) d) ≡ rewriting way base start q (t ∷ []) d
       unfolding laidBy
-      one-done r d′ e h =
+      one-done r e =
           let ws = wordsOf (kindOf t) r in
           let rs = registersAt base q d in
           let c = words-count (kindOf t) r in
@@ -130,5 +131,14 @@ module _ (way : Way) (base start q : ℕ) {t : Tag} {d : List ℕ} {a z : ℕ} (
           let i = t .address - start in
           let p : laidAt k ws d ≡ laidAt base (sets rs i ws) d =
           ap (λ (x : List ℕ). laidAt k ws x) same ∙ rw (hk, n .first-is) (laid-part base ws rs d i (omega arith)) in
-          ap (outcome 0 0) (h ∙ p)
-          ∙ sym (by-verdict way base start q t d (done ws) (done-exactly way start rs t ws .1 (whole-run, (r, rw number (sym e), refl))))
+          ap (outcome 0 0) p
+          ∙ sym (by-verdict way base start q t d (done ws) (done-exactly way start rs t ws .1 (whole-run, (r, rw number e, refl))))
+
+      -- A tag that passes both tests has its words in the buffer and is not counted, or changes nothing and is counted for its value.
+      pub one-whole : wholeLaid way (kindOf t) k d ≡ rewriting way base start q (t ∷ []) d
+      unfolding wholeLaid
+      one-whole = go (turned way (kindOf t) own) refl
+        where
+          go : (o : Option ℕ) → turned way (kindOf t) own ≡ o → wholeLaid way (kindOf t) k d ≡ rewriting way base start q (t ∷ []) d
+          go none e = rw (e, wholeLaid) (one-value e)
+          go (some r) e = rw (e, wholeLaid) (one-done r e)

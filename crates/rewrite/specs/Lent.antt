@@ -8,12 +8,18 @@ use mathlib.Core.Option.{Option, some, none}
 use lib.ListN.{length, getD, take}
 use lib.Dec.{leb}
 use Rattle.laws.specs.Numbers.{mostTags, addresses, leastFrame}
+use Rattle.bcd.specs.declared.Kind.{Kind}
+use Rattle.bcd.specs.Bcd.{registers}
+use Rattle.bcd.specs.Words.{wordsOf, numberOf}
 use Rattle.settings.specs.Grammar.{Tag}
 use Rattle.settings.specs.TagWords.{tagOf, lastOf, Ascending}
 use Rattle.pdu.specs.declared.Table.{Table}
 use Rattle.pdu.specs.declared.Table.the-variants.{Bits, Registers}
 use Rattle.pdu.specs.declared.Asked.{Asked}
 use Rattle.pdu.specs.declared.Asked.the-variants.{Read, SingleWrite, MultipleWrite, Other}
+use Rattle.rewrite.specs.Registers.{registersAt, laidAt}
+use Rattle.rewrite.specs.declared.Way.{Way}
+use Rattle.rewrite.specs.Rewriting.{turned, Rewritten, outcome}
 use Rattle.rewrite.specs.Frames.{readBase, singleBase, multipleBase}
 use Rattle.rewrite.specs.declared.Turned.{Turned}
 use Rattle.rewrite.specs.declared.Turned.the-variants.{Number, LeftRaw}
@@ -64,3 +70,8 @@ reaches words start k = leb start (lastOf (tagOf (getD words k 0)))
 abbrev pub numberIn : Turned → Option ℕ
 numberIn (Number n) = some n
 numberIn LeftRaw = none
+
+-- and of a whole tag whose registers stand from byte k on
+unfoldable pub wholeLaid : Way → Kind → ℕ → List ℕ → Rewritten
+wholeLaid way kind k d =
+    elim (turned way kind (numberOf (registersAt k (registers kind) d))) [ none ↦ outcome 0 1 d | some n ↦ outcome 0 0 (laidAt k (wordsOf kind n) d) ]
