@@ -23,6 +23,13 @@ const THREE_NIBBLES: u32 = 4096;
 
 const MINUS: u32 = 15;
 
+// Where the quotients by 10, 100 and 1000 begin in their products.
+const TENS: u32 = 32768;
+
+const HUNDREDS: u32 = TENS * 16;
+
+const THOUSANDS: u32 = HUNDREDS * 16;
+
 // What a tag holds: four digits in one register, or eight in two, or a sign and three digits in one.
 pub enum Kind {
     Width16,
@@ -54,16 +61,16 @@ pub fn registers_of(kind: Kind) -> usize
 }
 
 // Four decimal digits as nibbles: a digit carries at 10 and a nibble at 16, so each carry weighs 6 more.
-// Below 10000 a product and a shift divide by 10, 100 and 1000.
+// Below 10000 a product divides by 10, 100 and 1000; the three quotients stand a nibble apart, so that one shift takes them all.
 fn pack(n: u16) -> u16
     requires { ⌜ n < 10000 ⌝ }
     ensures { λ r. ⌜ r ≡ packed 4 n ⌝ }
 {
     let v = n as u32;
-    let tens = v * 6554 >> 16;
-    let hundreds = v * 5243 >> 19;
-    let thousands = v * 8389 >> 23;
-    (v + 6 * (tens + 16 * (hundreds + 16 * thousands))) as u16
+    let tens = v * 3277;
+    let hundreds = v * 5243 / HUNDREDS * HUNDREDS;
+    let thousands = v * 8389 / THOUSANDS * THOUSANDS;
+    (v + 6 * ((tens + hundreds + thousands) / TENS)) as u16
 }
 
 // Four nibbles as decimal digits: the upper nibble of each byte weighs 10 in place of 16, then the upper byte 100 in place of 256.
