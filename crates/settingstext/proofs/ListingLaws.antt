@@ -15,7 +15,7 @@ use Rattle.laws.specs.Numbers.{mostTags, newestVersion}
 use Rattle.settings.specs.Grammar.{Tag, Value, Read, versionOf, tagFrom, readLines, readTags, readBehind, readText, tagLines}
 use Rattle.settings.specs.Grammar.Read.{got, wrong}
 use Rattle.settings.specs.Values.{settings, padded, settingsOf}
-use Rattle.settingstext.specs.TextRead.{reported}
+use Rattle.settingstext.specs.TextRead.{reported, answered}
 use Rattle.settingstext.specs.Reading.{lowest, placedTag, Headed, wrongLine}
 use Rattle.settingstext.specs.declared.reading.Head.{Head}
 use Rattle.settings.specs.declared.Settings.{Settings}
@@ -129,6 +129,10 @@ module _ (v : ℕ) (listed : (1 ≤ v) × (v ≤ newestVersion)) (text rest : Li
 -- what was found: no wrong line, and the value stands in the settings; or the first wrong line
 abbrev pub Found : List ℕ → ℕ → Settings → Type 0
 Found text w s = (w ≡ 0 → right s ≡ reported (readText text)) × ((w ≡ 0 → ⊥) → readText text ≡ wrong w)
+
+pub found-answered : (text : List ℕ) {w : ℕ} {s : Settings} → Found text w s → answered w s ≡ reported (readText text)
+unfolding answered
+found-answered text {w} f = ⊎-elim (λ (z : w ≡ 0). rw (eq-eqb w 0 z) (f .0 z)) (λ (n : w ≡ 0 → ⊥). rw (ne-eqb w 0 n) (ap reported (sym (f .1 n)))) (eq-or w 0)
 
 found-wrong : (text : List ℕ) (s : Settings) (k w : ℕ) → readText text ≡ wrong k → w ≡ k → Found text w s
 found-wrong text s k w e q = (λ z. let l = wrong-most text k e in absurd (omega (arith, l .0)), λ n. rw q e)

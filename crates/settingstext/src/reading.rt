@@ -8,7 +8,8 @@ ghost use lib.ListN.{length, drop};
 ghost use Rattle.settings.specs.Lines.{behind, numberIn};
 ghost use Rattle.laws.specs.Numbers.{newestVersion};
 ghost use Rattle.settings.specs.Grammar.{versionOf, readLines, readIn, readText};
-ghost use Rattle.settingstext.specs.TextRead.{reported};
+ghost use Rattle.settings.specs.Values.{settings};
+ghost use Rattle.settingstext.specs.TextRead.{reported, answered};
 ghost use Rattle.settings.specs.Grammar.{kept};
 ghost use Rattle.settingstext.specs.Reading.{ceiling, found, capped, placed, within, lineBehind, lowest, placedTag, signRead, stoppedAt, Headed, wrongLine};
 use settings::Settings;
@@ -222,11 +223,41 @@ fn first_wrong(stopped: u32, line: u32, ended: bool) -> u32
     }
 }
 
+// What was read, where no line is wrong, or the wrong line with the usual value.
+fn answer(
+    wrong: u32,
+    mut head: Head,
+    mut addr: [u16; laws::MOST_TAGS],
+    mut width: [u16; laws::MOST_TAGS],
+    mut sign: [u16; laws::MOST_TAGS],
+) -> ReadText
+    ensures { λ r. ⌜ r ≡ answered wrong (settings (head .timeout) (head .join) (head .tags) addr width sign) ⌝ }
+{
+    if wrong != 0 {
+        head = stopped_at(wrong);
+        addr = [0u16; laws::MOST_TAGS];
+        width = [0u16; laws::MOST_TAGS];
+        sign = [0u16; laws::MOST_TAGS];
+    }
+    let settings = Settings {
+        timeout: head.timeout,
+        join: head.join,
+        tags: head.tags,
+        addr,
+        width,
+        sign,
+    };
+    ReadText {
+        line: wrong,
+        settings,
+    }
+}
+
 // The value that a text is, or its first wrong line with the usual value. Each column is there once, is changed in place and leaves by one way, so that it is copied once.
 pub fn read_text(text: &[u8]) -> ReadText
     ensures { λ r. ⌜ r ≡ reported (readText (now (text .entry))) ⌝ }
 {
-    let mut head = read_head(text);
+    let head = read_head(text);
     let count = head.tags as usize;
     let mut addr = [0u16; laws::MOST_TAGS];
     let mut width = [0u16; laws::MOST_TAGS];
@@ -256,22 +287,5 @@ pub fn read_text(text: &[u8]) -> ReadText
         k += 1;
     }
     let wrong = first_wrong(stopped, line, at == text.len());
-    if wrong != 0 {
-        head = stopped_at(wrong);
-        addr = [0u16; laws::MOST_TAGS];
-        width = [0u16; laws::MOST_TAGS];
-        sign = [0u16; laws::MOST_TAGS];
-    }
-    let settings = Settings {
-        timeout: head.timeout,
-        join: head.join,
-        tags: head.tags,
-        addr,
-        width,
-        sign,
-    };
-    ReadText {
-        line: wrong,
-        settings,
-    }
+    answer(wrong, head, addr, width, sign)
 }

@@ -7,10 +7,9 @@ use native.Mathlib.Omega.{arith}
 use lib.ListN.{drop}
 use denote.Ref.{now}
 use Rattle.laws.specs.Numbers.{mostTags, addresses, newestVersion}
-use Rattle.settings.specs.Values.{settings, settingsOf}
-use Rattle.settingstext.specs.TextRead.{reported}
+use Rattle.settings.specs.Values.{settings}
 use Rattle.settingstext.proofs.AnswerLaws.{tagged}
-use Rattle.settingstext.proofs.ListingLaws.{Listed, listed-none, listed-more, line-small, Found, found-all, found-stop}
+use Rattle.settingstext.proofs.ListingLaws.{Listed, listed-none, listed-more, line-small, Found, found-answered, found-all, found-stop}
 use borrow.Author.Needs.{needs}
 use Rattle.settingstext.proofs.reading.read_text.Statement.{statement}
 use Rattle.settingstext.proofs.reading.read_text.Tie as tie
@@ -65,11 +64,7 @@ found c =
     (c .before .loop-test .came)
 
 returns : tie.Need-returns Inv-loop μ-loop
-unfolding reported settingsOf
-returns c = rw (c .stopped-at .ensures, found (c .before .before) .1 (c .before .if1 .taken))
-
-returns-2 : tie.Need-returns-2 Inv-loop μ-loop
-returns-2 c = rw (c .if1 .left) (found (c .before) .0 (c .if1 .left))
+returns c = c .answer .ensures ∙ found-answered _ (found (c .before))
 
 pub read-text-spec : {M : Type 1} → statement M
 read-text-spec =
@@ -77,4 +72,4 @@ read-text-spec =
     (tie.spec Inv-loop μ-loop (λ c κs. search needs) (λ c. search needs) loop-holds tag-at-requires (λ c. search needs) (λ c. search needs)
     (λ c. omega (arith, small c .1)) (λ c. omega (arith, small c .0)) (λ c. small c .0) (λ c. omega (arith, small c .2)) (λ c. omega (arith, small c .0)) (λ c. small c .0)
     (λ c. omega (arith, small c .3)) (λ c. omega (arith, small c .0)) (λ c. small c .0) (λ c. omega (arith, small c .1, small c .2)) (λ c. omega (arith, low-line (c .before))) (λ c. omega (arith, low-line (c .before))) (λ c. search needs) (λ c. search needs) loop-again
-    (λ c κs. search needs) (λ c κs. search needs) returns returns-2)
+    (λ c κs. search needs) (λ c κs. search needs) returns)
