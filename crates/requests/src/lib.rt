@@ -1,37 +1,35 @@
 // The request over a state by value, for programs and tests.
 use state::State;
 use state::calls::Stepped;
+use state::columns::Called;
+use state::columns::Columns;
 ghost use mathlib.Core.List.{[]};
 ghost use Rattle.machine.specs.Calls.Call.{request as asks};
-ghost use Rattle.proxy.specs.State.{lent, Sounds};
-ghost use Rattle.state.specs.States.{Made};
-ghost use Rattle.state.specs.Stepped.{Served, Carried};
+ghost use Rattle.proxy.specs.Calls.{Does};
+ghost use Rattle.proxy.specs.State.{Sounds};
+ghost use Rattle.state.specs.States.{Made, columned};
+ghost use Rattle.state.specs.Stepped.{Served};
 
 // A client's request, over columns by value.
-fn requested(
-    mut ids: [u32; laws::PLACES],
-    mut asked: [u64; laws::PLACES],
-    mut callers: [u8; laws::PLACES],
-    mut deadlines: [u64; laws::PLACES],
-    mut counts: [u8; laws::PLACES],
-    mut clients: [u8; laws::PARTY_PLACES],
-    mut originals: [u16; laws::PARTY_PLACES],
-    mut top: u32,
-    mut cursor: u16,
-    mut attached: u32,
-    mut clock: u64,
-    mut timeout: u32,
-    mut join: u32,
-    mut tagged: u32,
-    mut tags: [u64; laws::MOST_TAGS],
-    client: u32,
-    time: u64,
-    frame: &[u8],
-    out: &mut [u8],
-) -> Stepped
-    requires { ⌜ Sounds (lent ids asked callers deadlines counts clients originals top cursor attached clock timeout join tagged tags) ⌝ }
-    ensures { λ r. ⌜ Carried (lent ids asked callers deadlines counts clients originals top cursor attached clock timeout join tagged tags) (asks client time (now (frame .entry)) (now (out .entry))) r (now (out .exit)) [] ⌝ }
+fn requested(c: Columns, client: u32, time: u64, frame: &[u8], out: &mut [u8]) -> Called
+    requires { ⌜ Sounds (columned c) ⌝ }
+    ensures { λ r. ⌜ Does (columned c) (asks client time (now (frame .entry)) (now (out .entry))) (r .answer) (columned (r .columns)) (now (out .exit)) [] ⌝ }
 {
+    let mut ids = c.ids;
+    let mut asked = c.asked;
+    let mut callers = c.callers;
+    let mut deadlines = c.deadlines;
+    let mut counts = c.counts;
+    let mut clients = c.clients;
+    let mut originals = c.originals;
+    let mut top = c.top;
+    let mut cursor = c.cursor;
+    let mut attached = c.attached;
+    let mut clock = c.clock;
+    let mut timeout = c.timeout;
+    let mut join = c.join;
+    let mut tagged = c.tagged;
+    let mut tags = c.tags;
     let answer = requesting::request(
         &mut ids,
         &mut asked,
@@ -53,7 +51,7 @@ fn requested(
         frame,
         out,
     );
-    let state = state::gather(
+    let columns = Columns {
         ids,
         asked,
         callers,
@@ -69,8 +67,8 @@ fn requested(
         join,
         tagged,
         tags,
-    );
-    Stepped { state, answer }
+    };
+    Called { columns, answer }
 }
 
 // A client's request.
@@ -78,35 +76,8 @@ pub fn request(s: State, client: u32, time: u64, frame: &[u8], out: &mut [u8]) -
     requires { ⌜ Made s ⌝ }
     ensures { λ r. ⌜ Served s (asks client time (now (frame .entry)) (now (out .entry))) r (now (out .exit)) [] ⌝ }
 {
-    let entries = s.entries;
-    let c = state::calls::columns_of(entries);
-    let ids = c.ids;
-    let asked = c.asked;
-    let callers = c.callers;
-    let deadlines = c.deadlines;
-    let counts = c.counts;
-    let clients = s.clients;
-    let originals = s.originals;
-    let tags = s.tags;
-    requested(
-        ids,
-        asked,
-        callers,
-        deadlines,
-        counts,
-        clients,
-        originals,
-        s.top,
-        s.cursor.0,
-        s.attached,
-        s.clock,
-        s.timeout,
-        s.join,
-        s.tagged,
-        tags,
-        client,
-        time,
-        frame,
-        out,
-    )
+    let after = requested(state::spread(s), client, time, frame, out);
+    let state = state::gather(after.columns);
+    let answer = after.answer;
+    Stepped { state, answer }
 }

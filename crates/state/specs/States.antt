@@ -8,6 +8,7 @@ use Rattle.laws.specs.Lists.{tab}
 use Rattle.proxy.specs.State.{State as Columned, lent, Sounds}
 use Rattle.state.specs.declared.Place.{Place}
 use Rattle.state.specs.declared.State.{State}
+use Rattle.state.specs.declared.columns.Columns.{Columns}
 use Rattle.state.specs.Places.{placeOf, numberOf, wordIn, callerOf, deadlineOf, countOf}
 
 -- the columns and numbers that a state by value is
@@ -20,23 +21,29 @@ stateOf s =
 abbrev pub Made : State → Type 0
 Made s = Sounds (stateOf s)
 
+-- the state that columns and numbers by value are
+abbrev pub columned : Columns → Columned
+columned c =
+    lent (c .ids) (c .asked) (c .callers) (c .deadlines) (c .counts) (c .clients) (c .originals) (c .top) (c .cursor) (c .attached) (c .clock) (c .timeout) (c .join)
+    (c .tagged) (c .tags)
+
 -- the place k of the columns
-abbrev pub rowAt : (ids asked callers deadlines counts : List ℕ) → ℕ → Place
-rowAt is ws cs ds ns k = placeOf (getD is k 0) (getD ws k 0) (getD cs k 0) (getD ds k 0) (getD ns k 0)
+abbrev pub rowAt : Columns → ℕ → Place
+rowAt c k = placeOf (getD (c .ids) k 0) (getD (c .asked) k 0) (getD (c .callers) k 0) (getD (c .deadlines) k 0) (getD (c .counts) k 0)
 
 -- the state by value that columns and numbers are
-abbrev pub gathered : (ids asked callers deadlines counts clients originals : List ℕ) (top cursor attached clock timeout join tagged : ℕ) (tags : List ℕ) → State
-gathered is ws bs ds ns cs os top cursor attached clock timeout join tagged tags =
+abbrev pub gathered : Columns → State
+gathered c =
     record {
-      entries = tab places (rowAt is ws bs ds ns);
-      clients = cs;
-      originals = os;
-      top = top;
-      cursor = record { 0 = cursor };
-      attached = attached;
-      clock = clock;
-      timeout = timeout;
-      join = join;
-      tagged = tagged;
-      tags = tags;
+      entries = tab places (rowAt c);
+      clients = c .clients;
+      originals = c .originals;
+      top = c .top;
+      cursor = record { 0 = c .cursor };
+      attached = c .attached;
+      clock = c .clock;
+      timeout = c .timeout;
+      join = c .join;
+      tagged = c .tagged;
+      tags = c .tags;
     }

@@ -2,33 +2,21 @@
 -- Assumes nothing.
 use Prim.Native.Nat.{ℕ}
 use mathlib.Core.Path.{_≡_}
-use mathlib.Core.List.{List, map}
+use mathlib.Core.List.{List}
 use Rattle.settings.specs.declared.Settings.{Settings}
 use Rattle.settings.specs.Values.{valueOf}
 use Rattle.machine.specs.Machine.{made}
 use Rattle.machine.specs.Calls.{Call, done}
 use Rattle.machine.specs.Outcomes.{outcome}
-use Rattle.proxy.specs.State.{State as Columned, machineOf}
+use Rattle.proxy.specs.State.{machineOf}
 use Rattle.proxy.specs.Gates.{adopted, makingAnswer}
-use Rattle.state.specs.declared.Place.{Place}
 use Rattle.state.specs.declared.State.{State}
-use Rattle.state.specs.Places.{numberOf, wordIn, callerOf, deadlineOf, countOf}
 use Rattle.state.specs.States.{stateOf, Made}
-use Rattle.state.specs.declared.calls.Columns.{Columns}
 use Rattle.state.specs.declared.calls.Stepped.{Stepped}
 
--- these are the columns of the entries
-abbrev pub AreOf : List Place → Columns → Type 0
-AreOf es c =
-    (c .ids ≡ map numberOf es) × (c .asked ≡ map wordIn es) × (c .callers ≡ map callerOf es) × (c .deadlines ≡ map deadlineOf es) × (c .counts ≡ map countOf es)
-
--- from the columns c a call comes to this answer, this state and these buffers, as document 01 says, and these calls made the state
-abbrev pub Carried : Columned → Call → Stepped → (written listed : List ℕ) → Type 0
-Carried c x r w l = (done (r .answer) (machineOf (stateOf (r .state))) w l ≡ outcome (machineOf c) x) × Made (r .state)
-
--- the same from the state s by value
+-- from the state s by value a call comes to this answer, this state and these buffers, as document 01 says, and these calls made the state
 abbrev pub Served : State → Call → Stepped → (written listed : List ℕ) → Type 0
-Served s = Carried (stateOf s)
+Served s x r w l = (done (r .answer) (machineOf (stateOf (r .state))) w l ≡ outcome (machineOf (stateOf s)) x) × Made (r .state)
 
 -- a fresh state: the machine that document 01 makes from the value, or from the usual one beside refusal 10
 abbrev pub Freshly : Settings → Stepped → Type 0

@@ -1,12 +1,14 @@
 // The calls over a state by value, for programs and tests: each spreads the state into columns, calls the core that the device's entry points call, and gathers it. Here those without a time.
-use crate::Place;
 use crate::State;
+use crate::columns::Called;
+use crate::columns::Columns;
 use machine::Answer;
 use settings::Settings;
 ghost use mathlib.Core.List.{[]};
 ghost use Rattle.machine.specs.Calls.Call.{attach as attaches, detach as detaches, linkLost};
-ghost use Rattle.state.specs.States.{Made};
-ghost use Rattle.state.specs.Stepped.{Served, Freshly, AreOf};
+ghost use Rattle.proxy.specs.Calls.{Freshened};
+ghost use Rattle.state.specs.States.{Made, columned};
+ghost use Rattle.state.specs.Stepped.{Served, Freshly};
 
 // What a call gives: the state afterwards and the answer.
 pub struct Stepped {
@@ -14,62 +16,25 @@ pub struct Stepped {
     pub answer: Answer,
 }
 
-// The columns of a state's entries.
-pub struct Columns {
-    pub ids: [u32; laws::PLACES],
-    pub asked: [u64; laws::PLACES],
-    pub callers: [u8; laws::PLACES],
-    pub deadlines: [u64; laws::PLACES],
-    pub counts: [u8; laws::PLACES],
-}
-
-// The columns that entries are spread into.
-pub fn columns_of(entries: [Place; laws::PLACES]) -> Columns
-    ensures { λ r. ⌜ AreOf entries r ⌝ }
+// The columns that the core makes fresh, and its answer.
+fn freshened(from: Settings) -> Called
+    ensures { λ r. ⌜ Freshened from (r .answer) (columned (r .columns)) ⌝ }
 {
     let mut ids = [0u32; laws::PLACES];
     let mut asked = [0u64; laws::PLACES];
     let mut callers = [0u8; laws::PLACES];
     let mut deadlines = [0u64; laws::PLACES];
     let mut counts = [0u8; laws::PLACES];
-    crate::spread(
-        entries,
-        &mut ids,
-        &mut asked,
-        &mut callers,
-        &mut deadlines,
-        &mut counts,
-    );
-    Columns {
-        ids,
-        asked,
-        callers,
-        deadlines,
-        counts,
-    }
-}
-
-// A fresh state over columns by value, whatever they hold.
-fn freshened(
-    mut ids: [u32; laws::PLACES],
-    mut asked: [u64; laws::PLACES],
-    mut callers: [u8; laws::PLACES],
-    mut deadlines: [u64; laws::PLACES],
-    mut counts: [u8; laws::PLACES],
-    mut clients: [u8; laws::PARTY_PLACES],
-    mut originals: [u16; laws::PARTY_PLACES],
-    mut top: u32,
-    mut cursor: u16,
-    mut attached: u32,
-    mut clock: u64,
-    mut timeout: u32,
-    mut join: u32,
-    mut tagged: u32,
-    mut tags: [u64; laws::MOST_TAGS],
-    from: Settings,
-) -> Stepped
-    ensures { λ r. ⌜ Freshly from r ⌝ }
-{
+    let mut clients = [0u8; laws::PARTY_PLACES];
+    let mut originals = [0u16; laws::PARTY_PLACES];
+    let mut top = 0u32;
+    let mut cursor = 0u16;
+    let mut attached = 0u32;
+    let mut clock = 0u64;
+    let mut timeout = 0u32;
+    let mut join = 0u32;
+    let mut tagged = 0u32;
+    let mut tags = [0u64; laws::MOST_TAGS];
     let answer = proxy::making::fresh(
         &mut ids,
         &mut asked,
@@ -93,7 +58,7 @@ fn freshened(
         &from.width,
         &from.sign,
     );
-    let state = crate::gather(
+    let columns = Columns {
         ids,
         asked,
         callers,
@@ -109,32 +74,18 @@ fn freshened(
         join,
         tagged,
         tags,
-    );
-    Stepped { state, answer }
+    };
+    Called { columns, answer }
 }
 
 // A fresh state from a settings value. An invalid value is refusal 10, and the state then has the usual one.
 pub fn fresh(from: Settings) -> Stepped
     ensures { λ r. ⌜ Freshly from r ⌝ }
 {
-    freshened(
-        [0; laws::PLACES],
-        [0; laws::PLACES],
-        [0; laws::PLACES],
-        [0; laws::PLACES],
-        [0; laws::PLACES],
-        [0; laws::PARTY_PLACES],
-        [0; laws::PARTY_PLACES],
-        0,
-        0,
-        0,
-        0,
-        0,
-        0,
-        0,
-        [0; laws::MOST_TAGS],
-        from,
-    )
+    let made = freshened(from);
+    let state = crate::gather(made.columns);
+    let answer = made.answer;
+    Stepped { state, answer }
 }
 
 // Attaches a client.
@@ -154,18 +105,12 @@ pub fn detach(s: State, client: u32) -> Stepped
     requires { ⌜ Made s ⌝ }
     ensures { λ r. ⌜ Served s (detaches client) r [] [] ⌝ }
 {
-    let entries = s.entries;
-    let c = columns_of(entries);
-    let ids = c.ids;
-    let asked = c.asked;
-    let callers = c.callers;
-    let deadlines = c.deadlines;
+    let c = crate::spread(s);
     let mut counts = c.counts;
-    let mut clients = s.clients;
-    let mut originals = s.originals;
-    let tags = s.tags;
-    let mut top = s.top;
-    let mut attached = s.attached;
+    let mut clients = c.clients;
+    let mut originals = c.originals;
+    let mut top = c.top;
+    let mut attached = c.attached;
     let answer = proxy::attaching::detach(
         &mut counts,
         &mut clients,
@@ -174,23 +119,13 @@ pub fn detach(s: State, client: u32) -> Stepped
         &mut attached,
         client,
     );
-    let state = crate::gather(
-        ids,
-        asked,
-        callers,
-        deadlines,
-        counts,
-        clients,
-        originals,
-        top,
-        s.cursor.0,
-        attached,
-        s.clock,
-        s.timeout,
-        s.join,
-        s.tagged,
-        tags,
-    );
+    let mut after = c;
+    after.counts = counts;
+    after.clients = clients;
+    after.originals = originals;
+    after.top = top;
+    after.attached = attached;
+    let state = crate::gather(after);
     Stepped { state, answer }
 }
 
@@ -199,35 +134,15 @@ pub fn link_lost(s: State) -> Stepped
     requires { ⌜ Made s ⌝ }
     ensures { λ r. ⌜ Served s linkLost r [] [] ⌝ }
 {
-    let entries = s.entries;
-    let c = columns_of(entries);
+    let c = crate::spread(s);
     let mut ids = c.ids;
-    let asked = c.asked;
-    let callers = c.callers;
-    let deadlines = c.deadlines;
-    let counts = c.counts;
-    let clients = s.clients;
-    let originals = s.originals;
-    let tags = s.tags;
-    let mut top = s.top;
-    let mut attached = s.attached;
+    let mut top = c.top;
+    let mut attached = c.attached;
     let answer = proxy::attaching::link_lost(&mut ids, &mut top, &mut attached);
-    let state = crate::gather(
-        ids,
-        asked,
-        callers,
-        deadlines,
-        counts,
-        clients,
-        originals,
-        top,
-        s.cursor.0,
-        attached,
-        s.clock,
-        s.timeout,
-        s.join,
-        s.tagged,
-        tags,
-    );
+    let mut after = c;
+    after.ids = ids;
+    after.top = top;
+    after.attached = attached;
+    let state = crate::gather(after);
     Stepped { state, answer }
 }

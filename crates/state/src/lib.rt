@@ -1,14 +1,15 @@
 // The state by value: a struct a live entry, the flat party arrays, cursor, clock, attached set and settings; spread into columns and gathered again.
 pub mod calls;
+pub mod columns;
 
+use columns::Columns;
 use pdu::Entry;
 use pdu::ProxyId;
 ghost use mathlib.Core.Path.{_≡_};
-ghost use mathlib.Core.List.{map};
 ghost use lib.ListN.{length};
 ghost use Rattle.laws.specs.Numbers.{places};
-ghost use Rattle.state.specs.Places.{placeOf, numberOf, wordIn, callerOf, deadlineOf, countOf, idIn};
-ghost use Rattle.state.specs.States.{gathered};
+ghost use Rattle.state.specs.Places.{placeOf, numberOf, wordIn, idIn};
+ghost use Rattle.state.specs.States.{columned, gathered, stateOf};
 
 // A place of the table: whether it is live, its entry, whether that is closed, the client that it was issued for, how many parties wait.
 pub struct Place {
@@ -77,19 +78,22 @@ fn place_of(number: u32, word: u64, caller: u8, deadline: u64, count: u8) -> Pla
     }
 }
 
-// The columns of the entries.
-pub fn spread(
-    entries: [Place; laws::PLACES],
-    ids: &mut [u32; laws::PLACES],
-    asked: &mut [u64; laws::PLACES],
-    callers: &mut [u8; laws::PLACES],
-    deadlines: &mut [u64; laws::PLACES],
-    counts: &mut [u8; laws::PLACES],
-)
-    requires { ⌜ (length (now ids) ≡ places) × (length (now asked) ≡ places) × (length (now callers) ≡ places) × (length (now deadlines) ≡ places) × (length (now counts) ≡ places) ⌝ }
-    ensures { λ r. ⌜ (now (ids .exit) ≡ map numberOf entries) × (now (asked .exit) ≡ map wordIn entries) × (now (callers .exit) ≡ map callerOf entries)
-        × (now (deadlines .exit) ≡ map deadlineOf entries) × (now (counts .exit) ≡ map countOf entries) ⌝ }
+// What entries by value tell, and a field by itself does not: how many they are.
+fn told(entries: [Place; laws::PLACES])
+    ensures { λ r. ⌜ length entries ≡ places ⌝ }
+{}
+
+// The columns of a state: those of the entries one place after the other, the rest as it is.
+pub fn spread(s: State) -> Columns
+    ensures { λ r. ⌜ columned r ≡ stateOf s ⌝ }
 {
+    let entries = s.entries;
+    told(entries);
+    let mut ids = [0u32; laws::PLACES];
+    let mut asked = [0u64; laws::PLACES];
+    let mut callers = [0u8; laws::PLACES];
+    let mut deadlines = [0u64; laws::PLACES];
+    let mut counts = [0u8; laws::PLACES];
     let mut k: usize = 0;
     while k < laws::PLACES {
         let p = entries[k];
@@ -100,45 +104,58 @@ pub fn spread(
         counts[k] = p.count;
         k += 1;
     }
+    let clients = s.clients;
+    let originals = s.originals;
+    let tags = s.tags;
+    Columns {
+        ids,
+        asked,
+        callers,
+        deadlines,
+        counts,
+        clients,
+        originals,
+        top: s.top,
+        cursor: s.cursor.0,
+        attached: s.attached,
+        clock: s.clock,
+        timeout: s.timeout,
+        join: s.join,
+        tagged: s.tagged,
+        tags,
+    }
 }
 
 // The state that columns and numbers are.
-pub fn gather(
-    ids: [u32; laws::PLACES],
-    asked: [u64; laws::PLACES],
-    callers: [u8; laws::PLACES],
-    deadlines: [u64; laws::PLACES],
-    counts: [u8; laws::PLACES],
-    clients: [u8; laws::PARTY_PLACES],
-    originals: [u16; laws::PARTY_PLACES],
-    top: u32,
-    cursor: u16,
-    attached: u32,
-    clock: u64,
-    timeout: u32,
-    join: u32,
-    tagged: u32,
-    tags: [u64; laws::MOST_TAGS],
-) -> State
-    ensures { λ r. ⌜ r ≡ gathered ids asked callers deadlines counts clients originals top cursor attached clock timeout join tagged tags ⌝ }
+pub fn gather(c: Columns) -> State
+    ensures { λ r. ⌜ r ≡ gathered c ⌝ }
 {
     let mut entries = [place_of(0, 0, 0, 0, 0); laws::PLACES];
     let mut k: usize = 0;
     while k < laws::PLACES {
-        entries[k] = place_of(ids[k], asked[k], callers[k], deadlines[k], counts[k]);
+        entries[k] = place_of(
+            c.ids[k],
+            c.asked[k],
+            c.callers[k],
+            c.deadlines[k],
+            c.counts[k],
+        );
         k += 1;
     }
+    let clients = c.clients;
+    let originals = c.originals;
+    let tags = c.tags;
     State {
         entries,
         clients,
         originals,
-        top,
-        cursor: ProxyId(cursor),
-        attached,
-        clock,
-        timeout,
-        join,
-        tagged,
+        top: c.top,
+        cursor: ProxyId(c.cursor),
+        attached: c.attached,
+        clock: c.clock,
+        timeout: c.timeout,
+        join: c.join,
+        tagged: c.tagged,
         tags,
     }
 }

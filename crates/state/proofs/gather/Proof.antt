@@ -13,26 +13,25 @@ use Rattle.state.proofs.gather.Statement.{statement}
 use Rattle.state.proofs.gather.Tie as tie
 
 abbrev Inv-loop : tie.InvT-loop
-Inv-loop clients originals top cursor attached clock timeout join tagged tags ids asked callers deadlines counts entries₀ k₀ entries k =
-    (k ≤ places) × Filled places (placeOf 0 0 0 0 0) (tab places (rowAt ids asked callers deadlines counts)) entries k
+Inv-loop c entries₀ k₀ entries k = (k ≤ places) × Filled places (placeOf 0 0 0 0 0) (tab places (rowAt c)) entries k
 
 abbrev μ-loop : tie.MeasureT-loop
-μ-loop clients originals top cursor attached clock timeout join tagged tags ids asked callers deadlines counts entries₀ k₀ entries k = places - k
+μ-loop c entries₀ k₀ entries k = places - k
 
 loop-holds : tie.Need-loop-holds Inv-loop μ-loop
 loop-holds c = (search needs, filled-none places (placeOf 0 0 0 0 0) _ _ refl)
 
 loop-again : tie.Need-loop-again Inv-loop μ-loop
 loop-again c =
-    let l = c .before .before .loop in
-    let a = c .before .before .before .before .args in
+    let at = c .before .before .before .before .before .before .before in
+    let l = at .loop in
     let inside : (l .k) < places = search needs in
-    let e = getD-tab places (rowAt (a .t1) (a .t2) (a .t3) (a .t4) (a .t5)) (l .k) (placeOf 0 0 0 0 0) inside in
+    let e = getD-tab places (rowAt (at .before .before .args .t1)) (l .k) (placeOf 0 0 0 0 0) inside in
     (search needs, filled-more places (placeOf 0 0 0 0 0) _ (l .entries) (l .k) _ inside (l .inv .1) (rw e (c .place-of2 .ensures)))
 
 returns : tie.Need-returns Inv-loop μ-loop
 returns c =
-    let l = c .before .loop in
+    let l = c .before .before .before .before .loop in
     rw (filled-all places (placeOf 0 0 0 0 0) _ (l .entries) (l .k) (search needs) (length-tab places _) (l .inv .1))
 
 pub gather-spec : {M : Type 1} → statement M

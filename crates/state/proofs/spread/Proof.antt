@@ -1,61 +1,72 @@
--- `state::spread` meets its contract: the loop fills each column place by place with what the entries say.
+-- `state::spread` meets its contract: the loop fills each column place by place with what the entries say, and the rest is as it is.
 -- Assumes nothing.
-use Prim.Native.Nat.{_≤_, _-_}
-use mathlib.Core.Path.{sym, _∙_}
-use mathlib.Core.List.{map}
-use lib.ListN.{length-map}
+use Prim.Native.Nat.{ℕ, _+_, _≤_, _<_, _-_}
+use mathlib.Core.Path.{_≡_, refl, sym, _∙_}
+use mathlib.Core.List.{List, map}
+use native.Mathlib.Omega.{arith}
+use lib.ListN.{length, getD, set, length-map}
 use Rattle.laws.specs.Numbers.{places}
 use Rattle.laws.proofs.ListLaws.{getD-map}
-use Rattle.state.specs.Places.{numberOf, wordIn, callerOf, deadlineOf, countOf}
 use Rattle.laws.proofs.FillLaws.{Filled, filled-none, filled-more, filled-all}
+use Rattle.state.specs.Places.{numberOf, wordIn, callerOf, deadlineOf, countOf}
+use Rattle.state.specs.declared.Place.{Place}
 use borrow.Author.Needs.{needs}
 use Rattle.state.proofs.spread.Statement.{statement}
 use Rattle.state.proofs.spread.Tie as tie
 
+-- a column of which the first k places are the numbers f of the entries
+abbrev Column : List Place → (Place → ℕ) → List ℕ → ℕ → Type 0
+Column es f = Filled places 0 (map f es)
+
+module _ (es : List Place) (long : length es ≡ places) (f : Place → ℕ) {l : List ℕ} {k : ℕ} where
+  -- a turn of the loop
+  more : {v : ℕ} (d : Place) → k < places → Column es f l k → v ≡ f (getD es k d) → Column es f (set l k v) (k + 1)
+  more {v} d inside filled e = filled-more places 0 _ l k v inside filled (e ∙ sym (getD-map f es k d 0 (omega arith)))
+
+  -- behind the loop
+  all : places ≤ k → Column es f l k → l ≡ map f es
+  all through = filled-all places 0 _ l k through (length-map es f ∙ long)
+
 abbrev Inv-loop : tie.InvT-loop
-Inv-loop ids₀ asked₀ notes₀ deadlines₀ counts₀ entries k₀ ids asked callers deadlines counts k =
-    (k ≤ places)
-    × Filled places 0 (map numberOf entries) ids k
-    × Filled places 0 (map wordIn entries) asked k
-    × Filled places 0 (map callerOf entries) callers k
-    × Filled places 0 (map deadlineOf entries) deadlines k
-    × Filled places 0 (map countOf entries) counts k
+Inv-loop s entries ids₀ asked₀ callers₀ deadlines₀ counts₀ k₀ ids asked callers deadlines counts k =
+    let Is = Column (s .entries) in
+    (k ≤ places) × Is numberOf ids k × Is wordIn asked k × Is callerOf callers k × Is deadlineOf deadlines k × Is countOf counts k
 
 abbrev μ-loop : tie.MeasureT-loop
-μ-loop ids₀ asked₀ notes₀ deadlines₀ counts₀ entries k₀ ids asked callers deadlines counts k = places - k
+μ-loop s entries ids₀ asked₀ callers₀ deadlines₀ counts₀ k₀ ids asked callers deadlines counts k = places - k
 
 loop-holds : tie.Need-loop-holds Inv-loop μ-loop
 loop-holds c =
-    let p = c .pre in
-    (search needs, filled-none places 0 _ _ (p .0), filled-none places 0 _ _ (p .1), filled-none places 0 _ _ (p .2), filled-none places 0 _ _ (p .3), filled-none places 0 _ _ (p .4))
+    let none = filled-none {A = ℕ} places 0 in
+    (search needs, none _ _ refl, none _ _ refl, none _ _ refl, none _ _ refl, none _ _ refl)
 
 loop-again : tie.Need-loop-again Inv-loop μ-loop
 loop-again c =
-    let l = c .before .before .before .before .loop in
-    let k = l .k in
-    let es = c .before .before .before .before .before .args .t1 in (
+    let at = c .before .before .before .before in
+    let filled = at .loop .inv in
+    let es = at .before .before .before .args .s .entries in
+    let long = at .before .told .ensures in
+    let inside : at .loop .k < places = search needs in (
       search needs,
-      filled-more places 0 _ (l .ids) k _ (search needs) (l .inv .1) (c .before .number-of .ensures ∙ sym (getD-map numberOf es k _ 0 (search needs))),
-      filled-more places 0 _ (l .asked) k _ (search needs) (l .inv .2) (c .word-in .ensures ∙ sym (getD-map wordIn es k _ 0 (search needs))),
-      filled-more places 0 _ (l .callers) k _ (search needs) (l .inv .3) (sym (getD-map callerOf es k _ 0 (search needs))),
-      filled-more places 0 _ (l .deadlines) k _ (search needs) (l .inv .4) (sym (getD-map deadlineOf es k _ 0 (search needs))),
-      filled-more places 0 _ (l .counts) k _ (search needs) (l .inv .5) (sym (getD-map countOf es k _ 0 (search needs))),
+      more es long numberOf _ inside (filled .1) (c .before .number-of .ensures),
+      more es long wordIn _ inside (filled .2) (c .word-in .ensures),
+      more es long callerOf _ inside (filled .3) refl,
+      more es long deadlineOf _ inside (filled .4) refl,
+      more es long countOf _ inside (filled .5) refl,
     )
 
 returns : tie.Need-returns Inv-loop μ-loop
 returns c =
-    let l = c .before .loop in
-    let es = c .before .before .args .t1 in (
-      filled-all places 0 _ _ (l .k) (search needs) (length-map es numberOf ∙ search needs) (l .inv .1),
-      filled-all places 0 _ _ (l .k) (search needs) (length-map es wordIn ∙ search needs) (l .inv .2),
-      filled-all places 0 _ _ (l .k) (search needs) (length-map es callerOf ∙ search needs) (l .inv .3),
-      filled-all places 0 _ _ (l .k) (search needs) (length-map es deadlineOf ∙ search needs) (l .inv .4),
-      filled-all places 0 _ _ (l .k) (search needs) (length-map es countOf ∙ search needs) (l .inv .5),
-    )
+    let at = c .before .before .before .before in
+    let filled = at .loop .inv in
+    let es = at .before .before .before .args .s .entries in
+    let long = at .before .told .ensures in
+    let through : places ≤ at .loop .k = search needs in
+    rw (all es long numberOf through (filled .1), all es long wordIn through (filled .2), all es long callerOf through (filled .3), all es long deadlineOf through (filled .4), all es long countOf through (filled .5))
 
 pub spread-spec : {M : Type 1} → statement M
 spread-spec =
     tie.close
-    (tie.spec Inv-loop μ-loop loop-holds (λ c. search needs) (λ c. search needs) (λ c κs. search needs) (λ c. search needs) (λ c. search needs)
+    (tie.spec Inv-loop μ-loop (λ c κs. search needs) loop-holds (λ c. search needs) (λ c. search needs) (λ c κs. search needs) (λ c. search needs) (λ c. search needs)
     (λ c κs. search needs) (λ c. search needs) (λ c. search needs) (λ c. search needs) (λ c. search needs) (λ c. search needs)
     (λ c. search needs) (λ c. search needs) (λ c. search needs) loop-again returns)

@@ -1,11 +1,12 @@
--- `state::calls::fresh` meets its contract: it hands on what is made over columns of zeros.
+-- `state::calls::fresh` meets its contract: it gathers the columns that the core made fresh.
 -- Assumes nothing.
+use Rattle.state.proofs.CallLaws.{freshly}
 use borrow.Author.Needs.{needs}
 use Rattle.state.proofs.calls.fresh.Statement.{statement}
 use Rattle.state.proofs.calls.fresh.Tie as tie
 
 returns : tie.Need-returns
-returns c = c .freshened .ensures
+returns c = freshly _ _ (c .gather .ensures) _ _ (c .before .freshened .ensures)
 
 pub fresh-spec : {M : Type 1} → statement M
-fresh-spec = tie.close (tie.spec (λ c κs. search needs) returns)
+fresh-spec = tie.close (tie.spec (λ c κs. search needs) (λ c κs. search needs) returns)
