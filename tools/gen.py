@@ -3,7 +3,7 @@
 #   struct CRATE/Device MAKER                      the struct of numbers and arrays of numbers in the crate beside this one, and the function of its fields that makes it
 #   shared CRATE/Name MAKER WALKS                  the same of a struct that is lent by `&`, and the crate that has the walks over it
 #   use MODULE.{NAMES}                             what the relations below cite
-#   field NAME TYPE                                its fields in order; TYPE: u16, or u32x64 for [u32; 64]
+#   field NAME TYPE                                its fields in order; TYPE: u16, or u32x64 for [u32; 64], or u32xPLACES for [u32; laws::PLACES]
 #   shape NAME lend A,B,.. | p:u64 f:&u8 o:&mutu8 -> RESULT [requires]      a shape: the fields lent in their order, the other parameters in their order, the result
 #         RESULT, or a parameter by value, is u32 .., or a struct CRATE/Name; the first parameter may be s:&CRATE/Name, a `shared` struct
 #         without `lend A,B,..`, as every shape of a `shared` struct is: no struct is lent by `&mut`
@@ -11,8 +11,9 @@
 #   before RELATION                                what every entry point with `requires` needs of the struct
 #   entry FN SHAPE CORE RELATION                   FN's body is the one call CORE(&mut st.A, &mut st.B, .., p, f, o), with all of &s.A, &s.B, .. in a shared struct's place; RELATION: λ h p.. r h′ slices′. what FN ensures
 #         CORE is a path in the crate, or CRATE/PATH
-#   core FN PRE LAW                                what FN's core requires, λ lent p.. ; and the law to it from `before`, h p.. before
-# The core ensures the same RELATION, at the struct made of its lent fields and any others with which `before` holds.
+#   core FN PRE | LAW                              what FN's core requires, λ lent p.. ; and the law to it from `before`, h p.. before
+#   told FN RELATION | LAW                         what FN's core ensures, λ lent p.. r lent′ slices′. where it is lent less than all; and the law from it to FN's RELATION, h p.. r lent′ slices′ before told
+# A core that is lent all ensures the same RELATION, at the struct made of its lent fields.
 # It writes proofs/Fields.antt (of a shared struct proofs/NameFields.antt) and proofs/SHAPE.antt of the struct's crate, over the hand-written proofs/Lend.antt and proofs/Share.antt of the crate lending, and proofs/FN/Proof.antt of CRATE_DIR. Add the first to proofs/Lib.antt; then rt fmt.
 import sys, os, re, glob, subprocess
 d = sys.argv[1].rstrip('/')
@@ -24,12 +25,15 @@ PR = f'{d}/proofs'
 W = {'u8': 'w8', 'u16': 'w16', 'u32': 'w32', 'u64': 'w64', 'usize': 'w64'}
 BITS = {'u8': 8, 'u16': 16, 'u32': 32, 'u64': 64, 'usize': 64}
 P, S = f'Rattle.{crate}.proofs', f'Rattle.{crate}.specs'
-fields, shapes, entries, ST, MAKE, USES, BEFORE, CORES = [], {}, [], 'State', '', [], '', {}
+fields, shapes, entries, ST, MAKE, USES, BEFORE, CORES, TOLD = [], {}, [], 'State', '', [], '', {}, {}
 def lines(file):
     for ln in open(file):
         if text := ln.split('#')[0].strip(): yield text, text.split()
+# a size is a number or a constant of the crate laws
+CONSTANTS = dict(re.findall(r'^pub const (\w+): usize = (.*);', open(f'{os.path.dirname(d)}/laws/src/lib.rt').read(), re.M))
+def size(k): return int(k) if k.isdigit() else eval(re.sub('[A-Z_]+', lambda m: str(size(m.group())), CONSTANTS[k]))
 def field(ln):
-    e, _, k = ln[2].partition('x'); return ln[1], e, int(k) if k else None
+    e, _, k = ln[2].partition('x'); return ln[1], e, size(k) if k else None
 # the structs that are lent by `&`, of all files: the maker, the crate of the walks, the fields
 SHARED = {}
 for f in sorted(glob.glob(f'{d}/*entries.txt')):
@@ -44,6 +48,7 @@ for text, ln in lines(sys.argv[2]):
     elif ln[0] == 'use': USES.append(text)
     elif ln[0] == 'before': BEFORE = text.split(None, 1)[1]
     elif ln[0] == 'core': CORES[ln[1]] = text.split(None, 2)[2].rsplit('|', 1)
+    elif ln[0] == 'told': TOLD[ln[1]] = text.split(None, 2)[2].rsplit('|', 1)
     elif ln[0] == 'field': fields.append(field(ln))
     elif ln[0] == 'shape':
         bar = ln.index('|'); arrow = ln.index('->')
@@ -662,14 +667,14 @@ def entry(fn, sh, core, rel):
     sn = [f's{j}' for j in range(len(sf))]
     cn = sn + pn[1:] if sf else pn          # the core's parameters behind the lent fields, and the entry point's made of them
     en = ['(' + ' '.join([SHARED[ps[0][2]][0]] + sn) + ')'] + pn[1:] if sf else pn
-    rest = [x for x in names if x not in lent] if lent else []
-    # the struct of the lent fields, at entry (a) or at exit (w), and of any others (o)
-    made = lambda y: f'({MAKE} ' + ' '.join(f'{y}{lent.index(x)}' if x in lent else f'o{rest.index(x)}' for x in names) + ')'
-    others = ''.join(f'(o{i} : {den(k)}) ' for i, (x, _, k) in enumerate(f for f in fields if f[0] in rest))
+    # the struct of the lent fields, at entry (a) or at exit (w): a core that is lent less tells its own relation
+    made = lambda y: f'({MAKE} ' + ' '.join(f'{y}{i}' for i in range(len(names))) + ')'
     a, w = [f'a{i}' for i in range(len(lent))], [f'w{i}' for i in range(len(lent))]
-    before = f'Before {made("a")} → ' if req and rest else ''
-    rc = f'λ {" ".join(a + cn + ["r"] + w + muts)}. ' + (f'{others}→ ' if rest else '') + before + ' '.join(['R'] + ([made('a')] if lent else []) + en + ['r'] + ([made('w')] if lent else []) + muts)
-    imp = 'λ ' + ' '.join((['h'] if lent else []) + pn + ['r'] + w + muts + (['ok'] if req else []) + ['e']) + '. ' + ' '.join(['e'] + [f'(h .{qn(x)})' for x in rest] + (['ok'] if before else []))
+    if fn in TOLD: rc, imp = (x.strip() for x in TOLD[fn])
+    else:
+        assert lent in ([], names), f'told {fn}: its core is lent less than all'
+        rc = f'λ {" ".join(a + cn + ["r"] + w + muts)}. ' + ' '.join(['R'] + ([made('a')] if lent else []) + en + ['r'] + ([made('w')] if lent else []) + muts)
+        imp = 'λ ' + ' '.join((['h'] if lent else []) + pn + ['r'] + w + muts + (['ok'] if req else []) + ['e']) + '. e'
     pe = f'λ {" ".join(["h"] + pn)}. Before h'
     if fn in CORES: pc, plaw = (x.strip() for x in CORES[fn])
     elif creq: pc, plaw = f'λ {" ".join(a + cn)}. Before {made("a")}', 'λ ' + ' '.join(['_'] * (1 + len(ps))) + ' ok. ok'

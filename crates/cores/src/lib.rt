@@ -1,13 +1,13 @@
 // The cores of the entry points fresh, attach, detach, request, link lost and next deadline: each call over the fields that a device lends, its answer in the C host's numbers.
 use machine::NextDeadline;
 use machine::Report;
-ghost use mathlib.Core.List.{List, []};
-ghost use Prim.Native.Nat.{ℕ, _≤_};
+ghost use mathlib.Core.List.{[]};
+ghost use Prim.Native.Nat.{_≤_};
 ghost use Rattle.laws.specs.Numbers.{places};
 ghost use Rattle.settings.specs.Values.{settings};
 ghost use Rattle.machine.specs.Calls.Call.{attach as attaches, detach as detaches, request as asks, linkLost};
 ghost use Rattle.table.specs.Changes.{Runs};
-ghost use Rattle.proxy.specs.State.{lent, Sounds};
+ghost use Rattle.proxy.specs.State.{State, lent, lentSet, lentParties, lentIds, lentDeadlines, Sounds};
 ghost use Rattle.proxy.specs.Calls.{Told, FreshlyTold, Awaits};
 
 // Makes the device fresh, whatever it was, from a settings value whose fields are lent.
@@ -63,10 +63,7 @@ pub fn fresh<'a, 'b>(
 
 // Attaches a client.
 pub fn attach<'a>(attached: &'a mut u32, client: u32) -> Report
-    ensures { λ r. ⌜ ((ids asked callers deadlines counts clients originals : List ℕ) (top cursor clock timeout join tagged : ℕ) (tags : List ℕ)
-        → Sounds (lent ids asked callers deadlines counts clients originals top cursor (now (attached .entry)) clock timeout join tagged tags)
-        → Told (lent ids asked callers deadlines counts clients originals top cursor (now (attached .entry)) clock timeout join tagged tags) (attaches client) r
-        (lent ids asked callers deadlines counts clients originals top cursor (now (attached .exit)) clock timeout join tagged tags) [] []) ⌝ }
+    ensures { λ r. ⌜ ((s : State) → Sounds (lentSet s (now (attached .entry))) → Told (lentSet s (now (attached .entry))) (attaches client) r (lentSet s (now (attached .exit))) [] []) ⌝ }
 {
     machine::report_of(proxy::attaching::attach(attached, client))
 }
@@ -81,10 +78,8 @@ pub fn detach<'a>(
     client: u32,
 ) -> Report
     requires { ⌜ Runs (now counts) (now clients) (now originals) × (now top ≤ places) ⌝ }
-    ensures { λ r. ⌜ ((ids asked callers deadlines : List ℕ) (cursor clock timeout join tagged : ℕ) (tags : List ℕ)
-        → Sounds (lent ids asked callers deadlines (now (counts .entry)) (now (clients .entry)) (now (originals .entry)) (now (top .entry)) cursor (now (attached .entry)) clock timeout join tagged tags)
-        → Told (lent ids asked callers deadlines (now (counts .entry)) (now (clients .entry)) (now (originals .entry)) (now (top .entry)) cursor (now (attached .entry)) clock timeout join tagged tags) (detaches client) r
-        (lent ids asked callers deadlines (now (counts .exit)) (now (clients .exit)) (now (originals .exit)) (now (top .exit)) cursor (now (attached .exit)) clock timeout join tagged tags) [] []) ⌝ }
+    ensures { λ r. ⌜ ((s : State) → Sounds (lentParties s (now (counts .entry)) (now (clients .entry)) (now (originals .entry)) (now (top .entry)) (now (attached .entry)))
+        → Told (lentParties s (now (counts .entry)) (now (clients .entry)) (now (originals .entry)) (now (top .entry)) (now (attached .entry))) (detaches client) r (lentParties s (now (counts .exit)) (now (clients .exit)) (now (originals .exit)) (now (top .exit)) (now (attached .exit))) [] []) ⌝ }
 {
     machine::report_of(proxy::attaching::detach(counts, clients, originals, top, attached, client))
 }
@@ -144,10 +139,7 @@ pub fn link_lost<'a>(
     top: &'a mut u32,
     attached: &'a mut u32,
 ) -> Report
-    ensures { λ r. ⌜ ((asked callers deadlines counts clients originals : List ℕ) (cursor clock timeout join tagged : ℕ) (tags : List ℕ)
-        → Sounds (lent (now (ids .entry)) asked callers deadlines counts clients originals (now (top .entry)) cursor (now (attached .entry)) clock timeout join tagged tags)
-        → Told (lent (now (ids .entry)) asked callers deadlines counts clients originals (now (top .entry)) cursor (now (attached .entry)) clock timeout join tagged tags) (linkLost) r
-        (lent (now (ids .exit)) asked callers deadlines counts clients originals (now (top .exit)) cursor (now (attached .exit)) clock timeout join tagged tags) [] []) ⌝ }
+    ensures { λ r. ⌜ ((s : State) → Sounds (lentIds s (now (ids .entry)) (now (top .entry)) (now (attached .entry))) → Told (lentIds s (now (ids .entry)) (now (top .entry)) (now (attached .entry))) linkLost r (lentIds s (now (ids .exit)) (now (top .exit)) (now (attached .exit))) [] []) ⌝ }
 {
     machine::report_of(proxy::attaching::link_lost(ids, top, attached))
 }
@@ -159,10 +151,7 @@ pub fn next_deadline<'a>(
     top: &'a mut u32,
 ) -> NextDeadline
     requires { ⌜ now top ≤ places ⌝ }
-    ensures { λ r. ⌜ ((asked callers counts clients originals : List ℕ) (cursor attached clock timeout join tagged : ℕ) (tags : List ℕ)
-        → Sounds (lent (now (ids .entry)) asked callers (now (deadlines .entry)) counts clients originals (now (top .entry)) cursor attached clock timeout join tagged tags)
-        → Awaits (lent (now (ids .entry)) asked callers (now (deadlines .entry)) counts clients originals (now (top .entry)) cursor attached clock timeout join tagged tags) r
-        (lent (now (ids .exit)) asked callers (now (deadlines .exit)) counts clients originals (now (top .exit)) cursor attached clock timeout join tagged tags)) ⌝ }
+    ensures { λ r. ⌜ ((s : State) → Sounds (lentDeadlines s (now (ids .entry)) (now (deadlines .entry)) (now (top .entry))) → Awaits (lentDeadlines s (now (ids .entry)) (now (deadlines .entry)) (now (top .entry))) r (lentDeadlines s (now (ids .exit)) (now (deadlines .exit)) (now (top .exit)))) ⌝ }
 {
     let end = *top as usize;
     let time = moves::finding::least_deadline(ids, deadlines, end);

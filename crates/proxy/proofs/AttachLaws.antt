@@ -32,7 +32,7 @@ use Rattle.table.specs.Columns.{Columns, columns, entryAt, tableOf, bookOf, Sou
 use Rattle.table.specs.Changes.{Struck}
 use Rattle.table.proofs.EntryLaws.{withParties}
 use Rattle.table.proofs.ChangeLaws.{strike-is, strike-sound}
-use Rattle.proxy.specs.State.{State, state, machineOf, valueIn, Sounds}
+use Rattle.proxy.specs.State.{State, seated, lentSet, machineOf, valueIn, Sounds}
 use Rattle.proxy.specs.Calls.{Does}
 
 -- who is no stranger has a client's number
@@ -66,20 +66,19 @@ module _ (b : Live-book) (set client : ℕ) where
       (λ (h : clients ≤ client). rw (← attach-above h) low)
       (lt-or client clients)
 
+-- A sound table and a set of clients keep the state sound.
+still-sound : (s : State) → Sounds s → {c : Columns} {a : ℕ} → Sound c → a < 2 ^ clients → Sounds (seated s c a)
+still-sound s sounds t h = record { table = t; cursor = sounds .cursor; attached = h; settings = sounds .settings }
+
 module _ (s : State) (sounds : Sounds s) where
   -- Attach on any book is attach on this state, keeps it sound, and leaves it where it is refused.
   pub attach-does : (client set : ℕ) (answer : Answer) → ((b : Live-book) → done answer (machine b set) [] [] ≡ outcome (machine b (s .attached)) (attach client))
       → ((numbers answer .refusal ≡ 0 → ⊥) → set ≡ s .attached)
-      → Does s (attach client) answer (state (s .table) (s .cursor) set (s .clock) (s .settings)) [] []
+      → Does s (attach client) answer (lentSet s set) [] []
   attach-does client set answer e stays = (
     e (machineOf s .book),
-    record {
-      table = sounds .table;
-      cursor = sounds .cursor;
-      attached = rw (ap (λ (d : Outcome). d .after .attached) (e (machineOf s .book))) (attached-low (machineOf s .book) (s .attached) client (sounds .attached));
-      settings = sounds .settings;
-    },
-    λ h. ap (λ (n : ℕ). state (s .table) (s .cursor) n (s .clock) (s .settings)) (stays h),
+    still-sound s sounds (sounds .table) (rw (ap (λ (d : Outcome). d .after .attached) (e (machineOf s .book))) (attached-low (machineOf s .book) (s .attached) client (sounds .attached))),
+    λ h. ap (lentSet s) (stays h),
   )
 
   -- Detach of a stranger is refusal 2.
@@ -90,18 +89,13 @@ module _ (s : State) (sounds : Sounds s) where
   -- Detach of an attached client strikes its parties out and takes it out of the set.
   pub detach-known : (client : ℕ) (ns cs os : List ℕ) → isStranger (machineOf s) client ≡ false
       → Struck (s .table .top) client (s .table .counts) (s .table .clients) (s .table .originals) ns cs os
-      → Does s (detach client) Finished (state (withParties (s .table) ns cs os) (s .cursor) (without (s .attached) client) (s .clock) (s .settings)) [] []
+      → Does s (detach client) Finished (seated s (withParties (s .table) ns cs os) (without (s .attached) client)) [] []
   unfolding rows lowest granted numbers
   detach-known client ns cs os t d = (
     ap (λ b. done Finished (machine b (without (s .attached) client)) [] [])
         (strike-is (valueIn (s .settings)) (s .cursor) (s .clock) (s .table) (sounds .table) client ns cs os d)
         ∙ sym (granted-is (machineOf s) (detach client) (rw t)),
-    record {
-      table = strike-sound (valueIn (s .settings)) (s .cursor) (s .clock) (s .table) (sounds .table) client ns cs os d;
-      cursor = sounds .cursor;
-      attached = without-low clients (s .attached) client (sounds .attached);
-      settings = sounds .settings;
-    },
+    still-sound s sounds (strike-sound (valueIn (s .settings)) (s .cursor) (s .clock) (s .table) (sounds .table) client ns cs os d) (without-low clients (s .attached) client (sounds .attached)),
     λ h. absurd (h refl),
   )
 
@@ -135,11 +129,11 @@ pub emptied-is : (v : Value) (x t : ℕ) (c : Columns) → bookOf v (emptied c) 
 emptied-is v x t c = ap (λ l. book v l x t) (emptied-table c)
 
 -- Link lost removes every entry and everyone, and tells the former set.
-pub lost : (s : State) → Sounds s → Does s linkLost (Lost (s .attached)) (state (emptied (s .table)) (s .cursor) 0 (s .clock) (s .settings)) [] []
+pub lost : (s : State) → Sounds s → Does s linkLost (Lost (s .attached)) (seated s (emptied (s .table)) 0) [] []
 unfolding rows lowest granted numbers
 lost s sounds = (
   ap (λ b. done (Lost (s .attached)) (machine b 0) [] []) (emptied-is (valueIn (s .settings)) (s .cursor) (s .clock) (s .table))
       ∙ sym (granted-is (machineOf s) linkLost refl),
-  record { table = emptied-sound (s .table) (sounds .table); cursor = sounds .cursor; attached = pow-pos clients; settings = sounds .settings },
+  still-sound s sounds (emptied-sound (s .table) (sounds .table)) (pow-pos clients),
   λ h. absurd (h refl),
 )

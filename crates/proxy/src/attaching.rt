@@ -1,8 +1,8 @@
 // Attach, detach and link lost: the set of attached clients is one number, by shift and mask.
 use machine::Answer;
 ghost use mathlib.Core.Path.{_≡_};
-ghost use mathlib.Core.List.{List, []};
-ghost use Prim.Native.Nat.{ℕ, _<_, _≤_};
+ghost use mathlib.Core.List.{[]};
+ghost use Prim.Native.Nat.{_<_, _≤_};
 ghost use mathlib.Core.Bool.{not, _||_};
 ghost use lib.Dec.{leb};
 ghost use Rattle.laws.specs.Numbers.{clients as clientCount, places};
@@ -12,9 +12,8 @@ ghost use Rattle.machine.specs.Calls.{done};
 ghost use Rattle.machine.specs.Calls.Call.{attach as attaches, detach as detaches, linkLost};
 ghost use Rattle.machine.specs.Numbers.{numbers};
 ghost use Rattle.machine.specs.Outcomes.{outcome};
-ghost use Rattle.table.specs.Columns.{columns};
 ghost use Rattle.table.specs.Changes.{Runs};
-ghost use Rattle.proxy.specs.State.{Kept, state, Sounds};
+ghost use Rattle.proxy.specs.State.{State, lentParties, lentIds, Sounds};
 ghost use Rattle.proxy.specs.Calls.{Does};
 
 // Whether a client is in a set.
@@ -62,11 +61,8 @@ pub fn detach<'a>(
 ) -> Answer
     requires { ⌜ Runs (now counts) (now clients) (now originals) ⌝ }
     requires { ⌜ now top ≤ places ⌝ }
-    ensures { λ r. ⌜ ((ids asked callers deadlines : List ℕ) (x t : ℕ) (k : Kept)
-        → Sounds (state (columns ids asked callers deadlines (now (counts .entry)) (now (clients .entry)) (now (originals .entry)) (now (top .entry))) x (now (attached .entry)) t k)
-        → Does (state (columns ids asked callers deadlines (now (counts .entry)) (now (clients .entry)) (now (originals .entry)) (now (top .entry))) x (now (attached .entry)) t k)
-        (detaches client) r
-        (state (columns ids asked callers deadlines (now (counts .exit)) (now (clients .exit)) (now (originals .exit)) (now (top .exit))) x (now (attached .exit)) t k) [] []) ⌝ }
+    ensures { λ r. ⌜ ((s : State) → Sounds (lentParties s (now (counts .entry)) (now (clients .entry)) (now (originals .entry)) (now (top .entry)) (now (attached .entry)))
+        → Does (lentParties s (now (counts .entry)) (now (clients .entry)) (now (originals .entry)) (now (top .entry)) (now (attached .entry))) (detaches client) r (lentParties s (now (counts .exit)) (now (clients .exit)) (now (originals .exit)) (now (top .exit)) (now (attached .exit))) [] []) ⌝ }
 {
     if is_stranger(*attached, client) {
         return Answer::Refused { number: 2 };
@@ -82,11 +78,7 @@ pub fn link_lost<'a>(
     top: &'a mut u32,
     attached: &'a mut u32,
 ) -> Answer
-    ensures { λ r. ⌜ ((asked callers deadlines counts clients originals : List ℕ) (x t : ℕ) (k : Kept)
-        → Sounds (state (columns (now (ids .entry)) asked callers deadlines counts clients originals (now (top .entry))) x (now (attached .entry)) t k)
-        → Does (state (columns (now (ids .entry)) asked callers deadlines counts clients originals (now (top .entry))) x (now (attached .entry)) t k)
-        linkLost r
-        (state (columns (now (ids .exit)) asked callers deadlines counts clients originals (now (top .exit))) x (now (attached .exit)) t k) [] []) ⌝ }
+    ensures { λ r. ⌜ ((s : State) → Sounds (lentIds s (now (ids .entry)) (now (top .entry)) (now (attached .entry))) → Does (lentIds s (now (ids .entry)) (now (top .entry)) (now (attached .entry))) linkLost r (lentIds s (now (ids .exit)) (now (top .exit)) (now (attached .exit))) [] []) ⌝ }
 {
     let former = *attached;
     *ids = [0u32; laws::PLACES];

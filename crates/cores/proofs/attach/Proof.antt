@@ -7,7 +7,7 @@ use Rattle.cores.proofs.attach.Statement.{statement}
 use Rattle.cores.proofs.attach.Tie as tie
 
 returns : tie.Need-returns
-returns c ids asked callers deadlines counts clients originals top cursor clock timeout join tagged tags made =
+returns c s made =
     let does = attach-does _ made _ _ _ (c .before .attach .ensures .0) (c .before .attach .ensures .1) in
     as-told _ _ _ _ _ _ _ (c .report-of .ensures) does
 

@@ -3,14 +3,14 @@
 use mathlib.Core.Path.{_≡_, refl, _∙_}
 use borrow.Author.Needs.{needs}
 use Rattle.table.proofs.FindLaws.{next-time, next-live}
-use Rattle.proxy.specs.State.{kept, valueIn}
+use Rattle.proxy.specs.State.{valueIn}
 use Rattle.cores.proofs.next_deadline.Statement.{statement}
 use Rattle.cores.proofs.next_deadline.Tie as tie
 
 returns : tie.Need-returns
-returns c asked callers counts clients originals cursor attached clock timeout join tagged tags made =
-    let v = valueIn (kept timeout join tagged tags) in (
-      rw (c .before .before .least-deadline .ensures ∙ next-time v _ cursor clock (made .table) attached, c .count-live .ensures ∙ next-live v _ cursor clock (made .table) attached),
+returns c s made =
+    let v = valueIn (s .settings) in (
+      rw (c .before .before .least-deadline .ensures ∙ next-time v _ (s .cursor) (s .clock) (made .table) (s .attached), c .count-live .ensures ∙ next-live v _ (s .cursor) (s .clock) (made .table) (s .attached)),
       refl,
     )
 

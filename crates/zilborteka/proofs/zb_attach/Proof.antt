@@ -1,13 +1,14 @@
 -- `zilborteka::zb_attach` meets its contract: its core does, at the fields that it lends (`EntryAttach.antt`). Written by tools/gen.py.
 -- Assumes nothing.
-use Prim.Native.Nat.{ℕ}
-use mathlib.Core.List.{List, []}
+use mathlib.Core.List.{[]}
 use contract.Running.{givenOf, tables, tablesOf}
 use denote.Triple.Spec.{tripleOf}
 use denote.Triple.Table.{entered, cited}
 use Rattle.device.specs.declared.Device.{Device}
 use Rattle.machine.specs.Calls.Call.{attach as attaches}
-use Rattle.device.specs.Device.{device, Made, Served}
+use Rattle.device.specs.Device.{stateOf, Made, Served}
+use Rattle.proxy.specs.State.{State, lentSet, Sounds}
+use Rattle.proxy.specs.Calls.{Told}
 use Rattle.device.proofs.EntryAttach.{Core, entry-meets, Rel, CoreRel, Pre}
 use Rattle.cores.proofs.attach.Symbol as g
 use Rattle.cores.proofs.attach.Met as g-thm
@@ -27,12 +28,12 @@ abbrev Pe : Pre
 Pe = λ h p0. Before h
 
 abbrev Rc : CoreRel
-Rc = λ a0 p0 r w0. (o0 : List ℕ) (o1 : List ℕ) (o2 : List ℕ) (o3 : List ℕ) (o4 : List ℕ) (o5 : List ℕ) (o6 : List ℕ) (o7 : ℕ) (o8 : ℕ) (o9 : ℕ) (o10 : ℕ) (o11 : ℕ) (o12 : ℕ) (o13 : List ℕ) → Before (device o0 o1 o2 o3 o4 o5 o6 o7 o8 a0 o9 o10 o11 o12 o13) → R (device o0 o1 o2 o3 o4 o5 o6 o7 o8 a0 o9 o10 o11 o12 o13) p0 r (device o0 o1 o2 o3 o4 o5 o6 o7 o8 w0 o9 o10 o11 o12 o13)
+Rc = λ attached client r attached′. (s : State) → Sounds (lentSet s attached) → Told (lentSet s attached) (attaches client) r (lentSet s attached′) [] []
 
 pub zb-attach-spec : {M : Type 1} → stated.statement M
 unfolding code.routine tablesOf
 zb-attach-spec 𝓤 H 𝓜 𝓖 𝓡 =
     entered 𝓤 H (tripleOf 𝓤 H (𝓖 .A) f.signature (f.spec 𝓤 H (𝓖 .A) (𝓜 .mem) (𝓡 .run)))
     (tables 𝓤 H 𝓜 𝓡 code.env .C) (tables 𝓤 H 𝓜 𝓡 code.env .Λ) #f code.function (code.unfolded 𝓤 H 𝓜 𝓡)
-    (entry-meets 𝓤 H (𝓖 .A) (givenOf 𝓤 H 𝓜 𝓖) g.name R Pe Rc (λ h p0 r w0 ok e. e (h .ids) (h .asked) (h .callers) (h .deadlines) (h .counts) (h .clients) (h .originals) (h .top) (h .cursor) (h .clock) (h .timeout) (h .join) (h .tagged) (h .tags) ok) (tablesOf 𝓤 H 𝓜 (tables 𝓤 H 𝓜 𝓡 code.env))
+    (entry-meets 𝓤 H (𝓖 .A) (givenOf 𝓤 H 𝓜 𝓖) g.name R Pe Rc (λ d client r attached′ ok told. told (stateOf d) ok) (tablesOf 𝓤 H 𝓜 (tables 𝓤 H 𝓜 𝓡 code.env))
     (cited 𝓤 H (Core 𝓤 Rc H (𝓖 .A)) 𝓜 𝓡 code.env g.name g.routine code.calls-cores·attach (g-thm.met 𝓤 H 𝓜 𝓖 𝓡)))

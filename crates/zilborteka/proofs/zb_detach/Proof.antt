@@ -1,13 +1,14 @@
 -- `zilborteka::zb_detach` meets its contract: its core does, at the fields that it lends (`EntryDetach.antt`). Written by tools/gen.py.
 -- Assumes nothing.
-use Prim.Native.Nat.{ℕ}
-use mathlib.Core.List.{List, []}
+use mathlib.Core.List.{[]}
 use contract.Running.{givenOf, tables, tablesOf}
 use denote.Triple.Spec.{tripleOf}
 use denote.Triple.Table.{entered, cited}
 use Rattle.device.specs.declared.Device.{Device}
 use Rattle.machine.specs.Calls.Call.{detach as detaches}
-use Rattle.device.specs.Device.{device, Made, Served}
+use Rattle.device.specs.Device.{stateOf, Made, Served}
+use Rattle.proxy.specs.State.{State, lentParties, Sounds}
+use Rattle.proxy.specs.Calls.{Told}
 use Rattle.device.proofs.DeviceLaws.{may-detach}
 use Rattle.table.specs.Changes.{Runs}
 use Rattle.laws.specs.Numbers.{places}
@@ -34,12 +35,12 @@ abbrev Pc : CorePre
 Pc = λ counts clients originals top attached client. Runs counts clients originals × (top ≤ places)
 
 abbrev Rc : CoreRel
-Rc = λ a0 a1 a2 a3 a4 p0 r w0 w1 w2 w3 w4. (o0 : List ℕ) (o1 : List ℕ) (o2 : List ℕ) (o3 : List ℕ) (o4 : ℕ) (o5 : ℕ) (o6 : ℕ) (o7 : ℕ) (o8 : ℕ) (o9 : List ℕ) → Before (device o0 o1 o2 o3 a0 a1 a2 a3 o4 a4 o5 o6 o7 o8 o9) → R (device o0 o1 o2 o3 a0 a1 a2 a3 o4 a4 o5 o6 o7 o8 o9) p0 r (device o0 o1 o2 o3 w0 w1 w2 w3 o4 w4 o5 o6 o7 o8 o9)
+Rc = λ counts clients originals top attached client r counts′ clients′ originals′ top′ attached′. (s : State) → Sounds (lentParties s counts clients originals top attached) → Told (lentParties s counts clients originals top attached) (detaches client) r (lentParties s counts′ clients′ originals′ top′ attached′) [] []
 
 pub zb-detach-spec : {M : Type 1} → stated.statement M
 unfolding code.routine tablesOf
 zb-detach-spec 𝓤 H 𝓜 𝓖 𝓡 =
     entered 𝓤 H (tripleOf 𝓤 H (𝓖 .A) f.signature (f.spec 𝓤 H (𝓖 .A) (𝓜 .mem) (𝓡 .run)))
     (tables 𝓤 H 𝓜 𝓡 code.env .C) (tables 𝓤 H 𝓜 𝓡 code.env .Λ) #f code.function (code.unfolded 𝓤 H 𝓜 𝓡)
-    (entry-meets 𝓤 H (𝓖 .A) (givenOf 𝓤 H 𝓜 𝓖) g.name R Pe Rc Pc (λ h p0 r w0 w1 w2 w3 w4 ok e. e (h .ids) (h .asked) (h .callers) (h .deadlines) (h .cursor) (h .clock) (h .timeout) (h .join) (h .tagged) (h .tags) ok) (λ d _ ok. may-detach d ok) (tablesOf 𝓤 H 𝓜 (tables 𝓤 H 𝓜 𝓡 code.env))
+    (entry-meets 𝓤 H (𝓖 .A) (givenOf 𝓤 H 𝓜 𝓖) g.name R Pe Rc Pc (λ d client r counts′ clients′ originals′ top′ attached′ ok told. told (stateOf d) ok) (λ d _ ok. may-detach d ok) (tablesOf 𝓤 H 𝓜 (tables 𝓤 H 𝓜 𝓡 code.env))
     (cited 𝓤 H (Core 𝓤 Rc Pc H (𝓖 .A)) 𝓜 𝓡 code.env g.name g.routine code.calls-cores·detach (g-thm.met 𝓤 H 𝓜 𝓖 𝓡)))

@@ -11,7 +11,7 @@ use Rattle.proxy.proofs.attaching.detach.Statement.{statement}
 use Rattle.proxy.proofs.attaching.detach.Tie as tie
 
 returns : tie.Need-returns
-returns c ids asked callers deadlines x t k sounds = detach-stranger _ sounds (c .before .before .before .args .client) (sym (c .before .is-stranger .ensures) ∙ c .if1 .taken)
+returns c s sounds = detach-stranger _ sounds (c .before .before .before .args .client) (sym (c .before .is-stranger .ensures) ∙ c .if1 .taken)
 
 cast-strike : tie.Need-cast-strike
 cast-strike c =
@@ -26,7 +26,7 @@ shl-attached c =
     no-stranger _ _ (sym (b .before .is-stranger .ensures) ∙ b .if1 .left)
 
 returns-2 : tie.Need-returns-2
-returns-2 c ids asked callers deadlines x t k sounds =
+returns-2 c s sounds =
     let b = c .before .before .before .before .before in
     let a = b .before .before .before .args in
     let known = sym (b .before .is-stranger .ensures) ∙ b .if1 .left in

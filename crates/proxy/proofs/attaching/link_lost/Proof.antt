@@ -5,7 +5,7 @@ use Rattle.proxy.proofs.attaching.link_lost.Statement.{statement}
 use Rattle.proxy.proofs.attaching.link_lost.Tie as tie
 
 returns : tie.Need-returns
-returns c asked callers deadlines counts clients originals x t k sounds = lost _ sounds
+returns c s sounds = lost _ sounds
 
 pub link-lost-spec : {M : Type 1} → statement M
 link-lost-spec = tie.close (tie.spec returns)

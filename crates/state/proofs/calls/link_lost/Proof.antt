@@ -1,5 +1,6 @@
 -- `state::calls::link_lost` meets its contract: the core empties the column of ids, and the columns are gathered.
 -- Assumes nothing.
+use Rattle.state.specs.States.{columned}
 use Rattle.state.proofs.CallLaws.{spread-sound, served}
 use borrow.Author.Needs.{needs}
 use Rattle.state.proofs.calls.link_lost.Statement.{statement}
@@ -9,7 +10,7 @@ returns : tie.Need-returns
 returns c =
     let at = c .before .before .before .before .before .before in
     let sounds = spread-sound (at .before .args .s) _ (at .spread .ensures) (at .before .pre) in
-    served (at .before .args .s) _ (at .spread .ensures) _ _ _ _ _ _ (c .gather .ensures) (c .before .link-lost .ensures _ _ _ _ _ _ _ _ _ sounds)
+    served (at .before .args .s) _ (at .spread .ensures) _ _ _ _ _ _ (c .gather .ensures) (c .before .link-lost .ensures (columned (at .spread .result)) sounds)
 
 pub link-lost-spec : {M : Type 1} → statement M
 link-lost-spec = tie.close (tie.spec (λ c κs. search needs) (λ c κs. search needs) (λ c κs. search needs) returns)
