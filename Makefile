@@ -1,4 +1,5 @@
-# demo proves the demonstration program, runs it on its file stdin, holds what it writes to its file stdout and prints that; test is the gate.
+# demo proves the demonstration program, runs it on its file stdin, holds what it writes to its file stdout and prints that; test is the gate, behind a look whether
+# a written file is stale; generate writes what is written from the list of the device's fields and the entry points (crates/zilborteka/entries.txt).
 # archive proves and compiles the archive for a process; kernel-archive that one and the one for a kernel, from one module.
 # host builds the archive and runs the example host in C; host-test also compiles the header alone under four language
 # versions, runs the example as C++, and runs tests/host (SEED=n: with another seed). ARCHIVE=path: over that archive, as
@@ -7,7 +8,7 @@
 # target/dist/zilborteka-VERSION.tar.gz; install-test tries both in temporary directories.
 # bench times the archive on this machine's own processor (BEFORE=an older archive: beside it, in one run; BEFORE_INCLUDE=the folder
 # of its header).
-.PHONY: demo test archive kernel-archive host host-test install dist install-test bench
+.PHONY: demo test generate archive kernel-archive host host-test install dist install-test bench
 
 SEED ?= 1
 ARCHIVE ?=
@@ -23,7 +24,11 @@ demo:
 	@cat crates/demo/stdout
 
 test:
+	tools/generate --check
 	rt ci
+
+generate:
+	tools/generate
 
 archive:
 	rt staticlib zilborteka

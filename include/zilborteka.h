@@ -1,4 +1,4 @@
-/* The C boundary of the register proxy.
+/* The C boundary of the register proxy. Written by tools/fields.py from zilborteka.h.in.
    Every call may be given any bytes, any client number and any time, and a state that these calls made.
    No pointer is NULL, even with length 0, and no length is longer than the memory behind its pointer. State, frame, out
    and list do not overlap, nor do settings and state, nor settings and text. The state is aligned to 8 bytes, settings

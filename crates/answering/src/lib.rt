@@ -1,4 +1,4 @@
-// The cores of the entry points reply and tick, in which an entry ends: each call over the fields that a device lends, its answer in the C host's numbers.
+// The cores of the entry points reply and tick, in which an entry ends: each call over the fields that a device lends, its answer in the C host's numbers. Written by tools/fields.py from lib.rt.in.
 use machine::Report;
 ghost use Rattle.machine.specs.Calls.Call.{reply as replies, tick as ticks};
 ghost use Rattle.proxy.specs.State.{lent, Sounds};

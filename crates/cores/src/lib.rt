@@ -1,4 +1,4 @@
-// The cores of the entry points fresh, attach, detach, request, link lost and next deadline: each call over the fields that a device lends, its answer in the C host's numbers.
+// The cores of the entry points fresh, attach, detach, request, link lost and next deadline: each call over the fields that a device lends, its answer in the C host's numbers. Written by tools/fields.py from lib.rt.in.
 use machine::NextDeadline;
 use machine::Report;
 ghost use mathlib.Core.List.{[]};

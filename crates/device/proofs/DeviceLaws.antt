@@ -11,7 +11,8 @@ use Rattle.table.proofs.EntryLaws.{runs-of}
 use Rattle.proxy.specs.State.{State}
 use Rattle.proxy.proofs.MakingLaws.{zeros-sound}
 use Rattle.device.specs.declared.Device.{Device}
-use Rattle.device.specs.Device.{device, stateOf, Made, zeros, stateSize}
+use Rattle.device.specs.Fields.{device, stateOf, zeros}
+use Rattle.device.specs.Device.{Made, stateSize}
 use Rattle.device.proofs.Device.Laws.{mir}
 
 pub may-detach : (d : Device) → Made d → Runs (d .counts) (d .clients) (d .originals) × (d .top ≤ places)

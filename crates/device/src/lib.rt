@@ -1,4 +1,4 @@
-// The device that a host lends, and how the fields of a device are lent to a core.
+// The device that a host lends, and how the fields of a device are lent to a core. Written by tools/fields.py from lib.rt.in.
 ghost use mathlib.Core.Path.{_≡_};
 ghost use Rattle.device.specs.Device.{stateSize};
 

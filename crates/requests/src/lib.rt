@@ -1,4 +1,4 @@
-// The request over a state by value, for programs and tests.
+// The request over a state by value, for programs and tests. Written by tools/fields.py from lib.rt.in.
 use state::State;
 use state::calls::Stepped;
 use state::columns::Called;
@@ -7,7 +7,8 @@ ghost use mathlib.Core.List.{[]};
 ghost use Rattle.machine.specs.Calls.Call.{request as asks};
 ghost use Rattle.proxy.specs.Calls.{Does};
 ghost use Rattle.proxy.specs.State.{Sounds};
-ghost use Rattle.state.specs.States.{Made, columned};
+ghost use Rattle.state.specs.Fields.{columned};
+ghost use Rattle.state.specs.States.{Made};
 ghost use Rattle.state.specs.Stepped.{Served};
 
 // A client's request, over columns by value.

@@ -9,7 +9,8 @@ use Rattle.machine.specs.Outcomes.{outcome}
 use Rattle.machine.specs.declared.Answer.{Answer}
 use Rattle.proxy.specs.State.{machineOf, Sounds}
 use Rattle.proxy.specs.Calls.{Does, Freshened}
-use Rattle.state.specs.States.{Made, stateOf, columned, gathered}
+use Rattle.state.specs.Fields.{columned}
+use Rattle.state.specs.States.{Made, stateOf, gathered}
 use Rattle.state.specs.Stepped.{Served, Freshly}
 use Rattle.state.specs.declared.State.{State}
 use Rattle.state.specs.declared.columns.Columns.{Columns}

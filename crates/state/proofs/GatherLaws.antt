@@ -18,7 +18,8 @@ use Rattle.machine.specs.Machine.{machine}
 use Rattle.table.specs.Columns.{Columns as Table, entryAt, tableOf, Sound}
 use Rattle.proxy.specs.State.{valueIn, machineOf, Sounds}
 use Rattle.state.specs.Places.{numberOf, wordIn, callerOf, deadlineOf, countOf}
-use Rattle.state.specs.States.{stateOf, Made, columned, rowAt, gathered}
+use Rattle.state.specs.Fields.{columned}
+use Rattle.state.specs.States.{stateOf, Made, rowAt, gathered}
 use Rattle.state.specs.declared.Place.{Place}
 use Rattle.state.specs.declared.columns.Columns.{Columns}
 use Rattle.state.proofs.PlaceLaws.{number-back, word-made, caller-back, deadline-back, count-back}

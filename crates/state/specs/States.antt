@@ -21,12 +21,6 @@ stateOf s =
 abbrev pub Made : State → Type 0
 Made s = Sounds (stateOf s)
 
--- the state that columns and numbers by value are
-abbrev pub columned : Columns → Columned
-columned c =
-    lent (c .ids) (c .asked) (c .callers) (c .deadlines) (c .counts) (c .clients) (c .originals) (c .top) (c .cursor) (c .attached) (c .clock) (c .timeout) (c .join)
-    (c .tagged) (c .tags)
-
 -- the place k of the columns
 abbrev pub rowAt : Columns → ℕ → Place
 rowAt c k = placeOf (getD (c .ids) k 0) (getD (c .asked) k 0) (getD (c .callers) k 0) (getD (c .deadlines) k 0) (getD (c .counts) k 0)

@@ -1,4 +1,4 @@
-// The calls over a state by value, for programs and tests: each spreads the state into columns, calls the core that the device's entry points call, and gathers it. Here those without a time.
+// The calls over a state by value, for programs and tests: each spreads the state into columns, calls the core that the device's entry points call, and gathers it. Here those without a time. Written by tools/fields.py from calls.rt.in.
 use crate::State;
 use crate::columns::Called;
 use crate::columns::Columns;
@@ -7,7 +7,8 @@ use settings::Settings;
 ghost use mathlib.Core.List.{[]};
 ghost use Rattle.machine.specs.Calls.Call.{attach as attaches, detach as detaches, linkLost};
 ghost use Rattle.proxy.specs.Calls.{Freshened};
-ghost use Rattle.state.specs.States.{Made, columned};
+ghost use Rattle.state.specs.Fields.{columned};
+ghost use Rattle.state.specs.States.{Made};
 ghost use Rattle.state.specs.Stepped.{Served, Freshly};
 
 // What a call gives: the state afterwards and the answer.

@@ -1,4 +1,4 @@
-// A device's columns and numbers by value: what a state is spread into, and what a core leaves of it.
+// A device's columns and numbers by value: what a state is spread into, and what a core leaves of it. Written by tools/fields.py from columns.rt.in.
 use machine::Answer;
 
 // The fields of a device, in their order.

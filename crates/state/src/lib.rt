@@ -9,7 +9,8 @@ ghost use mathlib.Core.Path.{_≡_};
 ghost use lib.ListN.{length};
 ghost use Rattle.laws.specs.Numbers.{places};
 ghost use Rattle.state.specs.Places.{placeOf, numberOf, wordIn, idIn};
-ghost use Rattle.state.specs.States.{columned, gathered, stateOf};
+ghost use Rattle.state.specs.Fields.{columned};
+ghost use Rattle.state.specs.States.{gathered, stateOf};
 
 // A place of the table: whether it is live, its entry, whether that is closed, the client that it was issued for, how many parties wait.
 pub struct Place {

@@ -16,7 +16,8 @@ use Rattle.device.specs.declared.Device.{Device}
 use Rattle.reports.specs.declared.SettingsRead.{SettingsRead}
 use Rattle.machine.specs.Numbers.{Reported}
 use Rattle.reports.specs.Reports.{TextSeen, textSeen, splitTold, readTold, writeTold}
-use Rattle.device.specs.Device.{stateOf, Served, Freshly}
+use Rattle.device.specs.Fields.{stateOf}
+use Rattle.device.specs.Device.{Served, Freshly}
 use Rattle.device.proofs.DeviceLaws.{same-device}
 use Rattle.machine.specs.Numbers.{isDone}
 use Rattle.reports.specs.Reports.{isFrame, isMore}

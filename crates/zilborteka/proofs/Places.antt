@@ -20,7 +20,8 @@ use Rattle.machine.proofs.Follows.{same-entry}
 use Rattle.table.specs.Columns.{entryAt, tableOf}
 use Rattle.table.proofs.EntryLaws.{table-at, held, live-at}
 use Rattle.device.specs.declared.Device.{Device}
-use Rattle.device.specs.Device.{stateOf, Made}
+use Rattle.device.specs.Fields.{stateOf}
+use Rattle.device.specs.Device.{Made}
 use Rattle.zilborteka.specs.Lives.{machineIn}
 
 -- a place of the device is live under the id: its word asks w, it was issued for the client c and is due at u

@@ -15,7 +15,8 @@ use Rattle.machine.specs.Histories.{Seen, events}
 use Rattle.proxy.specs.State.{machineOf}
 use Rattle.proxy.specs.Gates.{adopted}
 use Rattle.device.specs.declared.Device.{Device}
-use Rattle.device.specs.Device.{stateOf, Served}
+use Rattle.device.specs.Fields.{stateOf}
+use Rattle.device.specs.Device.{Served}
 
 -- the settings in force on a device that is made fresh from a value
 abbrev pub inForce : Settings → Value

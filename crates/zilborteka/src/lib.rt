@@ -1,4 +1,4 @@
-// The C boundary: the exported calls on the device that a host lends.
+// The C boundary: the exported calls on the device that a host lends. Written by tools/fields.py from lib.rt.in.
 pub mod deviceless;
 pub mod streams;
 

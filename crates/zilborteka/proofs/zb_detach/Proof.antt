@@ -6,7 +6,8 @@ use denote.Triple.Spec.{tripleOf}
 use denote.Triple.Table.{entered, cited}
 use Rattle.device.specs.declared.Device.{Device}
 use Rattle.machine.specs.Calls.Call.{detach as detaches}
-use Rattle.device.specs.Device.{stateOf, Made, Served}
+use Rattle.device.specs.Fields.{stateOf}
+use Rattle.device.specs.Device.{Made, Served}
 use Rattle.proxy.specs.State.{State, lentParties, Sounds}
 use Rattle.proxy.specs.Calls.{Told}
 use Rattle.device.proofs.DeviceLaws.{may-detach}

@@ -4,7 +4,8 @@ use mathlib.Core.List.{[]}
 use contract.Running.{givenOf, tables, tablesOf}
 use denote.Triple.Spec.{tripleOf}
 use denote.Triple.Table.{entered, cited}
-use Rattle.device.specs.Device.{device, Freshly}
+use Rattle.device.specs.Fields.{device}
+use Rattle.device.specs.Device.{Freshly}
 use Rattle.settings.specs.Values.{settings}
 use Rattle.device.proofs.EntryFresh.{Core, entry-meets, Rel, CoreRel}
 use Rattle.cores.proofs.fresh.Symbol as g

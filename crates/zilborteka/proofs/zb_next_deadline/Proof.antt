@@ -5,7 +5,8 @@ use contract.Running.{givenOf, tables, tablesOf}
 use denote.Triple.Spec.{tripleOf}
 use denote.Triple.Table.{entered, cited}
 use Rattle.device.specs.declared.Device.{Device}
-use Rattle.device.specs.Device.{stateOf, Made, Awaited}
+use Rattle.device.specs.Fields.{stateOf}
+use Rattle.device.specs.Device.{Made, Awaited}
 use Rattle.proxy.specs.State.{State, lentDeadlines, Sounds}
 use Rattle.proxy.specs.Calls.{Awaits}
 use Rattle.device.proofs.DeviceLaws.{may-await}

@@ -1,6 +1,6 @@
 -- `state::calls::detach` meets its contract: the core detaches over the columns that the state is spread into, and they are gathered.
 -- Assumes nothing.
-use Rattle.state.specs.States.{columned}
+use Rattle.state.specs.Fields.{columned}
 use Rattle.state.proofs.CallLaws.{spread-sound, served}
 use borrow.Author.Needs.{needs}
 use Rattle.state.proofs.calls.detach.Statement.{statement}

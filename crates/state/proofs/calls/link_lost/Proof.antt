@@ -1,6 +1,6 @@
 -- `state::calls::link_lost` meets its contract: the core empties the column of ids, and the columns are gathered.
 -- Assumes nothing.
-use Rattle.state.specs.States.{columned}
+use Rattle.state.specs.Fields.{columned}
 use Rattle.state.proofs.CallLaws.{spread-sound, served}
 use borrow.Author.Needs.{needs}
 use Rattle.state.proofs.calls.link_lost.Statement.{statement}
