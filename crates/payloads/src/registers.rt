@@ -6,14 +6,15 @@ ghost use lib.ListN.{length};
 ghost use Rattle.laws.specs.Bytes.{pairAt};
 ghost use Rattle.laws.specs.Search.{first};
 ghost use Rattle.bcd.specs.Bcd.{registers};
-ghost use Rattle.settings.specs.TagWords.{tagOf};
+ghost use Rattle.settings.specs.TagWords.{tagOf, kindOf};
 ghost use Rattle.rewrite.specs.Rewriting.{turned, outcome, rewriting};
 ghost use Rattle.rewrite.specs.Frames.{reencoded};
-ghost use Rattle.rewrite.specs.Lent.{tagsOf, TagWords, Run, reaches, numberIn, wholeLaid};
+ghost use Rattle.rewrite.specs.Lent.{tagsOf, TagWords, Run, reaches, numberIn, counted, wholeLaid};
 use bcd::Decoded;
 use bcd::Encoded;
 use bcd::Kind;
 use rewrite::Raw;
+use rewrite::Rawness;
 use rewrite::Turned;
 use rewrite::Way;
 use values::tagwords::tag_address;
@@ -21,17 +22,6 @@ use values::tagwords::tag_kind;
 
 // How many values a register can hold.
 const WORDS: u32 = 65536;
-
-// What a tag that was left raw adds to the counts: one for partial cover, or one for its value.
-const RAW_PARTIAL: Raw = Raw {
-    partial: 1,
-    value: 0,
-};
-
-const RAW_VALUE: Raw = Raw {
-    partial: 0,
-    value: 1,
-};
 
 // The first tag that does not end before start.
 fn first_tag(tags: &[u64; laws::MOST_TAGS], tagged: usize, start: usize) -> usize
@@ -93,53 +83,77 @@ fn turn(way: Way, kind: Kind, n: u32) -> Turned
 }
 
 // A whole tag of two registers, the low word first.
-fn whole_pair(d: &mut [u8], k: usize, way: Way) -> Raw
+fn whole_pair(d: &mut [u8], k: usize, way: Way) -> Rawness
     requires { ⌜ k + 3 < length (now d) ⌝ }
-    ensures { λ r. ⌜ outcome (r .partial) (r .value) (now (d .exit)) ≡ wholeLaid way Kind.Width32 k (now (d .entry)) ⌝ }
+    ensures { λ r. ⌜ counted r (now (d .exit)) ≡ wholeLaid way Kind.Width32 k (now (d .entry)) ⌝ }
 {
     let low = register_at(d, k);
     let high = register_at(d, k + 2);
     let Turned::Number(n) = turn(way, Kind::Width32, low + WORDS * high) else {
-        return RAW_VALUE;
+        return Rawness::Value;
     };
     wire::put_at(d, k + 2, (n / WORDS) as u16);
     wire::put_at(d, k, (n % WORDS) as u16);
-    rewrite::NOT_RAW
+    Rawness::NotRaw
 }
 
 // A whole tag of one register, which stands from byte k on.
-fn whole_word(d: &mut [u8], k: usize, way: Way, kind: Kind) -> Raw
+fn whole_word(d: &mut [u8], k: usize, way: Way, kind: Kind) -> Rawness
     requires { ⌜ (registers kind ≡ 1) × (k + 1 < length (now d)) ⌝ }
-    ensures { λ r. ⌜ outcome (r .partial) (r .value) (now (d .exit)) ≡ wholeLaid way kind k (now (d .entry)) ⌝ }
+    ensures { λ r. ⌜ counted r (now (d .exit)) ≡ wholeLaid way kind k (now (d .entry)) ⌝ }
 {
     let Turned::Number(n) = turn(way, kind, register_at(d, k)) else {
-        return RAW_VALUE;
+        return Rawness::Value;
     };
     wire::put_at(d, k, (n % WORDS) as u16);
-    rewrite::NOT_RAW
+    Rawness::NotRaw
+}
+
+// A tag of two registers over a run of registers.
+fn pair_tag(d: &mut [u8], base: usize, start: u16, quantity: u16, way: Way, word: u64) -> Rawness
+    requires { ⌜ Run base start quantity (now d) ⌝ }
+    requires { ⌜ kindOf (tagOf word) ≡ Kind.Width32 ⌝ }
+    ensures { λ r. ⌜ counted r (now (d .exit)) ≡ rewriting way base start quantity (tagOf word ∷ []) (now (d .entry)) ⌝ }
+{
+    let address = tag_address(word) as usize;
+    let last = address + 1;
+    let from = start as usize;
+    let end = from + quantity as usize;
+    if (address < from) | (end <= last) {
+        if (last < from) | (end <= address) {
+            return Rawness::NotRaw;
+        }
+        return Rawness::Partial;
+    }
+    let k = base + 2 * (address - from);
+    whole_pair(d, k, way)
+}
+
+// A tag of one register over a run of registers, which never covers a part of it.
+fn word_tag(d: &mut [u8], base: usize, start: u16, quantity: u16, way: Way, word: u64) -> Rawness
+    requires { ⌜ Run base start quantity (now d) ⌝ }
+    requires { ⌜ registers (kindOf (tagOf word)) ≡ 1 ⌝ }
+    ensures { λ r. ⌜ counted r (now (d .exit)) ≡ rewriting way base start quantity (tagOf word ∷ []) (now (d .entry)) ⌝ }
+{
+    let address = tag_address(word) as usize;
+    let from = start as usize;
+    let end = from + quantity as usize;
+    if (address < from) | (end <= address) {
+        return Rawness::NotRaw;
+    }
+    let k = base + 2 * (address - from);
+    whole_word(d, k, way, tag_kind(word))
 }
 
 // One tag over a run of registers.
-fn one_tag(d: &mut [u8], base: usize, start: u16, quantity: u16, way: Way, word: u64) -> Raw
+fn one_tag(d: &mut [u8], base: usize, start: u16, quantity: u16, way: Way, word: u64) -> Rawness
     requires { ⌜ Run base start quantity (now d) ⌝ }
-    ensures { λ r. ⌜ outcome (r .partial) (r .value) (now (d .exit)) ≡ rewriting way base start quantity (tagOf word ∷ []) (now (d .entry)) ⌝ }
+    ensures { λ r. ⌜ counted r (now (d .exit)) ≡ rewriting way base start quantity (tagOf word ∷ []) (now (d .entry)) ⌝ }
 {
-    let kind = tag_kind(word);
-    let address = tag_address(word) as usize;
-    let last = rewrite::last_of(word);
-    let from = start as usize;
-    let end = from + quantity as usize;
-    if (last < from) | (end <= address) {
-        return rewrite::NOT_RAW;
-    }
-    if (address < from) | (end <= last) {
-        return RAW_PARTIAL;
-    }
-    let k = base + 2 * (address - from);
-    match kind {
-        Kind::Width32 => whole_pair(d, k, way),
-        Kind::Width16 => whole_word(d, k, way, Kind::Width16),
-        Kind::Signed16 => whole_word(d, k, way, Kind::Signed16),
+    if bcd::registers_of(tag_kind(word)) == 1 {
+        word_tag(d, base, start, quantity, way, word)
+    } else {
+        pair_tag(d, base, start, quantity, way, word)
     }
 }
 
@@ -166,9 +180,11 @@ pub fn rewrite(
         if end <= tag_address(word) as usize {
             break;
         }
-        let raw = one_tag(d, base, start, quantity, way, word);
-        partial += raw.partial;
-        value += raw.value;
+        match one_tag(d, base, start, quantity, way, word) {
+            Rawness::NotRaw => {}
+            Rawness::Partial => partial += 1,
+            Rawness::Value => value += 1,
+        }
         i += 1;
     }
     Raw {

@@ -23,6 +23,8 @@ use Rattle.rewrite.specs.Rewriting.{turned, Rewritten, outcome}
 use Rattle.rewrite.specs.Frames.{readBase, singleBase, multipleBase}
 use Rattle.rewrite.specs.declared.Turned.{Turned}
 use Rattle.rewrite.specs.declared.Turned.the-variants.{Number, LeftRaw}
+use Rattle.rewrite.specs.declared.Rawness.{Rawness}
+use Rattle.rewrite.specs.declared.Rawness.the-variants as rawness
 
 -- the tags that the first words are
 abbrev pub tagsOf : ℕ → List ℕ → List Tag
@@ -75,3 +77,9 @@ numberIn LeftRaw = none
 unfoldable pub wholeLaid : Way → Kind → ℕ → List ℕ → Rewritten
 wholeLaid way kind k d =
     elim (turned way kind (numberOf (registersAt k (registers kind) d))) [ none ↦ outcome 0 1 d | some n ↦ outcome 0 0 (laidAt k (wordsOf kind n) d) ]
+
+-- what a tag came to: the counts, by whether it was left raw, and the buffer
+abbrev pub counted : Rawness → List ℕ → Rewritten
+counted rawness.NotRaw d = outcome 0 0 d
+counted rawness.Partial d = outcome 1 0 d
+counted rawness.Value d = outcome 0 1 d

@@ -28,6 +28,13 @@ pub enum Turned {
     LeftRaw,
 }
 
+// Whether a tag was left raw: not, or for partial cover, or for its value.
+pub enum Rawness {
+    NotRaw,
+    Partial,
+    Value,
+}
+
 // The last register of a tag.
 pub fn last_of(word: u64) -> usize
     ensures { λ r. ⌜ r ≡ lastOf (tagOf word) ⌝ }
