@@ -28,6 +28,16 @@ fn first_tag(tags: &[u64; laws::MOST_TAGS], tagged: usize, start: usize) -> usiz
     requires { ⌜ TagWords tagged (now tags) ⌝ }
     ensures { λ r. ⌜ r ≡ first (reaches (now (tags .entry)) start) tagged ⌝ }
 {
+    // A run below the tags or behind them needs no search.
+    if tagged == 0 {
+        return 0;
+    }
+    if start <= tag_address(tags[0]) as usize {
+        return 0;
+    }
+    if rewrite::last_of(tags[tagged - 1]) < start {
+        return tagged;
+    }
     let mut low: usize = 0;
     let mut high = tagged;
     while low < high {
