@@ -1,7 +1,8 @@
 // The cores of the entry points reply and tick, in which an entry ends: each call over the fields that a device lends, its answer in the C host's numbers. Written by tools/fields.py from lib.rt.in.
 use machine::Report;
 ghost use Rattle.machine.specs.Calls.Call.{reply as replies, tick as ticks};
-ghost use Rattle.proxy.specs.State.{lent, Sounds};
+ghost use Rattle.table.specs.Columns.{columns, Sound};
+ghost use Rattle.proxy.specs.State.{State, lent, lentTable, Sounds};
 ghost use Rattle.proxy.specs.Calls.{Told};
 
 // The controller's reply.
@@ -63,20 +64,15 @@ pub fn tick<'a>(
     clients: &'a mut [u8; laws::PARTY_PLACES],
     originals: &'a mut [u16; laws::PARTY_PLACES],
     top: &'a mut u32,
-    cursor: &'a mut u16,
-    attached: &'a mut u32,
     clock: &'a mut u64,
-    timeout: &'a mut u32,
-    join: &'a mut u32,
-    tagged: &'a mut u32,
-    tags: &'a mut [u64; laws::MOST_TAGS],
     time: u64,
     out: &mut [u8],
     list: &mut [u16],
 ) -> Report
-    requires { ⌜ Sounds (lent (now ids) (now asked) (now callers) (now deadlines) (now counts) (now clients) (now originals) (now top) (now cursor) (now attached) (now clock) (now timeout) (now join) (now tagged) (now tags)) ⌝ }
-    ensures { λ r. ⌜ Told (lent (now (ids .entry)) (now (asked .entry)) (now (callers .entry)) (now (deadlines .entry)) (now (counts .entry)) (now (clients .entry)) (now (originals .entry)) (now (top .entry)) (now (cursor .entry)) (now (attached .entry)) (now (clock .entry)) (now (timeout .entry)) (now (join .entry)) (now (tagged .entry)) (now (tags .entry))) (ticks time (now (out .entry)) (now (list .entry))) r
-        (lent (now (ids .exit)) (now (asked .exit)) (now (callers .exit)) (now (deadlines .exit)) (now (counts .exit)) (now (clients .exit)) (now (originals .exit)) (now (top .exit)) (now (cursor .exit)) (now (attached .exit)) (now (clock .exit)) (now (timeout .exit)) (now (join .exit)) (now (tagged .exit)) (now (tags .exit))) (now (out .exit)) (now (list .exit)) ⌝ }
+    requires { ⌜ Sound (columns (now ids) (now asked) (now callers) (now deadlines) (now counts) (now clients) (now originals) (now top)) ⌝ }
+    ensures { λ r. ⌜ ((s : State) → Sounds (lentTable s (columns (now (ids .entry)) (now (asked .entry)) (now (callers .entry)) (now (deadlines .entry)) (now (counts .entry)) (now (clients .entry)) (now (originals .entry)) (now (top .entry))) (now (clock .entry)))
+        → Told (lentTable s (columns (now (ids .entry)) (now (asked .entry)) (now (callers .entry)) (now (deadlines .entry)) (now (counts .entry)) (now (clients .entry)) (now (originals .entry)) (now (top .entry))) (now (clock .entry))) (ticks time (now (out .entry)) (now (list .entry))) r
+        (lentTable s (columns (now (ids .exit)) (now (asked .exit)) (now (callers .exit)) (now (deadlines .exit)) (now (counts .exit)) (now (clients .exit)) (now (originals .exit)) (now (top .exit))) (now (clock .exit))) (now (out .exit)) (now (list .exit))) ⌝ }
 {
     machine::report_of(replying::tick(
         ids,
@@ -87,13 +83,7 @@ pub fn tick<'a>(
         clients,
         originals,
         top,
-        cursor,
-        attached,
         clock,
-        timeout,
-        join,
-        tagged,
-        tags,
         time,
         out,
         list,

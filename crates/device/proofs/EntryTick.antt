@@ -1,4 +1,4 @@
--- Every entry point `f(st: &mut Device, time: u64, out: &mut [u8], list: &mut [u16]) -> machine/Report` whose body is one call `g(&mut st.ids, &mut st.asked, &mut st.callers, &mut st.deadlines, &mut st.counts, &mut st.clients, &mut st.originals, &mut st.top, &mut st.cursor, &mut st.attached, &mut st.clock, &mut st.timeout, &mut st.join, &mut st.tagged, &mut st.tags, time, out, list)` meets its contract where its core g meets its own at the fields that are lent. Written by tools/gen.py.
+-- Every entry point `f(st: &mut Device, time: u64, out: &mut [u8], list: &mut [u16]) -> machine/Report` whose body is one call `g(&mut st.ids, &mut st.asked, &mut st.callers, &mut st.deadlines, &mut st.counts, &mut st.clients, &mut st.originals, &mut st.top, &mut st.clock, time, out, list)` meets its contract where its core g meets its own at the fields that are lent. Written by tools/gen.py.
 --     Rel, CoreRel     what the contract of the entry point, and that of the core, is a relation of: Device and parameters at entry, result, Device and slices at exit; the same at the fields that are lent
 --     function g       the MIR of such an entry point
 --     clauses R, core-clauses Rc   the contracts `ensures { λ r. ⌜ R .. ⌝ }`
@@ -49,23 +49,23 @@ use Rattle.machine.proofs.Report.Laws as Res′
 use Rattle.device.proofs.Device as T
 use Rattle.device.proofs.Device.Laws as T′
 use Rattle.device.proofs.Fields.{ms, m-ids, m-asked, m-callers, m-deadlines, m-counts, m-clients, m-originals, m-top, m-cursor, m-attached, m-clock, m-timeout, m-join, m-tagged, m-tags, tuple, takes, gives}
-use Rattle.lending.proofs.Lend.{Use, lend, Names, after, kept, refs, refsAt, ptrsAt, lents, finals, lend-all, back-all}
+use Rattle.lending.proofs.Lend.{Use, lend, stay, Names, after, kept, refs, refsAt, ptrsAt, lents, finals, lend-all, back-all}
 
 abbrev pub Rel : Type 1
 Rel = Device → ℕ → List ℕ → List ℕ → Report → Device → List ℕ → List ℕ → Type 0
 
 abbrev pub CoreRel : Type 1
-CoreRel = List ℕ → List ℕ → List ℕ → List ℕ → List ℕ → List ℕ → List ℕ → ℕ → ℕ → ℕ → ℕ → ℕ → ℕ → ℕ → List ℕ → ℕ → List ℕ → List ℕ → Report → List ℕ → List ℕ → List ℕ → List ℕ → List ℕ → List ℕ → List ℕ → ℕ → ℕ → ℕ → ℕ → ℕ → ℕ → ℕ → List ℕ → List ℕ → List ℕ → Type 0
+CoreRel = List ℕ → List ℕ → List ℕ → List ℕ → List ℕ → List ℕ → List ℕ → ℕ → ℕ → ℕ → List ℕ → List ℕ → Report → List ℕ → List ℕ → List ℕ → List ℕ → List ℕ → List ℕ → List ℕ → ℕ → ℕ → List ℕ → List ℕ → Type 0
 
 abbrev pub Pre : Type 1
 Pre = Device → ℕ → List ℕ → List ℕ → Type 0
 
 abbrev pub CorePre : Type 1
-CorePre = List ℕ → List ℕ → List ℕ → List ℕ → List ℕ → List ℕ → List ℕ → ℕ → ℕ → ℕ → ℕ → ℕ → ℕ → ℕ → List ℕ → ℕ → List ℕ → List ℕ → Type 0
+CorePre = List ℕ → List ℕ → List ℕ → List ℕ → List ℕ → List ℕ → List ℕ → ℕ → ℕ → ℕ → List ℕ → List ℕ → Type 0
 
 -- what is lent
 abbrev uses : List Use
-uses = lend m-ids ∷ lend m-asked ∷ lend m-callers ∷ lend m-deadlines ∷ lend m-counts ∷ lend m-clients ∷ lend m-originals ∷ lend m-top ∷ lend m-cursor ∷ lend m-attached ∷ lend m-clock ∷ lend m-timeout ∷ lend m-join ∷ lend m-tagged ∷ lend m-tags ∷ []
+uses = lend m-ids ∷ lend m-asked ∷ lend m-callers ∷ lend m-deadlines ∷ lend m-counts ∷ lend m-clients ∷ lend m-originals ∷ lend m-top ∷ stay m-cursor ∷ stay m-attached ∷ lend m-clock ∷ stay m-timeout ∷ stay m-join ∷ stay m-tagged ∷ stay m-tags ∷ []
 
 infixr 1 _$ₛ_
 abbrev _$ₛ_ : (Code → Code) → Code → Code
@@ -91,13 +91,7 @@ function g = record {
       local (tyRef erased mut (tyArray (tyInt w8) 8192)) valueLocal ∷
       local (tyRef erased mut (tyArray (tyInt w16) 8192)) valueLocal ∷
       local (tyRef erased mut (tyInt w32)) valueLocal ∷
-      local (tyRef erased mut (tyInt w16)) valueLocal ∷
-      local (tyRef erased mut (tyInt w32)) valueLocal ∷
       local (tyRef erased mut (tyInt w64)) valueLocal ∷
-      local (tyRef erased mut (tyInt w32)) valueLocal ∷
-      local (tyRef erased mut (tyInt w32)) valueLocal ∷
-      local (tyRef erased mut (tyInt w32)) valueLocal ∷
-      local (tyRef erased mut (tyArray (tyInt w64) 256)) valueLocal ∷
       local (tyRef erased mut (tyInt w8)) valueLocal ∷
       local (sliceTy (tyRef erased mut (tyInt w8))) valueLocal ∷
       local (tyRef erased mut (tyInt w16)) valueLocal ∷
@@ -111,18 +105,12 @@ function g = record {
       seq (assign (place 10 []) (addrOf (place 1 (deref T′.mir ∷ field 5 ∷ [])))) $ₛ
       seq (assign (place 11 []) (addrOf (place 1 (deref T′.mir ∷ field 6 ∷ [])))) $ₛ
       seq (assign (place 12 []) (addrOf (place 1 (deref T′.mir ∷ field 7 ∷ [])))) $ₛ
-      seq (assign (place 13 []) (addrOf (place 1 (deref T′.mir ∷ field 8 ∷ [])))) $ₛ
-      seq (assign (place 14 []) (addrOf (place 1 (deref T′.mir ∷ field 9 ∷ [])))) $ₛ
-      seq (assign (place 15 []) (addrOf (place 1 (deref T′.mir ∷ field 10 ∷ [])))) $ₛ
-      seq (assign (place 16 []) (addrOf (place 1 (deref T′.mir ∷ field 11 ∷ [])))) $ₛ
-      seq (assign (place 17 []) (addrOf (place 1 (deref T′.mir ∷ field 12 ∷ [])))) $ₛ
-      seq (assign (place 18 []) (addrOf (place 1 (deref T′.mir ∷ field 13 ∷ [])))) $ₛ
-      seq (assign (place 19 []) (addrOf (place 1 (deref T′.mir ∷ field 14 ∷ [])))) $ₛ
-      seq (assign (place 20 []) (addrOf (place 3 (field 0 ∷ deref (tyInt w8) ∷ [])))) $ₛ
-      seq (assign (place 21 []) (aggregate (copy (place 20 []) ∷ copy (place 3 (field 1 ∷ [])) ∷ []))) $ₛ
-      seq (assign (place 22 []) (addrOf (place 4 (field 0 ∷ deref (tyInt w16) ∷ [])))) $ₛ
-      seq (assign (place 23 []) (aggregate (copy (place 22 []) ∷ copy (place 4 (field 1 ∷ [])) ∷ []))) $ₛ
-      seq (call g (copy (place 5 []) ∷ copy (place 6 []) ∷ copy (place 7 []) ∷ copy (place 8 []) ∷ copy (place 9 []) ∷ copy (place 10 []) ∷ copy (place 11 []) ∷ copy (place 12 []) ∷ copy (place 13 []) ∷ copy (place 14 []) ∷ copy (place 15 []) ∷ copy (place 16 []) ∷ copy (place 17 []) ∷ copy (place 18 []) ∷ copy (place 19 []) ∷ copy (place 2 []) ∷ copy (place 21 []) ∷ copy (place 23 []) ∷ []) (place 0 [])) $ₛ
+      seq (assign (place 13 []) (addrOf (place 1 (deref T′.mir ∷ field 10 ∷ [])))) $ₛ
+      seq (assign (place 14 []) (addrOf (place 3 (field 0 ∷ deref (tyInt w8) ∷ [])))) $ₛ
+      seq (assign (place 15 []) (aggregate (copy (place 14 []) ∷ copy (place 3 (field 1 ∷ [])) ∷ []))) $ₛ
+      seq (assign (place 16 []) (addrOf (place 4 (field 0 ∷ deref (tyInt w16) ∷ [])))) $ₛ
+      seq (assign (place 17 []) (aggregate (copy (place 16 []) ∷ copy (place 4 (field 1 ∷ [])) ∷ []))) $ₛ
+      seq (call g (copy (place 5 []) ∷ copy (place 6 []) ∷ copy (place 7 []) ∷ copy (place 8 []) ∷ copy (place 9 []) ∷ copy (place 10 []) ∷ copy (place 11 []) ∷ copy (place 12 []) ∷ copy (place 13 []) ∷ copy (place 2 []) ∷ copy (place 15 []) ∷ copy (place 17 []) ∷ []) (place 0 [])) $ₛ
       return;
 }
 
@@ -137,12 +125,12 @@ abbrev pub core-signature : Signature
 core-signature = record {
   lifetimes = 3;
   outlives = [];
-  params = RefMutOf (0 ∷ []) tt (plain (λ κs. Array u32 256)) (λ κs. tt) ∷ RefMutOf (0 ∷ []) tt (plain (λ κs. Array u64 256)) (λ κs. tt) ∷ RefMutOf (0 ∷ []) tt (plain (λ κs. Array u8 256)) (λ κs. tt) ∷ RefMutOf (0 ∷ []) tt (plain (λ κs. Array u64 256)) (λ κs. tt) ∷ RefMutOf (0 ∷ []) tt (plain (λ κs. Array u8 256)) (λ κs. tt) ∷ RefMutOf (0 ∷ []) tt (plain (λ κs. Array u8 8192)) (λ κs. tt) ∷ RefMutOf (0 ∷ []) tt (plain (λ κs. Array u16 8192)) (λ κs. tt) ∷ RefMutOf (0 ∷ []) tt (plain (λ κs. u32)) (λ κs. tt) ∷ RefMutOf (0 ∷ []) tt (plain (λ κs. u16)) (λ κs. tt) ∷ RefMutOf (0 ∷ []) tt (plain (λ κs. u32)) (λ κs. tt) ∷ RefMutOf (0 ∷ []) tt (plain (λ κs. u64)) (λ κs. tt) ∷ RefMutOf (0 ∷ []) tt (plain (λ κs. u32)) (λ κs. tt) ∷ RefMutOf (0 ∷ []) tt (plain (λ κs. u32)) (λ κs. tt) ∷ RefMutOf (0 ∷ []) tt (plain (λ κs. u32)) (λ κs. tt) ∷ RefMutOf (0 ∷ []) tt (plain (λ κs. Array u64 256)) (λ κs. tt) ∷ (plain (λ κs. u64)) ∷ (SliceRefMutOf (1 ∷ []) tt (plain (λ κs. u8)) (λ κs. tt)) ∷ (SliceRefMutOf (2 ∷ []) tt (plain (λ κs. u16)) (λ κs. tt)) ∷ [];
+  params = RefMutOf (0 ∷ []) tt (plain (λ κs. Array u32 256)) (λ κs. tt) ∷ RefMutOf (0 ∷ []) tt (plain (λ κs. Array u64 256)) (λ κs. tt) ∷ RefMutOf (0 ∷ []) tt (plain (λ κs. Array u8 256)) (λ κs. tt) ∷ RefMutOf (0 ∷ []) tt (plain (λ κs. Array u64 256)) (λ κs. tt) ∷ RefMutOf (0 ∷ []) tt (plain (λ κs. Array u8 256)) (λ κs. tt) ∷ RefMutOf (0 ∷ []) tt (plain (λ κs. Array u8 8192)) (λ κs. tt) ∷ RefMutOf (0 ∷ []) tt (plain (λ κs. Array u16 8192)) (λ κs. tt) ∷ RefMutOf (0 ∷ []) tt (plain (λ κs. u32)) (λ κs. tt) ∷ RefMutOf (0 ∷ []) tt (plain (λ κs. u64)) (λ κs. tt) ∷ (plain (λ κs. u64)) ∷ (SliceRefMutOf (1 ∷ []) tt (plain (λ κs. u8)) (λ κs. tt)) ∷ (SliceRefMutOf (2 ∷ []) tt (plain (λ κs. u16)) (λ κs. tt)) ∷ [];
   result = plain (λ κs. Res.the-row);
 }
 
 abbrev pub core-ended : Ended
-core-ended = record { signature = core-signature; kept = (yes, (yes, (yes, (yes, (yes, (yes, (yes, (yes, (yes, (yes, (yes, (yes, (yes, (yes, (yes, (yes, (yes, (yes, tt)))))))))))))))))) }
+core-ended = record { signature = core-signature; kept = (yes, (yes, (yes, (yes, (yes, (yes, (yes, (yes, (yes, (yes, (yes, (yes, tt)))))))))))) }
 
 module _ {M : Type 1} (𝓤 : URA M) (R : Rel) (Pe : Pre) where
   abbrev pub clauses : Clauses 𝓤 ended
@@ -152,8 +140,8 @@ module _ {M : Type 1} (𝓤 : URA M) (Rc : CoreRel) (Pc : CorePre) where
   abbrev pub core-clauses : Clauses 𝓤 core-ended
   core-clauses κs a = record {
     ghost = Unit {0};
-    requires = λ _. fact 𝓤 (Pc (a .0 .now) (a .1 .0 .now) (a .1 .1 .0 .now) (a .1 .1 .1 .0 .now) (a .1 .1 .1 .1 .0 .now) (a .1 .1 .1 .1 .1 .0 .now) (a .1 .1 .1 .1 .1 .1 .0 .now) (a .1 .1 .1 .1 .1 .1 .1 .0 .now) (a .1 .1 .1 .1 .1 .1 .1 .1 .0 .now) (a .1 .1 .1 .1 .1 .1 .1 .1 .1 .0 .now) (a .1 .1 .1 .1 .1 .1 .1 .1 .1 .1 .0 .now) (a .1 .1 .1 .1 .1 .1 .1 .1 .1 .1 .1 .0 .now) (a .1 .1 .1 .1 .1 .1 .1 .1 .1 .1 .1 .1 .0 .now) (a .1 .1 .1 .1 .1 .1 .1 .1 .1 .1 .1 .1 .1 .0 .now) (a .1 .1 .1 .1 .1 .1 .1 .1 .1 .1 .1 .1 .1 .1 .0 .now) (a .1 .1 .1 .1 .1 .1 .1 .1 .1 .1 .1 .1 .1 .1 .1 .0) (a .1 .1 .1 .1 .1 .1 .1 .1 .1 .1 .1 .1 .1 .1 .1 .1 .0 .now) (a .1 .1 .1 .1 .1 .1 .1 .1 .1 .1 .1 .1 .1 .1 .1 .1 .1 .0 .now));
-    ensures = λ _ r e. fact 𝓤 (Rc (a .0 .now) (a .1 .0 .now) (a .1 .1 .0 .now) (a .1 .1 .1 .0 .now) (a .1 .1 .1 .1 .0 .now) (a .1 .1 .1 .1 .1 .0 .now) (a .1 .1 .1 .1 .1 .1 .0 .now) (a .1 .1 .1 .1 .1 .1 .1 .0 .now) (a .1 .1 .1 .1 .1 .1 .1 .1 .0 .now) (a .1 .1 .1 .1 .1 .1 .1 .1 .1 .0 .now) (a .1 .1 .1 .1 .1 .1 .1 .1 .1 .1 .0 .now) (a .1 .1 .1 .1 .1 .1 .1 .1 .1 .1 .1 .0 .now) (a .1 .1 .1 .1 .1 .1 .1 .1 .1 .1 .1 .1 .0 .now) (a .1 .1 .1 .1 .1 .1 .1 .1 .1 .1 .1 .1 .1 .0 .now) (a .1 .1 .1 .1 .1 .1 .1 .1 .1 .1 .1 .1 .1 .1 .0 .now) (a .1 .1 .1 .1 .1 .1 .1 .1 .1 .1 .1 .1 .1 .1 .1 .0) (a .1 .1 .1 .1 .1 .1 .1 .1 .1 .1 .1 .1 .1 .1 .1 .1 .0 .now) (a .1 .1 .1 .1 .1 .1 .1 .1 .1 .1 .1 .1 .1 .1 .1 .1 .1 .0 .now) r (e .0 .now) (e .1 .0 .now) (e .1 .1 .0 .now) (e .1 .1 .1 .0 .now) (e .1 .1 .1 .1 .0 .now) (e .1 .1 .1 .1 .1 .0 .now) (e .1 .1 .1 .1 .1 .1 .0 .now) (e .1 .1 .1 .1 .1 .1 .1 .0 .now) (e .1 .1 .1 .1 .1 .1 .1 .1 .0 .now) (e .1 .1 .1 .1 .1 .1 .1 .1 .1 .0 .now) (e .1 .1 .1 .1 .1 .1 .1 .1 .1 .1 .0 .now) (e .1 .1 .1 .1 .1 .1 .1 .1 .1 .1 .1 .0 .now) (e .1 .1 .1 .1 .1 .1 .1 .1 .1 .1 .1 .1 .0 .now) (e .1 .1 .1 .1 .1 .1 .1 .1 .1 .1 .1 .1 .1 .0 .now) (e .1 .1 .1 .1 .1 .1 .1 .1 .1 .1 .1 .1 .1 .1 .0 .now) (e .1 .1 .1 .1 .1 .1 .1 .1 .1 .1 .1 .1 .1 .1 .1 .1 .0 .now) (e .1 .1 .1 .1 .1 .1 .1 .1 .1 .1 .1 .1 .1 .1 .1 .1 .1 .0 .now));
+    requires = λ _. fact 𝓤 (Pc (a .0 .now) (a .1 .0 .now) (a .1 .1 .0 .now) (a .1 .1 .1 .0 .now) (a .1 .1 .1 .1 .0 .now) (a .1 .1 .1 .1 .1 .0 .now) (a .1 .1 .1 .1 .1 .1 .0 .now) (a .1 .1 .1 .1 .1 .1 .1 .0 .now) (a .1 .1 .1 .1 .1 .1 .1 .1 .0 .now) (a .1 .1 .1 .1 .1 .1 .1 .1 .1 .0) (a .1 .1 .1 .1 .1 .1 .1 .1 .1 .1 .0 .now) (a .1 .1 .1 .1 .1 .1 .1 .1 .1 .1 .1 .0 .now));
+    ensures = λ _ r e. fact 𝓤 (Rc (a .0 .now) (a .1 .0 .now) (a .1 .1 .0 .now) (a .1 .1 .1 .0 .now) (a .1 .1 .1 .1 .0 .now) (a .1 .1 .1 .1 .1 .0 .now) (a .1 .1 .1 .1 .1 .1 .0 .now) (a .1 .1 .1 .1 .1 .1 .1 .0 .now) (a .1 .1 .1 .1 .1 .1 .1 .1 .0 .now) (a .1 .1 .1 .1 .1 .1 .1 .1 .1 .0) (a .1 .1 .1 .1 .1 .1 .1 .1 .1 .1 .0 .now) (a .1 .1 .1 .1 .1 .1 .1 .1 .1 .1 .1 .0 .now) r (e .0 .now) (e .1 .0 .now) (e .1 .1 .0 .now) (e .1 .1 .1 .0 .now) (e .1 .1 .1 .1 .0 .now) (e .1 .1 .1 .1 .1 .0 .now) (e .1 .1 .1 .1 .1 .1 .0 .now) (e .1 .1 .1 .1 .1 .1 .1 .0 .now) (e .1 .1 .1 .1 .1 .1 .1 .1 .0 .now) (e .1 .1 .1 .1 .1 .1 .1 .1 .1 .1 .0 .now) (e .1 .1 .1 .1 .1 .1 .1 .1 .1 .1 .1 .0 .now));
   }
 
   module _ (H : Heap 𝓤) (A : Atoms 𝓤) where
@@ -170,7 +158,7 @@ with-emp 𝓤 P = via 𝓤 (sep 𝓤 (emp 𝓤) P) (emp∗ 𝓤 P) (comm∗ 𝓤
 with-fact : {M : Type 1} (𝓤 : URA M) (P : SProp 𝓤) {φ : Type 0} → φ → ent 𝓤 P (sep 𝓤 P (fact 𝓤 φ))
 with-fact 𝓤 P {φ} x = via 𝓤 (sep 𝓤 (emp 𝓤) P) (emp∗ 𝓤 P) (via 𝓤 (sep 𝓤 (fact 𝓤 φ) P) (monoL 𝓤 P (factI 𝓤 φ (emp 𝓤) x)) (comm∗ 𝓤 (fact 𝓤 φ) P))
 
-module _ {M : Type 1} (𝓤 : URA M) (H : Heap 𝓤) (A : Atoms 𝓤) (W : Given 𝓤 H A) (g : Name) (R : Rel) (Pe : Pre) (Rc : CoreRel) (Pc : CorePre) (imp : ((h : Device) (p0 : ℕ) (p1 : List ℕ) (p2 : List ℕ) (r : Report) (w0 : List ℕ) (w1 : List ℕ) (w2 : List ℕ) (w3 : List ℕ) (w4 : List ℕ) (w5 : List ℕ) (w6 : List ℕ) (w7 : ℕ) (w8 : ℕ) (w9 : ℕ) (w10 : ℕ) (w11 : ℕ) (w12 : ℕ) (w13 : ℕ) (w14 : List ℕ) (z1 : List ℕ) (z2 : List ℕ) → Pe h p0 p1 p2 → Rc (h .ids) (h .asked) (h .callers) (h .deadlines) (h .counts) (h .clients) (h .originals) (h .top) (h .cursor) (h .attached) (h .clock) (h .timeout) (h .join) (h .tagged) (h .tags) p0 p1 p2 r w0 w1 w2 w3 w4 w5 w6 w7 w8 w9 w10 w11 w12 w13 w14 z1 z2 → R h p0 p1 p2 r (record { ids = w0; asked = w1; callers = w2; deadlines = w3; counts = w4; clients = w5; originals = w6; top = w7; cursor = w8; attached = w9; clock = w10; timeout = w11; join = w12; tagged = w13; tags = w14 }) z1 z2)) (pimp : ((h : Device) (p0 : ℕ) (p1 : List ℕ) (p2 : List ℕ) → Pe h p0 p1 p2 → Pc (h .ids) (h .asked) (h .callers) (h .deadlines) (h .counts) (h .clients) (h .originals) (h .top) (h .cursor) (h .attached) (h .clock) (h .timeout) (h .join) (h .tagged) (h .tags) p0 p1 p2)) (κ0 κ1 κ2 : Lft) (q0 q1 q2 : Share) (b o : ℕ) (γ : GName) (h : Device) (p0 : ℕ) (fit0 : p0 < 2 ^ 64) (p1 : RefT (List ℕ)) (fit1 : Room u8 (length (p1 .now))) (p2 : RefT (List ℕ)) (fit2 : Room u16 (length (p2 .now))) (ok : Pe h p0 (p1 .now) (p2 .now)) (pre : Pc (h .ids) (h .asked) (h .callers) (h .deadlines) (h .counts) (h .clients) (h .originals) (h .top) (h .cursor) (h .attached) (h .clock) (h .timeout) (h .join) (h .tagged) (h .tags) p0 (p1 .now) (p2 .now)) where
+module _ {M : Type 1} (𝓤 : URA M) (H : Heap 𝓤) (A : Atoms 𝓤) (W : Given 𝓤 H A) (g : Name) (R : Rel) (Pe : Pre) (Rc : CoreRel) (Pc : CorePre) (imp : ((h : Device) (p0 : ℕ) (p1 : List ℕ) (p2 : List ℕ) (r : Report) (w0 : List ℕ) (w1 : List ℕ) (w2 : List ℕ) (w3 : List ℕ) (w4 : List ℕ) (w5 : List ℕ) (w6 : List ℕ) (w7 : ℕ) (w8 : ℕ) (z1 : List ℕ) (z2 : List ℕ) → Pe h p0 p1 p2 → Rc (h .ids) (h .asked) (h .callers) (h .deadlines) (h .counts) (h .clients) (h .originals) (h .top) (h .clock) p0 p1 p2 r w0 w1 w2 w3 w4 w5 w6 w7 w8 z1 z2 → R h p0 p1 p2 r (record { ids = w0; asked = w1; callers = w2; deadlines = w3; counts = w4; clients = w5; originals = w6; top = w7; cursor = h .cursor; attached = h .attached; clock = w8; timeout = h .timeout; join = h .join; tagged = h .tagged; tags = h .tags }) z1 z2)) (pimp : ((h : Device) (p0 : ℕ) (p1 : List ℕ) (p2 : List ℕ) → Pe h p0 p1 p2 → Pc (h .ids) (h .asked) (h .callers) (h .deadlines) (h .counts) (h .clients) (h .originals) (h .top) (h .clock) p0 p1 p2)) (κ0 κ1 κ2 : Lft) (q0 q1 q2 : Share) (b o : ℕ) (γ : GName) (h : Device) (p0 : ℕ) (fit0 : p0 < 2 ^ 64) (p1 : RefT (List ℕ)) (fit1 : Room u8 (length (p1 .now))) (p2 : RefT (List ℕ)) (fit2 : Room u16 (length (p2 .now))) (ok : Pe h p0 (p1 .now) (p2 .now)) (pre : Pc (h .ids) (h .asked) (h .callers) (h .deadlines) (h .counts) (h .clients) (h .originals) (h .top) (h .clock) p0 (p1 .now) (p2 .now)) where
   -- the parameters that go on to the core as they are
   abbrev Tail : List RattleType
   Tail = u64 ∷ MutSlice (named 1) κ1 u8 ∷ MutSlice (named 2) κ2 u16 ∷ []
@@ -210,46 +198,40 @@ module _ {M : Type 1} (𝓤 : URA M) (H : Heap 𝓤) (A : Atoms 𝓤) (W : Given
     walk : ent 𝓤 (onEntry 𝓤 H A signature (κ0, (κ1, (κ2, tt))) (q0, (q1, (q2, tt))) a vals) (WpFn 𝓤 H C Λ (function g) (vptr b o ∷ vint w64 p0 ∷ sliceVal (p1 .ptr) (length (p1 .now)) ∷ sliceVal (p2 .ptr) (length (p2 .now)) ∷ []) Post)
     walk =
         qed W ((‵ (flft κ0 q0) ⊛ (‵ (flft κ1 q1) ⊛ ‵ (flft κ2 q2) ⊛ ‵ ftrue)) ∷ ‵ (owns (MutRef (named 0) κ0 T.the-row ∷ Tail) a vals) ∷ []) ∵ enter ! C Λ (function g) (vptr b o ∷ vint w64 p0 ∷ sliceVal (p1 .ptr) (length (p1 .now)) ∷ sliceVal (p2 .ptr) (length (p2 .now)) ∷ []) _ $
-        alloc1 ! (λ l0. alloc1 ! (λ l1. alloc1 ! (λ l2. alloc1 ! (λ l3. alloc1 ! (λ l4. alloc1 ! (λ l5. alloc1 ! (λ l6. alloc1 ! (λ l7. alloc1 ! (λ l8. alloc1 ! (λ l9. alloc1 ! (λ l10. alloc1 ! (λ l11. alloc1 ! (λ l12. alloc1 ! (λ l13. alloc1 ! (λ l14. alloc1 ! (λ l15. alloc1 ! (λ l16. alloc1 ! (λ l17. alloc1 ! (λ l18. alloc1 ! (λ l19. alloc1 ! (λ l20. alloc1 ! (λ l21. alloc1 ! (λ l22. alloc1 ! (λ l23. alloc0 ! $ params1 ! $
-        pass1 ! (init ! 44 refl (tt, tt)) $ pass1 ! (init ! 42 refl (tt, record { fits = fit0 })) $ pass1 ! (init ! 40 refl (tt, (tt, (record { fits = fit1 .0 }, tt)))) $ pass1 ! (init ! 38 refl (tt, (tt, (record { fits = fit2 .0 }, tt)))) $ pass0 ! $
+        alloc1 ! (λ l0. alloc1 ! (λ l1. alloc1 ! (λ l2. alloc1 ! (λ l3. alloc1 ! (λ l4. alloc1 ! (λ l5. alloc1 ! (λ l6. alloc1 ! (λ l7. alloc1 ! (λ l8. alloc1 ! (λ l9. alloc1 ! (λ l10. alloc1 ! (λ l11. alloc1 ! (λ l12. alloc1 ! (λ l13. alloc1 ! (λ l14. alloc1 ! (λ l15. alloc1 ! (λ l16. alloc1 ! (λ l17. alloc0 ! $ params1 ! $
+        pass1 ! (init ! 32 refl (tt, tt)) $ pass1 ! (init ! 30 refl (tt, record { fits = fit0 })) $ pass1 ! (init ! 28 refl (tt, (tt, (record { fits = fit1 .0 }, tt)))) $ pass1 ! (init ! 26 refl (tt, (tt, (record { fits = fit2 .0 }, tt)))) $ pass0 ! $
         -- the fields' addresses, and the slices again
-        assigns ! (addr ! (from ! (hop ! (look ! 44 refl) (fld ! refl (stop !))))) (from ! (stop !)) (init ! 36 refl (tt, tt)) $
-        assigns ! (addr ! (from ! (hop ! (look ! 44 refl) (fld ! refl (stop !))))) (from ! (stop !)) (init ! 34 refl (tt, tt)) $
-        assigns ! (addr ! (from ! (hop ! (look ! 44 refl) (fld ! refl (stop !))))) (from ! (stop !)) (init ! 32 refl (tt, tt)) $
-        assigns ! (addr ! (from ! (hop ! (look ! 44 refl) (fld ! refl (stop !))))) (from ! (stop !)) (init ! 30 refl (tt, tt)) $
-        assigns ! (addr ! (from ! (hop ! (look ! 44 refl) (fld ! refl (stop !))))) (from ! (stop !)) (init ! 28 refl (tt, tt)) $
-        assigns ! (addr ! (from ! (hop ! (look ! 44 refl) (fld ! refl (stop !))))) (from ! (stop !)) (init ! 26 refl (tt, tt)) $
-        assigns ! (addr ! (from ! (hop ! (look ! 44 refl) (fld ! refl (stop !))))) (from ! (stop !)) (init ! 24 refl (tt, tt)) $
-        assigns ! (addr ! (from ! (hop ! (look ! 44 refl) (fld ! refl (stop !))))) (from ! (stop !)) (init ! 22 refl (tt, tt)) $
-        assigns ! (addr ! (from ! (hop ! (look ! 44 refl) (fld ! refl (stop !))))) (from ! (stop !)) (init ! 20 refl (tt, tt)) $
-        assigns ! (addr ! (from ! (hop ! (look ! 44 refl) (fld ! refl (stop !))))) (from ! (stop !)) (init ! 18 refl (tt, tt)) $
-        assigns ! (addr ! (from ! (hop ! (look ! 44 refl) (fld ! refl (stop !))))) (from ! (stop !)) (init ! 16 refl (tt, tt)) $
-        assigns ! (addr ! (from ! (hop ! (look ! 44 refl) (fld ! refl (stop !))))) (from ! (stop !)) (init ! 14 refl (tt, tt)) $
-        assigns ! (addr ! (from ! (hop ! (look ! 44 refl) (fld ! refl (stop !))))) (from ! (stop !)) (init ! 12 refl (tt, tt)) $
-        assigns ! (addr ! (from ! (hop ! (look ! 44 refl) (fld ! refl (stop !))))) (from ! (stop !)) (init ! 10 refl (tt, tt)) $
-        assigns ! (addr ! (from ! (hop ! (look ! 44 refl) (fld ! refl (stop !))))) (from ! (stop !)) (init ! 8 refl (tt, tt)) $
-        assigns ! (addr ! (from ! (fld ! refl (hop ! (look-in ! 40 (sub ! 0 refl (whole !))) (stop !))))) (from ! (stop !)) (init ! 6 refl (tt, tt)) $
-        assigns ! (agg ! (and-then ! (load ! (from ! (stop !)) (look ! 6 refl)) (and-then ! (load ! (from ! (fld ! refl (stop !))) (look-in ! 40 (sub ! 1 refl (whole !)))) (no-more !)))) (from ! (stop !)) (init ! 4 refl (tt, (tt, (record { fits = fit1 .0 }, tt)))) $
-        assigns ! (addr ! (from ! (fld ! refl (hop ! (look-in ! 38 (sub ! 0 refl (whole !))) (stop !))))) (from ! (stop !)) (init ! 2 refl (tt, tt)) $
-        assigns ! (agg ! (and-then ! (load ! (from ! (stop !)) (look ! 2 refl)) (and-then ! (load ! (from ! (fld ! refl (stop !))) (look-in ! 38 (sub ! 1 refl (whole !)))) (no-more !)))) (from ! (stop !)) (init ! 0 refl (tt, (tt, (record { fits = fit2 .0 }, tt)))) $
+        assigns ! (addr ! (from ! (hop ! (look ! 32 refl) (fld ! refl (stop !))))) (from ! (stop !)) (init ! 24 refl (tt, tt)) $
+        assigns ! (addr ! (from ! (hop ! (look ! 32 refl) (fld ! refl (stop !))))) (from ! (stop !)) (init ! 22 refl (tt, tt)) $
+        assigns ! (addr ! (from ! (hop ! (look ! 32 refl) (fld ! refl (stop !))))) (from ! (stop !)) (init ! 20 refl (tt, tt)) $
+        assigns ! (addr ! (from ! (hop ! (look ! 32 refl) (fld ! refl (stop !))))) (from ! (stop !)) (init ! 18 refl (tt, tt)) $
+        assigns ! (addr ! (from ! (hop ! (look ! 32 refl) (fld ! refl (stop !))))) (from ! (stop !)) (init ! 16 refl (tt, tt)) $
+        assigns ! (addr ! (from ! (hop ! (look ! 32 refl) (fld ! refl (stop !))))) (from ! (stop !)) (init ! 14 refl (tt, tt)) $
+        assigns ! (addr ! (from ! (hop ! (look ! 32 refl) (fld ! refl (stop !))))) (from ! (stop !)) (init ! 12 refl (tt, tt)) $
+        assigns ! (addr ! (from ! (hop ! (look ! 32 refl) (fld ! refl (stop !))))) (from ! (stop !)) (init ! 10 refl (tt, tt)) $
+        assigns ! (addr ! (from ! (hop ! (look ! 32 refl) (fld ! refl (stop !))))) (from ! (stop !)) (init ! 8 refl (tt, tt)) $
+        assigns ! (addr ! (from ! (fld ! refl (hop ! (look-in ! 28 (sub ! 0 refl (whole !))) (stop !))))) (from ! (stop !)) (init ! 6 refl (tt, tt)) $
+        assigns ! (agg ! (and-then ! (load ! (from ! (stop !)) (look ! 6 refl)) (and-then ! (load ! (from ! (fld ! refl (stop !))) (look-in ! 28 (sub ! 1 refl (whole !)))) (no-more !)))) (from ! (stop !)) (init ! 4 refl (tt, (tt, (record { fits = fit1 .0 }, tt)))) $
+        assigns ! (addr ! (from ! (fld ! refl (hop ! (look-in ! 26 (sub ! 0 refl (whole !))) (stop !))))) (from ! (stop !)) (init ! 2 refl (tt, tt)) $
+        assigns ! (agg ! (and-then ! (load ! (from ! (stop !)) (look ! 2 refl)) (and-then ! (load ! (from ! (fld ! refl (stop !))) (look-in ! 26 (sub ! 1 refl (whole !)))) (no-more !)))) (from ! (stop !)) (init ! 0 refl (tt, (tt, (record { fits = fit2 .0 }, tt)))) $
         -- the struct's borrow is opened, and the fields are lent for ν
-        move ! (49 ∷ []) $ fsplit ! $ fsplit3 ! $ drop ! $ move ! (51 ∷ []) $ split ! $ move ! (2 ∷ 3 ∷ 0 ∷ []) $ takes ! tt h b o $ lft-new ! tt (λ ν. move ! (1 ∷ 7 ∷ []) $
+        move ! (37 ∷ []) $ fsplit ! $ fsplit3 ! $ drop ! $ move ! (39 ∷ []) $ split ! $ move ! (2 ∷ 3 ∷ 0 ∷ []) $ takes ! tt h b o $ lft-new ! tt (λ ν. move ! (1 ∷ 7 ∷ []) $
         use2 W (later (some (λ (γs : Names uses). ‵ (owns (Fields ν) (passed ν γs) (ptrsAt (named 0) (ν ∷ []) uses zero b o Tail tail-vals)) ⊛ ‵ (lents (named 0) (ν ∷ []) uses zero b o γs) ⊛ ‵ (kept uses zero (tuple h) b o)))) (lend-all (named 0) (ν ∷ []) 𝓤 H A W b o Tail tail tail-vals uses zero (tuple h)) $ await ! tt $ pick ! (λ γs. split ! $
         move ! (2 ∷ 7 ∷ []) $ join ! $ move ! (0 ∷ 1 ∷ []) $ use2 W (raw (Core 𝓤 Rc Pc H A .pre (to-core ν γs))) (with-fact 𝓤 _ pre) $
         calls-at ! fm (Core 𝓤 Rc Pc H A) known (to-core ν γs)
-        (and-then ! (load ! (from ! (stop !)) (look ! 42 refl)) (and-then ! (load ! (from ! (stop !)) (look ! 40 refl)) (and-then ! (load ! (from ! (stop !)) (look ! 38 refl)) (and-then ! (load ! (from ! (stop !)) (look ! 36 refl)) (and-then ! (load ! (from ! (stop !)) (look ! 34 refl)) (and-then ! (load ! (from ! (stop !)) (look ! 32 refl)) (and-then ! (load ! (from ! (stop !)) (look ! 30 refl)) (and-then ! (load ! (from ! (stop !)) (look ! 28 refl)) (and-then ! (load ! (from ! (stop !)) (look ! 26 refl)) (and-then ! (load ! (from ! (stop !)) (look ! 24 refl)) (and-then ! (load ! (from ! (stop !)) (look ! 22 refl)) (and-then ! (load ! (from ! (stop !)) (look ! 20 refl)) (and-then ! (load ! (from ! (stop !)) (look ! 18 refl)) (and-then ! (load ! (from ! (stop !)) (look ! 16 refl)) (and-then ! (load ! (from ! (stop !)) (look ! 14 refl)) (and-then ! (load ! (from ! (stop !)) (look ! 48 refl)) (and-then ! (load ! (from ! (stop !)) (look ! 10 refl)) (and-then ! (load ! (from ! (stop !)) (look ! 6 refl)) (no-more !))))))))))))))))))) (λ v.
+        (and-then ! (load ! (from ! (stop !)) (look ! 30 refl)) (and-then ! (load ! (from ! (stop !)) (look ! 28 refl)) (and-then ! (load ! (from ! (stop !)) (look ! 26 refl)) (and-then ! (load ! (from ! (stop !)) (look ! 24 refl)) (and-then ! (load ! (from ! (stop !)) (look ! 22 refl)) (and-then ! (load ! (from ! (stop !)) (look ! 20 refl)) (and-then ! (load ! (from ! (stop !)) (look ! 18 refl)) (and-then ! (load ! (from ! (stop !)) (look ! 16 refl)) (and-then ! (load ! (from ! (stop !)) (look ! 14 refl)) (and-then ! (load ! (from ! (stop !)) (look ! 36 refl)) (and-then ! (load ! (from ! (stop !)) (look ! 10 refl)) (and-then ! (load ! (from ! (stop !)) (look ! 6 refl)) (no-more !))))))))))))) (λ v.
         use1 W (later (some (λ (r : Report). ((‵ (flft (ν ∷ []) fullShare) ⊛ (‵ (flft κ1 q1) ⊛ ‵ (flft κ2 q2) ⊛ ‵ ftrue)) ⊛ ‵ (Res.the-row .own r (v ∷ []))) ⊛ raw (ensured 𝓤 H A core-ended (core-clauses 𝓤 Rc Pc) (ν ∷ [], (κ1, (κ2, tt))) (passed ν γs) tt r)))) (id⊢ 𝓤 _) $ await ! tt $ pick ! (λ r. split ! $ move ! (1 ∷ []) $
-        use1 W (some (λ (ws : (List ℕ × (List ℕ × (List ℕ × (List ℕ × (List ℕ × (List ℕ × (List ℕ × (ℕ × (ℕ × (ℕ × (ℕ × (ℕ × (ℕ × (ℕ × (List ℕ × (Unit {0} × (List ℕ × (List ℕ × Unit {0}))))))))))))))))))). ‵ (finals (named 0) (ν ∷ []) uses γs (ws .0, (ws .1 .0, (ws .1 .1 .0, (ws .1 .1 .1 .0, (ws .1 .1 .1 .1 .0, (ws .1 .1 .1 .1 .1 .0, (ws .1 .1 .1 .1 .1 .1 .0, (ws .1 .1 .1 .1 .1 .1 .1 .0, (ws .1 .1 .1 .1 .1 .1 .1 .1 .0, (ws .1 .1 .1 .1 .1 .1 .1 .1 .1 .0, (ws .1 .1 .1 .1 .1 .1 .1 .1 .1 .1 .0, (ws .1 .1 .1 .1 .1 .1 .1 .1 .1 .1 .1 .0, (ws .1 .1 .1 .1 .1 .1 .1 .1 .1 .1 .1 .1 .0, (ws .1 .1 .1 .1 .1 .1 .1 .1 .1 .1 .1 .1 .1 .0, (ws .1 .1 .1 .1 .1 .1 .1 .1 .1 .1 .1 .1 .1 .1 .0, tt))))))))))))))) (fsep ftrue (fsep (fsep (finally u8 (p1 .name) (ws .1 .1 .1 .1 .1 .1 .1 .1 .1 .1 .1 .1 .1 .1 .1 .1 .0)) (feq ℕ (length (ws .1 .1 .1 .1 .1 .1 .1 .1 .1 .1 .1 .1 .1 .1 .1 .1 .0)) (length (p1 .now)))) (fsep (fsep (finally u16 (p2 .name) (ws .1 .1 .1 .1 .1 .1 .1 .1 .1 .1 .1 .1 .1 .1 .1 .1 .1 .0)) (feq ℕ (length (ws .1 .1 .1 .1 .1 .1 .1 .1 .1 .1 .1 .1 .1 .1 .1 .1 .1 .0)) (length (p2 .now)))) ftrue)))) ⊛ raw (fact 𝓤 (Rc (h .ids) (h .asked) (h .callers) (h .deadlines) (h .counts) (h .clients) (h .originals) (h .top) (h .cursor) (h .attached) (h .clock) (h .timeout) (h .join) (h .tagged) (h .tags) p0 (p1 .now) (p2 .now) r (ws .0) (ws .1 .0) (ws .1 .1 .0) (ws .1 .1 .1 .0) (ws .1 .1 .1 .1 .0) (ws .1 .1 .1 .1 .1 .0) (ws .1 .1 .1 .1 .1 .1 .0) (ws .1 .1 .1 .1 .1 .1 .1 .0) (ws .1 .1 .1 .1 .1 .1 .1 .1 .0) (ws .1 .1 .1 .1 .1 .1 .1 .1 .1 .0) (ws .1 .1 .1 .1 .1 .1 .1 .1 .1 .1 .0) (ws .1 .1 .1 .1 .1 .1 .1 .1 .1 .1 .1 .0) (ws .1 .1 .1 .1 .1 .1 .1 .1 .1 .1 .1 .1 .0) (ws .1 .1 .1 .1 .1 .1 .1 .1 .1 .1 .1 .1 .1 .0) (ws .1 .1 .1 .1 .1 .1 .1 .1 .1 .1 .1 .1 .1 .1 .0) (ws .1 .1 .1 .1 .1 .1 .1 .1 .1 .1 .1 .1 .1 .1 .1 .1 .0) (ws .1 .1 .1 .1 .1 .1 .1 .1 .1 .1 .1 .1 .1 .1 .1 .1 .1 .0))))) (id⊢ 𝓤 _) $ pick ! (λ ws. split ! $ move ! (1 ∷ []) $
-        heard ! (Rc (h .ids) (h .asked) (h .callers) (h .deadlines) (h .counts) (h .clients) (h .originals) (h .top) (h .cursor) (h .attached) (h .clock) (h .timeout) (h .join) (h .tagged) (h .tags) p0 (p1 .now) (p2 .now) r (ws .0) (ws .1 .0) (ws .1 .1 .0) (ws .1 .1 .1 .0) (ws .1 .1 .1 .1 .0) (ws .1 .1 .1 .1 .1 .0) (ws .1 .1 .1 .1 .1 .1 .0) (ws .1 .1 .1 .1 .1 .1 .1 .0) (ws .1 .1 .1 .1 .1 .1 .1 .1 .0) (ws .1 .1 .1 .1 .1 .1 .1 .1 .1 .0) (ws .1 .1 .1 .1 .1 .1 .1 .1 .1 .1 .0) (ws .1 .1 .1 .1 .1 .1 .1 .1 .1 .1 .1 .0) (ws .1 .1 .1 .1 .1 .1 .1 .1 .1 .1 .1 .1 .0) (ws .1 .1 .1 .1 .1 .1 .1 .1 .1 .1 .1 .1 .1 .0) (ws .1 .1 .1 .1 .1 .1 .1 .1 .1 .1 .1 .1 .1 .1 .0) (ws .1 .1 .1 .1 .1 .1 .1 .1 .1 .1 .1 .1 .1 .1 .1 .1 .0) (ws .1 .1 .1 .1 .1 .1 .1 .1 .1 .1 .1 .1 .1 .1 .1 .1 .1 .0)) (λ e. move ! (1 ∷ []) $ split ! $ split ! $ lft-end ! tt $ move ! (0 ∷ 4 ∷ 3 ∷ []) $
-        use3 W (later (‵ (partsAt fullShare ms zero (after uses (tuple h) (ws .0, (ws .1 .0, (ws .1 .1 .0, (ws .1 .1 .1 .0, (ws .1 .1 .1 .1 .0, (ws .1 .1 .1 .1 .1 .0, (ws .1 .1 .1 .1 .1 .1 .0, (ws .1 .1 .1 .1 .1 .1 .1 .0, (ws .1 .1 .1 .1 .1 .1 .1 .1 .0, (ws .1 .1 .1 .1 .1 .1 .1 .1 .1 .0, (ws .1 .1 .1 .1 .1 .1 .1 .1 .1 .1 .0, (ws .1 .1 .1 .1 .1 .1 .1 .1 .1 .1 .1 .0, (ws .1 .1 .1 .1 .1 .1 .1 .1 .1 .1 .1 .1 .0, (ws .1 .1 .1 .1 .1 .1 .1 .1 .1 .1 .1 .1 .1 .0, (ws .1 .1 .1 .1 .1 .1 .1 .1 .1 .1 .1 .1 .1 .1 .0, tt)))))))))))))))) b o) ⊛ ‵ (fsep ftrue (fsep (fsep (finally u8 (p1 .name) (ws .1 .1 .1 .1 .1 .1 .1 .1 .1 .1 .1 .1 .1 .1 .1 .1 .0)) (feq ℕ (length (ws .1 .1 .1 .1 .1 .1 .1 .1 .1 .1 .1 .1 .1 .1 .1 .1 .0)) (length (p1 .now)))) (fsep (fsep (finally u16 (p2 .name) (ws .1 .1 .1 .1 .1 .1 .1 .1 .1 .1 .1 .1 .1 .1 .1 .1 .1 .0)) (feq ℕ (length (ws .1 .1 .1 .1 .1 .1 .1 .1 .1 .1 .1 .1 .1 .1 .1 .1 .1 .0)) (length (p2 .now)))) ftrue))))) (back-all (named 0) (ν ∷ []) 𝓤 H A W b o uses zero γs (tuple h) (ws .0, (ws .1 .0, (ws .1 .1 .0, (ws .1 .1 .1 .0, (ws .1 .1 .1 .1 .0, (ws .1 .1 .1 .1 .1 .0, (ws .1 .1 .1 .1 .1 .1 .0, (ws .1 .1 .1 .1 .1 .1 .1 .0, (ws .1 .1 .1 .1 .1 .1 .1 .1 .0, (ws .1 .1 .1 .1 .1 .1 .1 .1 .1 .0, (ws .1 .1 .1 .1 .1 .1 .1 .1 .1 .1 .0, (ws .1 .1 .1 .1 .1 .1 .1 .1 .1 .1 .1 .0, (ws .1 .1 .1 .1 .1 .1 .1 .1 .1 .1 .1 .1 .0, (ws .1 .1 .1 .1 .1 .1 .1 .1 .1 .1 .1 .1 .1 .0, (ws .1 .1 .1 .1 .1 .1 .1 .1 .1 .1 .1 .1 .1 .1 .0, tt))))))))))))))) (fsep ftrue (fsep (fsep (finally u8 (p1 .name) (ws .1 .1 .1 .1 .1 .1 .1 .1 .1 .1 .1 .1 .1 .1 .1 .1 .0)) (feq ℕ (length (ws .1 .1 .1 .1 .1 .1 .1 .1 .1 .1 .1 .1 .1 .1 .1 .1 .0)) (length (p1 .now)))) (fsep (fsep (finally u16 (p2 .name) (ws .1 .1 .1 .1 .1 .1 .1 .1 .1 .1 .1 .1 .1 .1 .1 .1 .1 .0)) (feq ℕ (length (ws .1 .1 .1 .1 .1 .1 .1 .1 .1 .1 .1 .1 .1 .1 .1 .1 .1 .0)) (length (p2 .now)))) ftrue)))) $ await ! tt $ split ! $
-        move ! (0 ∷ 4 ∷ 5 ∷ 6 ∷ 7 ∷ []) $ gives ! tt (record { ids = (ws .0); asked = (ws .1 .0); callers = (ws .1 .1 .0); deadlines = (ws .1 .1 .1 .0); counts = (ws .1 .1 .1 .1 .0); clients = (ws .1 .1 .1 .1 .1 .0); originals = (ws .1 .1 .1 .1 .1 .1 .0); top = (ws .1 .1 .1 .1 .1 .1 .1 .0); cursor = (ws .1 .1 .1 .1 .1 .1 .1 .1 .0); attached = (ws .1 .1 .1 .1 .1 .1 .1 .1 .1 .0); clock = (ws .1 .1 .1 .1 .1 .1 .1 .1 .1 .1 .0); timeout = (ws .1 .1 .1 .1 .1 .1 .1 .1 .1 .1 .1 .0); join = (ws .1 .1 .1 .1 .1 .1 .1 .1 .1 .1 .1 .1 .0); tagged = (ws .1 .1 .1 .1 .1 .1 .1 .1 .1 .1 .1 .1 .1 .0); tags = (ws .1 .1 .1 .1 .1 .1 .1 .1 .1 .1 .1 .1 .1 .1 .0) }) b o $
+        use1 W (some (λ (ws : (List ℕ × (List ℕ × (List ℕ × (List ℕ × (List ℕ × (List ℕ × (List ℕ × (ℕ × (ℕ × (Unit {0} × (List ℕ × (List ℕ × Unit {0}))))))))))))). ‵ (finals (named 0) (ν ∷ []) uses γs (ws .0, (ws .1 .0, (ws .1 .1 .0, (ws .1 .1 .1 .0, (ws .1 .1 .1 .1 .0, (ws .1 .1 .1 .1 .1 .0, (ws .1 .1 .1 .1 .1 .1 .0, (ws .1 .1 .1 .1 .1 .1 .1 .0, (ws .1 .1 .1 .1 .1 .1 .1 .1 .0, tt))))))))) (fsep ftrue (fsep (fsep (finally u8 (p1 .name) (ws .1 .1 .1 .1 .1 .1 .1 .1 .1 .1 .0)) (feq ℕ (length (ws .1 .1 .1 .1 .1 .1 .1 .1 .1 .1 .0)) (length (p1 .now)))) (fsep (fsep (finally u16 (p2 .name) (ws .1 .1 .1 .1 .1 .1 .1 .1 .1 .1 .1 .0)) (feq ℕ (length (ws .1 .1 .1 .1 .1 .1 .1 .1 .1 .1 .1 .0)) (length (p2 .now)))) ftrue)))) ⊛ raw (fact 𝓤 (Rc (h .ids) (h .asked) (h .callers) (h .deadlines) (h .counts) (h .clients) (h .originals) (h .top) (h .clock) p0 (p1 .now) (p2 .now) r (ws .0) (ws .1 .0) (ws .1 .1 .0) (ws .1 .1 .1 .0) (ws .1 .1 .1 .1 .0) (ws .1 .1 .1 .1 .1 .0) (ws .1 .1 .1 .1 .1 .1 .0) (ws .1 .1 .1 .1 .1 .1 .1 .0) (ws .1 .1 .1 .1 .1 .1 .1 .1 .0) (ws .1 .1 .1 .1 .1 .1 .1 .1 .1 .1 .0) (ws .1 .1 .1 .1 .1 .1 .1 .1 .1 .1 .1 .0))))) (id⊢ 𝓤 _) $ pick ! (λ ws. split ! $ move ! (1 ∷ []) $
+        heard ! (Rc (h .ids) (h .asked) (h .callers) (h .deadlines) (h .counts) (h .clients) (h .originals) (h .top) (h .clock) p0 (p1 .now) (p2 .now) r (ws .0) (ws .1 .0) (ws .1 .1 .0) (ws .1 .1 .1 .0) (ws .1 .1 .1 .1 .0) (ws .1 .1 .1 .1 .1 .0) (ws .1 .1 .1 .1 .1 .1 .0) (ws .1 .1 .1 .1 .1 .1 .1 .0) (ws .1 .1 .1 .1 .1 .1 .1 .1 .0) (ws .1 .1 .1 .1 .1 .1 .1 .1 .1 .1 .0) (ws .1 .1 .1 .1 .1 .1 .1 .1 .1 .1 .1 .0)) (λ e. move ! (1 ∷ []) $ split ! $ split ! $ lft-end ! tt $ move ! (0 ∷ 4 ∷ 3 ∷ []) $
+        use3 W (later (‵ (partsAt fullShare ms zero (after uses (tuple h) (ws .0, (ws .1 .0, (ws .1 .1 .0, (ws .1 .1 .1 .0, (ws .1 .1 .1 .1 .0, (ws .1 .1 .1 .1 .1 .0, (ws .1 .1 .1 .1 .1 .1 .0, (ws .1 .1 .1 .1 .1 .1 .1 .0, (ws .1 .1 .1 .1 .1 .1 .1 .1 .0, tt)))))))))) b o) ⊛ ‵ (fsep ftrue (fsep (fsep (finally u8 (p1 .name) (ws .1 .1 .1 .1 .1 .1 .1 .1 .1 .1 .0)) (feq ℕ (length (ws .1 .1 .1 .1 .1 .1 .1 .1 .1 .1 .0)) (length (p1 .now)))) (fsep (fsep (finally u16 (p2 .name) (ws .1 .1 .1 .1 .1 .1 .1 .1 .1 .1 .1 .0)) (feq ℕ (length (ws .1 .1 .1 .1 .1 .1 .1 .1 .1 .1 .1 .0)) (length (p2 .now)))) ftrue))))) (back-all (named 0) (ν ∷ []) 𝓤 H A W b o uses zero γs (tuple h) (ws .0, (ws .1 .0, (ws .1 .1 .0, (ws .1 .1 .1 .0, (ws .1 .1 .1 .1 .0, (ws .1 .1 .1 .1 .1 .0, (ws .1 .1 .1 .1 .1 .1 .0, (ws .1 .1 .1 .1 .1 .1 .1 .0, (ws .1 .1 .1 .1 .1 .1 .1 .1 .0, tt))))))))) (fsep ftrue (fsep (fsep (finally u8 (p1 .name) (ws .1 .1 .1 .1 .1 .1 .1 .1 .1 .1 .0)) (feq ℕ (length (ws .1 .1 .1 .1 .1 .1 .1 .1 .1 .1 .0)) (length (p1 .now)))) (fsep (fsep (finally u16 (p2 .name) (ws .1 .1 .1 .1 .1 .1 .1 .1 .1 .1 .1 .0)) (feq ℕ (length (ws .1 .1 .1 .1 .1 .1 .1 .1 .1 .1 .1 .0)) (length (p2 .now)))) ftrue)))) $ await ! tt $ split ! $
+        move ! (0 ∷ 4 ∷ 5 ∷ 6 ∷ 7 ∷ []) $ gives ! tt (record { ids = (ws .0); asked = (ws .1 .0); callers = (ws .1 .1 .0); deadlines = (ws .1 .1 .1 .0); counts = (ws .1 .1 .1 .1 .0); clients = (ws .1 .1 .1 .1 .1 .0); originals = (ws .1 .1 .1 .1 .1 .1 .0); top = (ws .1 .1 .1 .1 .1 .1 .1 .0); cursor = h .cursor; attached = h .attached; clock = (ws .1 .1 .1 .1 .1 .1 .1 .1 .0); timeout = h .timeout; join = h .join; tagged = h .tagged; tags = h .tags }) b o $
         move ! (3 ∷ []) $ fsplit ! $ drop ! $ fsplit ! $ fsplit ! $ move ! (1 ∷ []) $ feqL ! (λ e1. move ! (1 ∷ []) $ fsplit ! $ fsplit ! $ move ! (1 ∷ []) $ feqL ! (λ e2. move ! (1 ∷ []) $ drop ! $ move ! (6 ∷ []) $ peeks ! Res.the-row (Is Res.the-row) (shows 𝓤 H A Res.the-row) r (v ∷ []) (λ is.
-        move ! (0 ∷ 2 ∷ 1 ∷ 3 ∷ 4 ∷ 5 ∷ 6 ∷ []) $ land ! (from ! (stop !)) (init ! 53 refl (LL.lawful Res.the-type Res′.the-laws 𝓤 H A W .typed r _ is .0)) $
-        returns ! (look ! 53 refl) $ forget ! 7 refl $ forget ! 9 refl $ forget ! 11 refl $ forget ! 13 refl $ forget ! 15 refl $ forget ! 17 refl $ forget ! 19 refl $ forget ! 21 refl $ forget ! 23 refl $ forget ! 25 refl $ forget ! 27 refl $ forget ! 29 refl $ forget ! 31 refl $ forget ! 33 refl $ forget ! 35 refl $ forget ! 37 refl $ forget ! 39 refl $ forget ! 41 refl $ forget ! 43 refl $ forget ! 45 refl $ forget ! 47 refl $ forget ! 49 refl $ forget ! 51 refl $ forget ! 53 refl $
-        move ! (53 ∷ 54 ∷ []) $ free1 ! $ move ! (51 ∷ 52 ∷ []) $ free1 ! $ move ! (49 ∷ 50 ∷ []) $ free1 ! $ move ! (47 ∷ 48 ∷ []) $ free1 ! $ move ! (45 ∷ 46 ∷ []) $ free1 ! $ move ! (43 ∷ 44 ∷ []) $ free1 ! $ move ! (41 ∷ 42 ∷ []) $ free1 ! $ move ! (39 ∷ 40 ∷ []) $ free1 ! $ move ! (37 ∷ 38 ∷ []) $ free1 ! $ move ! (35 ∷ 36 ∷ []) $ free1 ! $ move ! (33 ∷ 34 ∷ []) $ free1 ! $ move ! (31 ∷ 32 ∷ []) $ free1 ! $ move ! (29 ∷ 30 ∷ []) $ free1 ! $ move ! (27 ∷ 28 ∷ []) $ free1 ! $ move ! (25 ∷ 26 ∷ []) $ free1 ! $ move ! (23 ∷ 24 ∷ []) $ free1 ! $ move ! (21 ∷ 22 ∷ []) $ free1 ! $ move ! (19 ∷ 20 ∷ []) $ free1 ! $ move ! (17 ∷ 18 ∷ []) $ free1 ! $ move ! (15 ∷ 16 ∷ []) $ free1 ! $ move ! (13 ∷ 14 ∷ []) $ free1 ! $ move ! (11 ∷ 12 ∷ []) $ free1 ! $ move ! (9 ∷ 10 ∷ []) $ free1 ! $ move ! (7 ∷ 8 ∷ []) $ free1 ! $ free0 ! $
-        keep ! (0 ∷ 1 ∷ 2 ∷ 3 ∷ 4 ∷ 5 ∷ 6 ∷ []) $ by ! (exits r v (record { ids = (ws .0); asked = (ws .1 .0); callers = (ws .1 .1 .0); deadlines = (ws .1 .1 .1 .0); counts = (ws .1 .1 .1 .1 .0); clients = (ws .1 .1 .1 .1 .1 .0); originals = (ws .1 .1 .1 .1 .1 .1 .0); top = (ws .1 .1 .1 .1 .1 .1 .1 .0); cursor = (ws .1 .1 .1 .1 .1 .1 .1 .1 .0); attached = (ws .1 .1 .1 .1 .1 .1 .1 .1 .1 .0); clock = (ws .1 .1 .1 .1 .1 .1 .1 .1 .1 .1 .0); timeout = (ws .1 .1 .1 .1 .1 .1 .1 .1 .1 .1 .1 .0); join = (ws .1 .1 .1 .1 .1 .1 .1 .1 .1 .1 .1 .1 .0); tagged = (ws .1 .1 .1 .1 .1 .1 .1 .1 .1 .1 .1 .1 .1 .0); tags = (ws .1 .1 .1 .1 .1 .1 .1 .1 .1 .1 .1 .1 .1 .1 .0) }) (ws .1 .1 .1 .1 .1 .1 .1 .1 .1 .1 .1 .1 .1 .1 .1 .1 .0) (ws .1 .1 .1 .1 .1 .1 .1 .1 .1 .1 .1 .1 .1 .1 .1 .1 .1 .0) (imp h p0 (p1 .now) (p2 .now) r (ws .0) (ws .1 .0) (ws .1 .1 .0) (ws .1 .1 .1 .0) (ws .1 .1 .1 .1 .0) (ws .1 .1 .1 .1 .1 .0) (ws .1 .1 .1 .1 .1 .1 .0) (ws .1 .1 .1 .1 .1 .1 .1 .0) (ws .1 .1 .1 .1 .1 .1 .1 .1 .0) (ws .1 .1 .1 .1 .1 .1 .1 .1 .1 .0) (ws .1 .1 .1 .1 .1 .1 .1 .1 .1 .1 .0) (ws .1 .1 .1 .1 .1 .1 .1 .1 .1 .1 .1 .0) (ws .1 .1 .1 .1 .1 .1 .1 .1 .1 .1 .1 .1 .0) (ws .1 .1 .1 .1 .1 .1 .1 .1 .1 .1 .1 .1 .1 .0) (ws .1 .1 .1 .1 .1 .1 .1 .1 .1 .1 .1 .1 .1 .1 .0) (ws .1 .1 .1 .1 .1 .1 .1 .1 .1 .1 .1 .1 .1 .1 .1 .1 .0) (ws .1 .1 .1 .1 .1 .1 .1 .1 .1 .1 .1 .1 .1 .1 .1 .1 .1 .0) ok e) e1 e2))))))))))))))))))))))))))))))))))
+        move ! (0 ∷ 2 ∷ 1 ∷ 3 ∷ 4 ∷ 5 ∷ 6 ∷ []) $ land ! (from ! (stop !)) (init ! 41 refl (LL.lawful Res.the-type Res′.the-laws 𝓤 H A W .typed r _ is .0)) $
+        returns ! (look ! 41 refl) $ forget ! 7 refl $ forget ! 9 refl $ forget ! 11 refl $ forget ! 13 refl $ forget ! 15 refl $ forget ! 17 refl $ forget ! 19 refl $ forget ! 21 refl $ forget ! 23 refl $ forget ! 25 refl $ forget ! 27 refl $ forget ! 29 refl $ forget ! 31 refl $ forget ! 33 refl $ forget ! 35 refl $ forget ! 37 refl $ forget ! 39 refl $ forget ! 41 refl $
+        move ! (41 ∷ 42 ∷ []) $ free1 ! $ move ! (39 ∷ 40 ∷ []) $ free1 ! $ move ! (37 ∷ 38 ∷ []) $ free1 ! $ move ! (35 ∷ 36 ∷ []) $ free1 ! $ move ! (33 ∷ 34 ∷ []) $ free1 ! $ move ! (31 ∷ 32 ∷ []) $ free1 ! $ move ! (29 ∷ 30 ∷ []) $ free1 ! $ move ! (27 ∷ 28 ∷ []) $ free1 ! $ move ! (25 ∷ 26 ∷ []) $ free1 ! $ move ! (23 ∷ 24 ∷ []) $ free1 ! $ move ! (21 ∷ 22 ∷ []) $ free1 ! $ move ! (19 ∷ 20 ∷ []) $ free1 ! $ move ! (17 ∷ 18 ∷ []) $ free1 ! $ move ! (15 ∷ 16 ∷ []) $ free1 ! $ move ! (13 ∷ 14 ∷ []) $ free1 ! $ move ! (11 ∷ 12 ∷ []) $ free1 ! $ move ! (9 ∷ 10 ∷ []) $ free1 ! $ move ! (7 ∷ 8 ∷ []) $ free1 ! $ free0 ! $
+        keep ! (0 ∷ 1 ∷ 2 ∷ 3 ∷ 4 ∷ 5 ∷ 6 ∷ []) $ by ! (exits r v (record { ids = (ws .0); asked = (ws .1 .0); callers = (ws .1 .1 .0); deadlines = (ws .1 .1 .1 .0); counts = (ws .1 .1 .1 .1 .0); clients = (ws .1 .1 .1 .1 .1 .0); originals = (ws .1 .1 .1 .1 .1 .1 .0); top = (ws .1 .1 .1 .1 .1 .1 .1 .0); cursor = h .cursor; attached = h .attached; clock = (ws .1 .1 .1 .1 .1 .1 .1 .1 .0); timeout = h .timeout; join = h .join; tagged = h .tagged; tags = h .tags }) (ws .1 .1 .1 .1 .1 .1 .1 .1 .1 .1 .0) (ws .1 .1 .1 .1 .1 .1 .1 .1 .1 .1 .1 .0) (imp h p0 (p1 .now) (p2 .now) r (ws .0) (ws .1 .0) (ws .1 .1 .0) (ws .1 .1 .1 .0) (ws .1 .1 .1 .1 .0) (ws .1 .1 .1 .1 .1 .0) (ws .1 .1 .1 .1 .1 .1 .0) (ws .1 .1 .1 .1 .1 .1 .1 .0) (ws .1 .1 .1 .1 .1 .1 .1 .1 .0) (ws .1 .1 .1 .1 .1 .1 .1 .1 .1 .1 .0) (ws .1 .1 .1 .1 .1 .1 .1 .1 .1 .1 .1 .0) ok e) e1 e2))))))))))))))))))))))))))))
 
-module _ {M : Type 1} (𝓤 : URA M) (H : Heap 𝓤) (A : Atoms 𝓤) (W : Given 𝓤 H A) (g : Name) (R : Rel) (Pe : Pre) (Rc : CoreRel) (Pc : CorePre) (imp : ((h : Device) (p0 : ℕ) (p1 : List ℕ) (p2 : List ℕ) (r : Report) (w0 : List ℕ) (w1 : List ℕ) (w2 : List ℕ) (w3 : List ℕ) (w4 : List ℕ) (w5 : List ℕ) (w6 : List ℕ) (w7 : ℕ) (w8 : ℕ) (w9 : ℕ) (w10 : ℕ) (w11 : ℕ) (w12 : ℕ) (w13 : ℕ) (w14 : List ℕ) (z1 : List ℕ) (z2 : List ℕ) → Pe h p0 p1 p2 → Rc (h .ids) (h .asked) (h .callers) (h .deadlines) (h .counts) (h .clients) (h .originals) (h .top) (h .cursor) (h .attached) (h .clock) (h .timeout) (h .join) (h .tagged) (h .tags) p0 p1 p2 r w0 w1 w2 w3 w4 w5 w6 w7 w8 w9 w10 w11 w12 w13 w14 z1 z2 → R h p0 p1 p2 r (record { ids = w0; asked = w1; callers = w2; deadlines = w3; counts = w4; clients = w5; originals = w6; top = w7; cursor = w8; attached = w9; clock = w10; timeout = w11; join = w12; tagged = w13; tags = w14 }) z1 z2)) (pimp : ((h : Device) (p0 : ℕ) (p1 : List ℕ) (p2 : List ℕ) → Pe h p0 p1 p2 → Pc (h .ids) (h .asked) (h .callers) (h .deadlines) (h .counts) (h .clients) (h .originals) (h .top) (h .cursor) (h .attached) (h .clock) (h .timeout) (h .join) (h .tagged) (h .tags) p0 p1 p2)) where
+module _ {M : Type 1} (𝓤 : URA M) (H : Heap 𝓤) (A : Atoms 𝓤) (W : Given 𝓤 H A) (g : Name) (R : Rel) (Pe : Pre) (Rc : CoreRel) (Pc : CorePre) (imp : ((h : Device) (p0 : ℕ) (p1 : List ℕ) (p2 : List ℕ) (r : Report) (w0 : List ℕ) (w1 : List ℕ) (w2 : List ℕ) (w3 : List ℕ) (w4 : List ℕ) (w5 : List ℕ) (w6 : List ℕ) (w7 : ℕ) (w8 : ℕ) (z1 : List ℕ) (z2 : List ℕ) → Pe h p0 p1 p2 → Rc (h .ids) (h .asked) (h .callers) (h .deadlines) (h .counts) (h .clients) (h .originals) (h .top) (h .clock) p0 p1 p2 r w0 w1 w2 w3 w4 w5 w6 w7 w8 z1 z2 → R h p0 p1 p2 r (record { ids = w0; asked = w1; callers = w2; deadlines = w3; counts = w4; clients = w5; originals = w6; top = w7; cursor = h .cursor; attached = h .attached; clock = w8; timeout = h .timeout; join = h .join; tagged = h .tagged; tags = h .tags }) z1 z2)) (pimp : ((h : Device) (p0 : ℕ) (p1 : List ℕ) (p2 : List ℕ) → Pe h p0 p1 p2 → Pc (h .ids) (h .asked) (h .callers) (h .deadlines) (h .counts) (h .clients) (h .originals) (h .top) (h .clock) p0 p1 p2)) where
   entry-walks : (C : Calls 𝓤 H) (Λ : Loops 𝓤 H) → FmC 𝓤 H (W .laws) C → Triple 𝓤 (C g) (Core 𝓤 Rc Pc H A) → Walks 𝓤 H A ended stayed (WpFn 𝓤 H C Λ (function g)) (clauses 𝓤 R Pe)
   entry-walks C Λ fm known = walked 𝓤 H A ended stayed (clauses 𝓤 R Pe) (WpFn 𝓤 H C Λ (function g)) (λ κs. (ptr-vals, (uint-vals w64, (slice-vals, (slice-vals, tt)))))
       (λ κs. (mut-tells (named 0) (κs .0) T.the-row, (uint-tells w64, (mut-slice-tells (named 1) (κs .1 .0) u8, (mut-slice-tells (named 2) (κs .1 .1 .0) u16, tt)))))

@@ -43,7 +43,7 @@ lent ids asked callers deadlines counts clients originals top cursor attached cl
 abbrev pub seated : State → Columns → ℕ → State
 seated s c a = state c (s .cursor) a (s .clock) (s .settings)
 
--- the state that some lent fields are, beside what else the state s has: the set alone; the parties; the ids; the ids and the deadlines
+-- the state that some lent fields are, beside what else the state s has: the set alone; the parties; the ids; the ids and the deadlines; the table and the clock
 abbrev pub lentSet : State → (attached : ℕ) → State
 lentSet s a = seated s (s .table) a
 
@@ -61,6 +61,9 @@ abbrev pub lentDeadlines : State → (ids deadlines : List ℕ) (top : ℕ) → 
 lentDeadlines s ids deadlines top =
     let c = s .table in
     seated s (columns ids (c .asked) (c .callers) deadlines (c .counts) (c .clients) (c .originals) top) (s .attached)
+
+abbrev pub lentTable : State → Columns → (clock : ℕ) → State
+lentTable s c t = state c (s .cursor) (s .attached) t (s .settings)
 
 -- the machine that it is
 abbrev pub machineOf : State → Machine

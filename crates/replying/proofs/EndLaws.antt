@@ -21,7 +21,7 @@ use Rattle.table.specs.Places.{holds, isDue, isSooner}
 use Rattle.table.specs.Changes.{reach}
 use Rattle.table.proofs.EntryLaws.{held}
 use Rattle.table.proofs.ChangeLaws.{remove-is-reply, remove-sound}
-use Rattle.proxy.specs.State.{State, state, valueIn, machineOf, Sounds}
+use Rattle.proxy.specs.State.{State, lentTable, valueIn, machineOf, Sounds}
 use Rattle.proxy.proofs.StateLaws.{timed}
 
 -- the proxy id of that number
@@ -31,8 +31,7 @@ named n = record { 0 = n }
 -- the state with other ids and another top, at another time
 abbrev pub ended : State → List ℕ → ℕ → ℕ → State
 ended s is top t =
-    state (columns is (s .table .asked) (s .table .callers) (s .table .deadlines) (s .table .counts) (s .table .clients) (s .table .originals) top) (s .cursor) (s .attached) t
-    (s .settings)
+    lentTable s (columns is (s .table .asked) (s .table .callers) (s .table .deadlines) (s .table .counts) (s .table .clients) (s .table .originals) top) t
 
 -- a live place
 pub record Living (c : Columns) (k : ℕ) : Type 0 where
@@ -55,30 +54,31 @@ holder-lives c s id = found-lives c s (holds (c .ids) id) _ (λ k t z. let e = e
 pub due-lives : (c : Columns) → Sound c → (t k : ℕ) → k ≡ best (isDue (c .ids) (c .deadlines) t) (isSooner (c .ids) (c .deadlines)) places (c .top) → (k ≡ places → ⊥) → Living c k
 due-lives c s t = found-lives c s (isDue (c .ids) (c .deadlines) t) _ (λ k e. eqb-false _ _ (not-true _ (and-left _ _ e)))
 
-module _ (s : State) (d : Sounds s) (k : ℕ) (l : Living (s .table) k) where
+module _ (c : Columns) (s : Sound c) (k : ℕ) (l : Living c k) where
   -- A live place has an id.
-  pub has-id : (k < places) × (0 < getD (s .table .ids) k 0) × (getD (s .table .ids) k 0 ≤ ids)
-  has-id = let n = l .live in (l .low, omega (arith, n), d .table .low k)
+  pub has-id : (k < places) × (0 < getD (c .ids) k 0) × (getD (c .ids) k 0 ≤ ids)
+  has-id = let n = l .live in (l .low, omega (arith, n), s .low k)
 
   -- Its entry may end.
-  pub may-end : (list : ℕ) → listBuffer ≤ list → (k < places) × (getD (s .table .counts) k 0 ≤ room) × (listBuffer ≤ list) × (s .table .top ≤ places)
-  may-end list h = (l .low, d .table .roomy k, h, d .table .within)
+  pub may-end : (list : ℕ) → listBuffer ≤ list → (k < places) × (getD (c .counts) k 0 ≤ room) × (listBuffer ≤ list) × (c .top ≤ places)
+  may-end list h = (l .low, s .roomy k, h, s .within)
 
   -- What was asked is something that may be asked.
-  pub asks-proper : Proper (whatOf (getD (s .table .asked) k 0))
-  asks-proper = d .table .proper k (l .live) .0
+  pub asks-proper : Proper (whatOf (getD (c .asked) k 0))
+  asks-proper = s .proper k (l .live) .0
 
-  module _ (t : ℕ) (is : List ℕ) (top : ℕ) (f : (is ≡ set (s .table .ids) k 0) × (top ≡ reach is (s .table .top))) where
-    -- The state with the place freed is the machine after the reply to its entry, and after its timeout.
-    pub ended-is : machineOf (ended s is top t) ≡ moved (machineOf (timed s t)) (reply k (held (s .table) k))
-    ended-is =
-        ap (λ b. machine b (s .attached)) (remove-is-reply (valueIn (s .settings)) (s .cursor) t (s .table) (d .table) k is top (l .low) f (held (s .table) k))
+module _ (s : State) (d : Sounds s) (k : ℕ) (l : Living (s .table) k) (t : ℕ) (is : List ℕ) (top : ℕ)
+    (f : (is ≡ set (s .table .ids) k 0) × (top ≡ reach is (s .table .top))) where
+  -- The state with the place freed is the machine after the reply to its entry, and after its timeout.
+  pub ended-is : machineOf (ended s is top t) ≡ moved (machineOf (timed s t)) (reply k (held (s .table) k))
+  ended-is =
+      ap (λ b. machine b (s .attached)) (remove-is-reply (valueIn (s .settings)) (s .cursor) t (s .table) (d .table) k is top (l .low) f (held (s .table) k))
 
-    -- It is sound.
-    pub ended-sound : Sounds (ended s is top t)
-    ended-sound = record {
-      table = remove-sound (valueIn (s .settings)) (s .cursor) t (s .table) (d .table) k is top (l .low) f;
-      cursor = d .cursor;
-      attached = d .attached;
-      settings = d .settings;
-    }
+  -- It is sound.
+  pub ended-sound : Sounds (ended s is top t)
+  ended-sound = record {
+    table = remove-sound (valueIn (s .settings)) (s .cursor) t (s .table) (d .table) k is top (l .low) f;
+    cursor = d .cursor;
+    attached = d .attached;
+    settings = d .settings;
+  }

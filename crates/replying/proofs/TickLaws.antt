@@ -64,7 +64,7 @@ module _ (s : State) (d : Sounds s) (t : ℕ) (o l : List ℕ) (gate : tickGate 
 
   module _ (lives : k ≡ places → ⊥) where
     -- the entry that is due
-    pub living : Living (s .table) k
+    living : Living (s .table) k
     living = due-lives (s .table) (d .table) t k found lives
 
     -- It ends with exception 0B.

@@ -1,4 +1,4 @@
-// The tick over a state by value, for programs and tests. Written by tools/fields.py from lib.rt.in.
+// The tick over a state by value, for programs and tests.
 use state::State;
 use state::calls::Stepped;
 use state::columns::Called;
@@ -23,13 +23,7 @@ fn ticked(c: Columns, time: u64, out: &mut [u8], list: &mut [u16]) -> Called
     let mut clients = c.clients;
     let mut originals = c.originals;
     let mut top = c.top;
-    let mut cursor = c.cursor;
-    let mut attached = c.attached;
     let mut clock = c.clock;
-    let mut timeout = c.timeout;
-    let mut join = c.join;
-    let mut tagged = c.tagged;
-    let mut tags = c.tags;
     let answer = replying::tick(
         &mut ids,
         &mut asked,
@@ -39,35 +33,25 @@ fn ticked(c: Columns, time: u64, out: &mut [u8], list: &mut [u16]) -> Called
         &mut clients,
         &mut originals,
         &mut top,
-        &mut cursor,
-        &mut attached,
         &mut clock,
-        &mut timeout,
-        &mut join,
-        &mut tagged,
-        &mut tags,
         time,
         out,
         list,
     );
-    let columns = Columns {
-        ids,
-        asked,
-        callers,
-        deadlines,
-        counts,
-        clients,
-        originals,
-        top,
-        cursor,
-        attached,
-        clock,
-        timeout,
-        join,
-        tagged,
-        tags,
-    };
-    Called { columns, answer }
+    let mut after = c;
+    after.ids = ids;
+    after.asked = asked;
+    after.callers = callers;
+    after.deadlines = deadlines;
+    after.counts = counts;
+    after.clients = clients;
+    after.originals = originals;
+    after.top = top;
+    after.clock = clock;
+    Called {
+        columns: after,
+        answer,
+    }
 }
 
 // Time goes on.

@@ -100,14 +100,14 @@ id-at-requires : tie.Need-id-at-requires
 id-at-requires c κs =
     let e = c .before .before .before .before in
     let s = e .before .before .before .before .before .before .before .before .before .before .before in
-    has-id (came s) (s .pre) (e .before .find .result) (lives e)
+    has-id (came s .table) (s .pre .table) (e .before .find .result) (lives e)
 
 end-at-requires : tie.Need-end-at-requires
 end-at-requires c κs =
     let e = c .before .before .before .before .before .before .before .before .before .before .before in
     let s = e .before .before .before .before .before .before .before .before .before .before .before in
     let a = s .args in
-    may-end (came s) (s .pre) (e .before .find .result) (lives e) (length (now (a .list))) (timely (e .before .before .before .before .before) .0 .pairs)
+    may-end (came s .table) (s .pre .table) (e .before .find .result) (lives e) (length (now (a .list))) (timely (e .before .before .before .before .before) .0 .pairs)
 
 write-reply-requires : tie.Need-write-reply-requires
 write-reply-requires c κs =
@@ -116,7 +116,7 @@ write-reply-requires c κs =
     let s = e .before .before .before .before .before .before .before .before .before .before .before in
     let p = timely (e .before .before .before .before .before) in (
       record { least = p .1 .least; fits = omega (arith, p .1 .most, p .0 .frames) },
-      ((asks-proper (came s) (s .pre) (e .before .find .result) (lives e), answered-by g), tag-words (came s .settings) (s .pre .settings)),
+      ((asks-proper (came s .table) (s .pre .table) (e .before .find .result) (lives e), answered-by g), tag-words (came s .settings) (s .pre .settings)),
     )
 
 cast-length : tie.Need-cast-length

@@ -5,21 +5,25 @@ use native.Mathlib.Omega.{arith}
 use lib.ListN.{length}
 use denote.Ref.{now}
 use Rattle.machine.specs.Numbers.{numbers}
-use Rattle.proxy.specs.State.{State, lent, machineOf}
+use Rattle.table.specs.Columns.{Columns, columns}
+use Rattle.proxy.specs.State.{State, lentTable, machineOf}
 use Rattle.proxy.specs.Gates.{tickGate}
 use Rattle.replying.proofs.GateLaws.{Timely, tick-timely}
 use Rattle.proxy.proofs.StateLaws.{timed-sound}
-use Rattle.replying.proofs.EndLaws.{Living, has-id, may-end, ended-sound}
-use Rattle.replying.proofs.TickLaws.{was-refused, nothing-due, living, was-timed-out}
+use Rattle.replying.proofs.EndLaws.{Living, due-lives, has-id, may-end, ended-sound}
+use Rattle.replying.proofs.TickLaws.{was-refused, nothing-due, was-timed-out}
 use borrow.Author.Needs.{needs}
 use Rattle.replying.proofs.tick.Statement.{statement}
 use Rattle.replying.proofs.tick.Tie as tie
 
--- the state as it came
-abbrev came : tie.Start → State
-came s =
+-- the table as it came, and a state that has it
+abbrev table : tie.Start → Columns
+table s =
     let a = s .args in
-    lent (now (a .ids)) (now (a .asked)) (now (a .callers)) (now (a .deadlines)) (now (a .counts)) (now (a .clients)) (now (a .originals)) (now (a .top)) (now (a .cursor)) (now (a .attached)) (now (a .clock)) (now (a .timeout)) (now (a .join)) (now (a .tagged)) (now (a .tags))
+    columns (now (a .ids)) (now (a .asked)) (now (a .callers)) (now (a .deadlines)) (now (a .counts)) (now (a .clients)) (now (a .originals)) (now (a .top))
+
+abbrev came : tie.Start → State → State
+came s whole = lentTable whole (table s) (now (s .args .clock))
 
 -- the gate let it pass
 gate : (c : tie.Else1)
@@ -34,31 +38,29 @@ timely c =
 
 -- the place that is due first
 lives : (c : tie.Else2)
-    → Living (came (c .before .before .before .before .before .before .before .before .before .before) .table) (c .before .earliest .result)
+    → Living (table (c .before .before .before .before .before .before .before .before .before .before)) (c .before .earliest .result)
 lives c =
     let s = c .before .before .before .before .before .before .before .before .before .before in
-    let a = s .args in
-    living (came s) (s .pre) (a .time) (now (a .out)) (now (a .list))
-    (gate (c .before .before .before .before .before)) (c .before .earliest .result) (c .before .earliest .ensures) (c .if2 .left)
+    due-lives (table s) (s .pre) (s .args .time) (c .before .earliest .result) (c .before .earliest .ensures) (c .if2 .left)
 
 returns : tie.Need-returns
-returns c =
+returns c whole sounds =
     let s = c .before .before .before .before .before in
     let a = s .args in (
-      was-refused (machineOf (came s)) (a .time) (now (a .out)) (now (a .list))
+      was-refused (machineOf (came s whole)) (a .time) (now (a .out)) (now (a .list))
           (c .before .tick-refusal .result) (c .before .tick-refusal .ensures) (c .if1 .taken),
-      s .pre,
+      sounds,
       λ h. refl,
     )
 
 returns-2 : tie.Need-returns-2
 unfolding numbers
-returns-2 c =
+returns-2 c whole sounds =
     let s = c .before .before .before .before .before .before .before .before .before .before in
     let a = s .args in (
-      nothing-due (came s) (s .pre) (a .time) (now (a .out)) (now (a .list))
+      nothing-due (came s whole) sounds (a .time) (now (a .out)) (now (a .list))
           (gate (c .before .before .before .before .before)) (c .before .earliest .result) (c .before .earliest .ensures) (c .if2 .taken),
-      timed-sound (came s) (a .time) (s .pre),
+      timed-sound (came s whole) (a .time) sounds,
       λ h. absurd (h refl),
     )
 
@@ -72,21 +74,21 @@ id-at-requires : tie.Need-id-at-requires
 id-at-requires c κs =
     let e = c .before .before in
     let s = e .before .before .before .before .before .before .before .before .before .before in
-    has-id (came s) (s .pre) (e .before .earliest .result) (lives e)
+    has-id (table s) (s .pre) (e .before .earliest .result) (lives e)
 
 end-at-requires : tie.Need-end-at-requires
 end-at-requires c κs =
     let e = c .before .before .before .before .before .before .before .before .before in
     let s = e .before .before .before .before .before .before .before .before .before .before in
     let a = s .args in
-    may-end (came s) (s .pre) (e .before .earliest .result) (lives e) (length (now (a .list))) (timely (e .before .before .before .before .before) .pairs)
+    may-end (table s) (s .pre) (e .before .earliest .result) (lives e) (length (now (a .list))) (timely (e .before .before .before .before .before) .pairs)
 
 except-requires : tie.Need-except-requires
 except-requires c κs = omega (arith, timely (c .before .before .before .before .before .before .before .before .before .before .before .before .before .before .before .before .before .before .before .before) .frames)
 
 returns-3 : tie.Need-returns-3
 unfolding numbers
-returns-3 c =
+returns-3 c whole sounds =
     let e = c .before .before .before .before .before .before .before .before .before .before .before .before .before .before .before .before .before .before in
     let s = e .before .before .before .before .before .before .before .before .before .before in
     let a = s .args in
@@ -94,10 +96,10 @@ returns-3 c =
     let i = c .before .before .before .before .before .before .before .before .before .before .before .before .before .before .before .id-at in
     let u = c .before .before .before .before .unit-in in
     let y = c .before .before .before .function-in in (
-      was-timed-out (came s) (s .pre) (a .time) (now (a .out)) (now (a .list))
+      was-timed-out (came s whole) sounds (a .time) (now (a .out)) (now (a .list))
           (gate (e .before .before .before .before .before)) (e .before .earliest .result) (e .before .earliest .ensures) (e .if2 .left) (i .result) (p .result) _ _ _ _ (i .ensures) (p .ensures .0) (p .ensures .1)
           (u .result) (y .result) (u .ensures) (y .ensures) (c .before .before .except .ensures),
-      ended-sound (came s) (s .pre) (e .before .earliest .result) (lives e) (a .time) _ _ (p .ensures .1),
+      ended-sound (came s whole) sounds (e .before .earliest .result) (lives e) (a .time) _ _ (p .ensures .1),
       λ h. absurd (h refl),
     )
 

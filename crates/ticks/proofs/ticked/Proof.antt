@@ -1,11 +1,15 @@
--- `ticks::ticked` meets its contract: what the core does over the columns is handed on.
+-- `ticks::ticked` meets its contract: what the core does over the table and the clock it does to the columns that have them.
 -- Assumes nothing.
+use Rattle.state.specs.Fields.{columned}
 use borrow.Author.Needs.{needs}
 use Rattle.ticks.proofs.ticked.Statement.{statement}
 use Rattle.ticks.proofs.ticked.Tie as tie
 
 returns : tie.Need-returns
-returns c = c .before .before .before .before .tick .ensures
+returns c =
+    let left = c .before .before .before .before in
+    let start = left .before .before .before .before .before .before .before .before .before .before .before .before .before .before .before .before .before .before .before .before .before in
+    left .tick .ensures (columned (start .args .c)) (start .pre)
 
 pub ticked-spec : {M : Type 1} → statement M
 ticked-spec = tie.close (tie.spec (λ c κs. search needs) (λ c. search needs) (λ c. search needs) returns)

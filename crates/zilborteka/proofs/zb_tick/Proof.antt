@@ -6,8 +6,11 @@ use denote.Triple.Spec.{tripleOf}
 use denote.Triple.Table.{entered, cited}
 use Rattle.device.specs.declared.Device.{Device}
 use Rattle.machine.specs.Calls.Call.{tick as ticks}
-use Rattle.device.specs.Fields.{device}
+use Rattle.device.specs.Fields.{stateOf}
 use Rattle.device.specs.Device.{Made, Served}
+use Rattle.proxy.specs.State.{State, lentTable, Sounds}
+use Rattle.proxy.specs.Calls.{Told}
+use Rattle.table.specs.Columns.{columns, Sound}
 use Rattle.device.proofs.EntryTick.{Core, entry-meets, Rel, CoreRel, Pre, CorePre}
 use Rattle.answering.proofs.tick.Symbol as g
 use Rattle.answering.proofs.tick.Met as g-thm
@@ -27,15 +30,15 @@ abbrev Pe : Pre
 Pe = λ h p0 p1 p2. Before h
 
 abbrev Pc : CorePre
-Pc = λ a0 a1 a2 a3 a4 a5 a6 a7 a8 a9 a10 a11 a12 a13 a14 p0 p1 p2. Before (device a0 a1 a2 a3 a4 a5 a6 a7 a8 a9 a10 a11 a12 a13 a14)
+Pc = λ ids asked callers deadlines counts clients originals top clock time out list. Sound (columns ids asked callers deadlines counts clients originals top)
 
 abbrev Rc : CoreRel
-Rc = λ a0 a1 a2 a3 a4 a5 a6 a7 a8 a9 a10 a11 a12 a13 a14 p0 p1 p2 r w0 w1 w2 w3 w4 w5 w6 w7 w8 w9 w10 w11 w12 w13 w14 z1 z2. R (device a0 a1 a2 a3 a4 a5 a6 a7 a8 a9 a10 a11 a12 a13 a14) p0 p1 p2 r (device w0 w1 w2 w3 w4 w5 w6 w7 w8 w9 w10 w11 w12 w13 w14) z1 z2
+Rc = λ ids asked callers deadlines counts clients originals top clock time out list r ids′ asked′ callers′ deadlines′ counts′ clients′ originals′ top′ clock′ out′ list′. (s : State) → Sounds (lentTable s (columns ids asked callers deadlines counts clients originals top) clock) → Told (lentTable s (columns ids asked callers deadlines counts clients originals top) clock) (ticks time out list) r (lentTable s (columns ids′ asked′ callers′ deadlines′ counts′ clients′ originals′ top′) clock′) out′ list′
 
 pub zb-tick-spec : {M : Type 1} → stated.statement M
 unfolding code.routine tablesOf
 zb-tick-spec 𝓤 H 𝓜 𝓖 𝓡 =
     entered 𝓤 H (tripleOf 𝓤 H (𝓖 .A) f.signature (f.spec 𝓤 H (𝓖 .A) (𝓜 .mem) (𝓡 .run)))
     (tables 𝓤 H 𝓜 𝓡 code.env .C) (tables 𝓤 H 𝓜 𝓡 code.env .Λ) #f code.function (code.unfolded 𝓤 H 𝓜 𝓡)
-    (entry-meets 𝓤 H (𝓖 .A) (givenOf 𝓤 H 𝓜 𝓖) g.name R Pe Rc Pc (λ h p0 p1 p2 r w0 w1 w2 w3 w4 w5 w6 w7 w8 w9 w10 w11 w12 w13 w14 z1 z2 ok e. e) (λ _ _ _ _ ok. ok) (tablesOf 𝓤 H 𝓜 (tables 𝓤 H 𝓜 𝓡 code.env))
+    (entry-meets 𝓤 H (𝓖 .A) (givenOf 𝓤 H 𝓜 𝓖) g.name R Pe Rc Pc (λ d time out list r ids′ asked′ callers′ deadlines′ counts′ clients′ originals′ top′ clock′ out′ list′ ok told. told (stateOf d) ok) (λ d _ _ _ ok. ok .table) (tablesOf 𝓤 H 𝓜 (tables 𝓤 H 𝓜 𝓡 code.env))
     (cited 𝓤 H (Core 𝓤 Rc Pc H (𝓖 .A)) 𝓜 𝓡 code.env g.name g.routine code.calls-answering·tick (g-thm.met 𝓤 H 𝓜 𝓖 𝓡)))
