@@ -1,0 +1,44 @@
+-- A state with some fields lent: lent its own fields it is as it was, and what is lent is what it then has.
+-- Assumes nothing.
+use Prim.Native.Nat.{ℕ}
+use mathlib.Core.Path.{_≡_, refl}
+use mathlib.Core.List.{List}
+use Rattle.table.specs.Columns.{Columns}
+use Rattle.proxy.specs.State.{State, lentSet, lentParties, lentIds, lentDeadlines, lentTable}
+
+module _ (s : State) where
+  -- its table as it is
+  abbrev own : Columns
+  own = s .table
+
+  pub set-own : lentSet s (s .attached) ≡ s
+  set-own = refl
+
+  pub parties-own : lentParties s (own .counts) (own .clients) (own .originals) (own .top) (s .attached) ≡ s
+  parties-own = refl
+
+  pub ids-own : lentIds s (own .ids) (own .top) (s .attached) ≡ s
+  ids-own = refl
+
+  pub deadlines-own : lentDeadlines s (own .ids) (own .deadlines) (own .top) ≡ s
+  deadlines-own = refl
+
+  pub table-own : lentTable s own (s .clock) ≡ s
+  table-own = refl
+
+  module _ (top attached : ℕ) where
+    pub set-lent : lentSet s attached .attached ≡ attached
+    set-lent = refl
+
+    pub parties-lent : (counts clients originals : List ℕ) → let l = lentParties s counts clients originals top attached in
+        (l .table .counts ≡ counts) × (l .table .clients ≡ clients) × (l .table .originals ≡ originals) × (l .table .top ≡ top) × (l .attached ≡ attached)
+    parties-lent counts clients originals = (refl, refl, refl, refl, refl)
+
+    pub ids-lent : (ids : List ℕ) → let l = lentIds s ids top attached in (l .table .ids ≡ ids) × (l .table .top ≡ top) × (l .attached ≡ attached)
+    ids-lent ids = (refl, refl, refl)
+
+    pub deadlines-lent : (ids deadlines : List ℕ) → let l = lentDeadlines s ids deadlines top in (l .table .ids ≡ ids) × (l .table .deadlines ≡ deadlines) × (l .table .top ≡ top)
+    deadlines-lent ids deadlines = (refl, refl, refl)
+
+  pub table-lent : (c : Columns) (clock : ℕ) → (lentTable s c clock .table ≡ c) × (lentTable s c clock .clock ≡ clock)
+  table-lent c clock = (refl, refl)
