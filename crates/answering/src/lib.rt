@@ -70,9 +70,9 @@ pub fn tick<'a>(
     list: &mut [u16],
 ) -> Report
     requires { ⌜ Sound (columns (now ids) (now asked) (now callers) (now deadlines) (now counts) (now clients) (now originals) (now top)) ⌝ }
-    ensures { λ r. ⌜ ((s : State) → Sounds (lentTable s (columns (now (ids .entry)) (now (asked .entry)) (now (callers .entry)) (now (deadlines .entry)) (now (counts .entry)) (now (clients .entry)) (now (originals .entry)) (now (top .entry))) (now (clock .entry)))
-        → Told (lentTable s (columns (now (ids .entry)) (now (asked .entry)) (now (callers .entry)) (now (deadlines .entry)) (now (counts .entry)) (now (clients .entry)) (now (originals .entry)) (now (top .entry))) (now (clock .entry))) (ticks time (now (out .entry)) (now (list .entry))) r
-        (lentTable s (columns (now (ids .exit)) (now (asked .exit)) (now (callers .exit)) (now (deadlines .exit)) (now (counts .exit)) (now (clients .exit)) (now (originals .exit)) (now (top .exit))) (now (clock .exit))) (now (out .exit)) (now (list .exit))) ⌝ }
+    ensures { λ r. ⌜ ((s : State) → Sounds (lentTable s (now (ids .entry)) (now (asked .entry)) (now (callers .entry)) (now (deadlines .entry)) (now (counts .entry)) (now (clients .entry)) (now (originals .entry)) (now (top .entry)) (now (clock .entry)))
+        → Told (lentTable s (now (ids .entry)) (now (asked .entry)) (now (callers .entry)) (now (deadlines .entry)) (now (counts .entry)) (now (clients .entry)) (now (originals .entry)) (now (top .entry)) (now (clock .entry))) (ticks time (now (out .entry)) (now (list .entry))) r
+        (lentTable s (now (ids .exit)) (now (asked .exit)) (now (callers .exit)) (now (deadlines .exit)) (now (counts .exit)) (now (clients .exit)) (now (originals .exit)) (now (top .exit)) (now (clock .exit))) (now (out .exit)) (now (list .exit))) ⌝ }
 {
     machine::report_of(replying::tick(
         ids,

@@ -23,7 +23,7 @@ module _ (s : State) where
   pub deadlines-own : lentDeadlines s (own .ids) (own .deadlines) (own .top) ≡ s
   deadlines-own = refl
 
-  pub table-own : lentTable s own (s .clock) ≡ s
+  pub table-own : lentTable s (own .ids) (own .asked) (own .callers) (own .deadlines) (own .counts) (own .clients) (own .originals) (own .top) (s .clock) ≡ s
   table-own = refl
 
   module _ (top attached : ℕ) where
@@ -40,5 +40,6 @@ module _ (s : State) where
     pub deadlines-lent : (ids deadlines : List ℕ) → let l = lentDeadlines s ids deadlines top in (l .table .ids ≡ ids) × (l .table .deadlines ≡ deadlines) × (l .table .top ≡ top)
     deadlines-lent ids deadlines = (refl, refl, refl)
 
-  pub table-lent : (c : Columns) (clock : ℕ) → (lentTable s c clock .table ≡ c) × (lentTable s c clock .clock ≡ clock)
+  pub table-lent : (c : Columns) (clock : ℕ)
+      → let l = lentTable s (c .ids) (c .asked) (c .callers) (c .deadlines) (c .counts) (c .clients) (c .originals) (c .top) clock in (l .table ≡ c) × (l .clock ≡ clock)
   table-lent c clock = (refl, refl)

@@ -5,11 +5,11 @@ use mathlib.Core.Path.{_≡_}
 use native.Mathlib.Nat.{max-eq-right}
 use Rattle.rewrite.specs.Lent.{TagWords}
 use Rattle.machine.specs.Machine.{clocked}
-use Rattle.proxy.specs.State.{Kept, State, lentTable, machineOf, Settled, Sounds}
+use Rattle.proxy.specs.State.{Kept, State, tabled, machineOf, Settled, Sounds}
 
 -- the state at another time
 abbrev pub timed : State → ℕ → State
-timed s t = lentTable s (s .table) t
+timed s t = tabled s (s .table) t
 
 -- The machine at a later time is that of the state at that time.
 pub clock-is : (s : State) (t : ℕ) → s .clock ≤ t → clocked (machineOf s) t ≡ machineOf (timed s t)

@@ -43,6 +43,10 @@ lent ids asked callers deadlines counts clients originals top cursor attached cl
 abbrev pub seated : State → Columns → ℕ → State
 seated s c a = state c (s .cursor) a (s .clock) (s .settings)
 
+-- the state s with another table and another clock
+abbrev pub tabled : State → Columns → ℕ → State
+tabled s c t = state c (s .cursor) (s .attached) t (s .settings)
+
 -- the state that some lent fields are, beside what else the state s has: the set alone; the parties; the ids; the ids and the deadlines; the table and the clock
 abbrev pub lentSet : State → (attached : ℕ) → State
 lentSet s a = seated s (s .table) a
@@ -62,8 +66,8 @@ lentDeadlines s ids deadlines top =
     let c = s .table in
     seated s (columns ids (c .asked) (c .callers) deadlines (c .counts) (c .clients) (c .originals) top) (s .attached)
 
-abbrev pub lentTable : State → Columns → (clock : ℕ) → State
-lentTable s c t = state c (s .cursor) (s .attached) t (s .settings)
+abbrev pub lentTable : State → (ids asked callers deadlines counts clients originals : List ℕ) (top clock : ℕ) → State
+lentTable s ids asked callers deadlines counts clients originals top clock = tabled s (columns ids asked callers deadlines counts clients originals top) clock
 
 -- the machine that it is
 abbrev pub machineOf : State → Machine

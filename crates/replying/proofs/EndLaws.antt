@@ -21,7 +21,7 @@ use Rattle.table.specs.Places.{holds, isDue, isSooner}
 use Rattle.table.specs.Changes.{reach}
 use Rattle.table.proofs.EntryLaws.{held}
 use Rattle.table.proofs.ChangeLaws.{remove-is-reply, remove-sound}
-use Rattle.proxy.specs.State.{State, lentTable, valueIn, machineOf, Sounds}
+use Rattle.proxy.specs.State.{State, tabled, valueIn, machineOf, Sounds}
 use Rattle.proxy.proofs.StateLaws.{timed}
 
 -- the proxy id of that number
@@ -31,7 +31,7 @@ named n = record { 0 = n }
 -- the state with other ids and another top, at another time
 abbrev pub ended : State → List ℕ → ℕ → ℕ → State
 ended s is top t =
-    lentTable s (columns is (s .table .asked) (s .table .callers) (s .table .deadlines) (s .table .counts) (s .table .clients) (s .table .originals) top) t
+    tabled s (columns is (s .table .asked) (s .table .callers) (s .table .deadlines) (s .table .counts) (s .table .clients) (s .table .originals) top) t
 
 -- a live place
 pub record Living (c : Columns) (k : ℕ) : Type 0 where

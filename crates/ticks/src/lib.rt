@@ -1,4 +1,4 @@
-// The tick over a state by value, for programs and tests.
+// The tick over a state by value, for programs and tests. Written by tools/fields.py from lib.rt.in.
 use state::State;
 use state::calls::Stepped;
 use state::columns::Called;

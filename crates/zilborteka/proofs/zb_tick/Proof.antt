@@ -33,7 +33,7 @@ abbrev Pc : CorePre
 Pc = λ ids asked callers deadlines counts clients originals top clock time out list. Sound (columns ids asked callers deadlines counts clients originals top)
 
 abbrev Rc : CoreRel
-Rc = λ ids asked callers deadlines counts clients originals top clock time out list r ids′ asked′ callers′ deadlines′ counts′ clients′ originals′ top′ clock′ out′ list′. (s : State) → Sounds (lentTable s (columns ids asked callers deadlines counts clients originals top) clock) → Told (lentTable s (columns ids asked callers deadlines counts clients originals top) clock) (ticks time out list) r (lentTable s (columns ids′ asked′ callers′ deadlines′ counts′ clients′ originals′ top′) clock′) out′ list′
+Rc = λ ids asked callers deadlines counts clients originals top clock time out list r ids′ asked′ callers′ deadlines′ counts′ clients′ originals′ top′ clock′ out′ list′. (s : State) → Sounds (lentTable s ids asked callers deadlines counts clients originals top clock) → Told (lentTable s ids asked callers deadlines counts clients originals top clock) (ticks time out list) r (lentTable s ids′ asked′ callers′ deadlines′ counts′ clients′ originals′ top′ clock′) out′ list′
 
 pub zb-tick-spec : {M : Type 1} → stated.statement M
 unfolding code.routine tablesOf
