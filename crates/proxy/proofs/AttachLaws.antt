@@ -34,6 +34,7 @@ use Rattle.table.proofs.EntryLaws.{withParties}
 use Rattle.table.proofs.ChangeLaws.{strike-is, strike-sound}
 use Rattle.proxy.specs.State.{State, seated, lentSet, machineOf, valueIn, Sounds}
 use Rattle.proxy.specs.Calls.{Does}
+use Rattle.proxy.proofs.StateLaws.{still-sound}
 
 -- who is no stranger has a client's number
 pub no-stranger : (set client : ℕ) → (leb clients client || not (has set client)) ≡ false → client < clients
@@ -66,10 +67,6 @@ module _ (b : Live-book) (set client : ℕ) where
       (λ (h : clients ≤ client). rw (← attach-above h) low)
       (lt-or client clients)
 
--- A sound table and a set of clients keep the state sound.
-still-sound : (s : State) → Sounds s → {c : Columns} {a : ℕ} → Sound c → a < 2 ^ clients → Sounds (seated s c a)
-still-sound s sounds t h = record { table = t; cursor = sounds .cursor; attached = h; settings = sounds .settings }
-
 module _ (s : State) (sounds : Sounds s) where
   -- Attach on any book is attach on this state, keeps it sound, and leaves it where it is refused.
   pub attach-does : (client set : ℕ) (answer : Answer) → ((b : Live-book) → done answer (machine b set) [] [] ≡ outcome (machine b (s .attached)) (attach client))
@@ -89,7 +86,7 @@ module _ (s : State) (sounds : Sounds s) where
   -- Detach of an attached client strikes its parties out and takes it out of the set.
   pub detach-known : (client : ℕ) (ns cs os : List ℕ) → isStranger (machineOf s) client ≡ false
       → Struck (s .table .top) client (s .table .counts) (s .table .clients) (s .table .originals) ns cs os
-      → Does s (detach client) Finished (seated s (withParties (s .table) ns cs os) (without (s .attached) client)) [] []
+      → Does s (detach client) Finished (seated s (withParties (s .table) ns cs os) (without (s .attached) client) (s .clock)) [] []
   unfolding rows lowest granted numbers
   detach-known client ns cs os t d = (
     ap (λ b. done Finished (machine b (without (s .attached) client)) [] [])
@@ -129,7 +126,7 @@ pub emptied-is : (v : Value) (x t : ℕ) (c : Columns) → bookOf v (emptied c) 
 emptied-is v x t c = ap (λ l. book v l x t) (emptied-table c)
 
 -- Link lost removes every entry and everyone, and tells the former set.
-pub lost : (s : State) → Sounds s → Does s linkLost (Lost (s .attached)) (seated s (emptied (s .table)) 0) [] []
+pub lost : (s : State) → Sounds s → Does s linkLost (Lost (s .attached)) (seated s (emptied (s .table)) 0 (s .clock)) [] []
 unfolding rows lowest granted numbers
 lost s sounds = (
   ap (λ b. done (Lost (s .attached)) (machine b 0) [] []) (emptied-is (valueIn (s .settings)) (s .cursor) (s .clock) (s .table))

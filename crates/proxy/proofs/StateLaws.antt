@@ -1,15 +1,21 @@
--- The state at a later time is the machine at that time; and what the settings in a state give the rewriter.
+-- A state with another sound table, set and clock is sound; at a later time it is the machine at that time; and what the settings in a state give the rewriter.
 -- Assumes nothing.
-use Prim.Native.Nat.{ℕ, _≤_}
+use Prim.Native.Nat.{ℕ, _≤_, _<_, _^_}
 use mathlib.Core.Path.{_≡_}
 use native.Mathlib.Nat.{max-eq-right}
+use Rattle.laws.specs.Numbers.{clients}
 use Rattle.rewrite.specs.Lent.{TagWords}
 use Rattle.machine.specs.Machine.{clocked}
-use Rattle.proxy.specs.State.{Kept, State, tabled, machineOf, Settled, Sounds}
+use Rattle.table.specs.Columns.{Columns, Sound}
+use Rattle.proxy.specs.State.{Kept, State, seated, machineOf, Settled, Sounds}
+
+-- A sound table and a set of clients keep the state sound, at any time.
+pub still-sound : (s : State) → Sounds s → {c : Columns} {a t : ℕ} → Sound c → a < 2 ^ clients → Sounds (seated s c a t)
+still-sound s sounds c h = record { table = c; cursor = sounds .cursor; attached = h; settings = sounds .settings }
 
 -- the state at another time
 abbrev pub timed : State → ℕ → State
-timed s t = tabled s (s .table) t
+timed s t = seated s (s .table) (s .attached) t
 
 -- The machine at a later time is that of the state at that time.
 pub clock-is : (s : State) (t : ℕ) → s .clock ≤ t → clocked (machineOf s) t ≡ machineOf (timed s t)
@@ -17,7 +23,7 @@ clock-is s t h = rw (max-eq-right h)
 
 -- Another time keeps the state sound.
 pub timed-sound : (s : State) (t : ℕ) → Sounds s → Sounds (timed s t)
-timed-sound s t d = record { table = d .table; cursor = d .cursor; attached = d .attached; settings = d .settings }
+timed-sound s t d = still-sound s d (d .table) (d .attached)
 
 -- the settings in the state as the rewriter asks for them
 pub tag-words : (k : Kept) → Settled k → TagWords (k .tagged) (k .tags)

@@ -39,35 +39,31 @@ abbrev pub lent : (ids asked callers deadlines counts clients originals : List �
 lent ids asked callers deadlines counts clients originals top cursor attached clock timeout join tagged tags =
     state (columns ids asked callers deadlines counts clients originals top) cursor attached clock (kept timeout join tagged tags)
 
--- the state s with another table and another set of attached clients
-abbrev pub seated : State → Columns → ℕ → State
-seated s c a = state c (s .cursor) a (s .clock) (s .settings)
-
--- the state s with another table and another clock
-abbrev pub tabled : State → Columns → ℕ → State
-tabled s c t = state c (s .cursor) (s .attached) t (s .settings)
+-- the state s with another table, another set of attached clients and another clock
+abbrev pub seated : State → Columns → (attached clock : ℕ) → State
+seated s c a t = state c (s .cursor) a t (s .settings)
 
 -- the state that some lent fields are, beside what else the state s has: the set alone; the parties; the ids; the ids and the deadlines; the table and the clock
 abbrev pub lentSet : State → (attached : ℕ) → State
-lentSet s a = seated s (s .table) a
+lentSet s a = seated s (s .table) a (s .clock)
 
 abbrev pub lentParties : State → (counts clients originals : List ℕ) (top attached : ℕ) → State
 lentParties s counts clients originals top a =
     let c = s .table in
-    seated s (columns (c .ids) (c .asked) (c .callers) (c .deadlines) counts clients originals top) a
+    seated s (columns (c .ids) (c .asked) (c .callers) (c .deadlines) counts clients originals top) a (s .clock)
 
 abbrev pub lentIds : State → (ids : List ℕ) (top attached : ℕ) → State
 lentIds s ids top a =
     let c = s .table in
-    seated s (columns ids (c .asked) (c .callers) (c .deadlines) (c .counts) (c .clients) (c .originals) top) a
+    seated s (columns ids (c .asked) (c .callers) (c .deadlines) (c .counts) (c .clients) (c .originals) top) a (s .clock)
 
 abbrev pub lentDeadlines : State → (ids deadlines : List ℕ) (top : ℕ) → State
 lentDeadlines s ids deadlines top =
     let c = s .table in
-    seated s (columns ids (c .asked) (c .callers) deadlines (c .counts) (c .clients) (c .originals) top) (s .attached)
+    seated s (columns ids (c .asked) (c .callers) deadlines (c .counts) (c .clients) (c .originals) top) (s .attached) (s .clock)
 
 abbrev pub lentTable : State → (ids asked callers deadlines counts clients originals : List ℕ) (top clock : ℕ) → State
-lentTable s ids asked callers deadlines counts clients originals top clock = tabled s (columns ids asked callers deadlines counts clients originals top) clock
+lentTable s ids asked callers deadlines counts clients originals top clock = seated s (columns ids asked callers deadlines counts clients originals top) (s .attached) clock
 
 -- the machine that it is
 abbrev pub machineOf : State → Machine

@@ -21,8 +21,8 @@ use Rattle.table.specs.Places.{holds, isDue, isSooner}
 use Rattle.table.specs.Changes.{reach}
 use Rattle.table.proofs.EntryLaws.{held}
 use Rattle.table.proofs.ChangeLaws.{remove-is-reply, remove-sound}
-use Rattle.proxy.specs.State.{State, tabled, valueIn, machineOf, Sounds}
-use Rattle.proxy.proofs.StateLaws.{timed}
+use Rattle.proxy.specs.State.{State, seated, valueIn, machineOf, Sounds}
+use Rattle.proxy.proofs.StateLaws.{still-sound, timed}
 
 -- the proxy id of that number
 abbrev pub named : ℕ → ProxyId
@@ -31,7 +31,7 @@ named n = record { 0 = n }
 -- the state with other ids and another top, at another time
 abbrev pub ended : State → List ℕ → ℕ → ℕ → State
 ended s is top t =
-    tabled s (columns is (s .table .asked) (s .table .callers) (s .table .deadlines) (s .table .counts) (s .table .clients) (s .table .originals) top) t
+    seated s (columns is (s .table .asked) (s .table .callers) (s .table .deadlines) (s .table .counts) (s .table .clients) (s .table .originals) top) (s .attached) t
 
 -- a live place
 pub record Living (c : Columns) (k : ℕ) : Type 0 where
@@ -76,9 +76,4 @@ module _ (s : State) (d : Sounds s) (k : ℕ) (l : Living (s .table) k) (t : ℕ
 
   -- It is sound.
   pub ended-sound : Sounds (ended s is top t)
-  ended-sound = record {
-    table = remove-sound (valueIn (s .settings)) (s .cursor) t (s .table) (d .table) k is top (l .low) f;
-    cursor = d .cursor;
-    attached = d .attached;
-    settings = d .settings;
-  }
+  ended-sound = still-sound s d (remove-sound (valueIn (s .settings)) (s .cursor) t (s .table) (d .table) k is top (l .low) f) (d .attached)

@@ -6,7 +6,7 @@ use lib.ListN.{length}
 use denote.Ref.{now}
 use Rattle.machine.specs.Numbers.{numbers}
 use Rattle.table.specs.Columns.{Columns, columns}
-use Rattle.proxy.specs.State.{State, tabled, machineOf}
+use Rattle.proxy.specs.State.{State, seated, machineOf}
 use Rattle.proxy.specs.Gates.{tickGate}
 use Rattle.replying.proofs.GateLaws.{Timely, tick-timely}
 use Rattle.proxy.proofs.StateLaws.{timed-sound}
@@ -23,7 +23,7 @@ table s =
     columns (now (a .ids)) (now (a .asked)) (now (a .callers)) (now (a .deadlines)) (now (a .counts)) (now (a .clients)) (now (a .originals)) (now (a .top))
 
 abbrev came : tie.Start → State → State
-came s whole = tabled whole (table s) (now (s .args .clock))
+came s whole = seated whole (table s) (whole .attached) (now (s .args .clock))
 
 -- the gate let it pass
 gate : (c : tie.Else1)

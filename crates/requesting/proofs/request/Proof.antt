@@ -5,7 +5,7 @@ use native.Mathlib.Omega.{arith}
 use denote.Ref.{now}
 use Rattle.proxy.specs.State.{State, lent, machineOf}
 use Rattle.requesting.proofs.GateLaws.{Open, gate-refuses, gate-opens, check-function, check-length, has-room, admits}
-use Rattle.proxy.proofs.StateLaws.{timed}
+use Rattle.proxy.proofs.StateLaws.{timed, timed-sound}
 use Rattle.requesting.proofs.StepLaws.{was-refused, was-excepted, was-served, excepted-no-refusal, served-no-refusal}
 use borrow.Author.Needs.{needs}
 use Rattle.requesting.proofs.request.Statement.{statement}
@@ -66,7 +66,7 @@ returns-4 c =
     let s = start gated in
     let said = c .before .before .except-caller .ensures (machineOf (timed (came s) (s .args .time))) in (
       was-excepted (came s) (opened gated) (sym (checked .check-request .ensures) ∙ c .before .before .before .before .before .code .given .1) said,
-      record { table = s .pre .table; cursor = s .pre .cursor; attached = s .pre .attached; settings = s .pre .settings },
+      timed-sound (came s) (s .args .time) (s .pre),
       λ h. absurd (h (excepted-no-refusal _ _ _ _ said)),
     )
 
