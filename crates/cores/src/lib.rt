@@ -154,7 +154,7 @@ pub fn next_deadline<'a>(
     ensures { λ r. ⌜ ((s : State) → Sounds (lentDeadlines s (now (ids .entry)) (now (deadlines .entry)) (now (top .entry))) → Awaits (lentDeadlines s (now (ids .entry)) (now (deadlines .entry)) (now (top .entry))) r (lentDeadlines s (now (ids .exit)) (now (deadlines .exit)) (now (top .exit)))) ⌝ }
 {
     let end = *top as usize;
-    let time = moves::finding::least_deadline(ids, deadlines, end);
-    let live = moves::finding::count_live(ids, end);
+    let time = finding::least_deadline(ids, deadlines, end);
+    let live = finding::count_live(ids, end);
     NextDeadline { time, live }
 }

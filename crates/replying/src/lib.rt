@@ -101,7 +101,7 @@ pub fn reply<'a>(
     if refused != 0 {
         return Answer::Refused { number: refused };
     }
-    let place = moves::finding::find(ids, *top as usize, pdu::proxy_of(frame));
+    let place = finding::find(ids, *top as usize, pdu::proxy_of(frame));
     if place == laws::PLACES {
         return Answer::Refused { number: 7 };
     }
@@ -148,7 +148,7 @@ pub fn tick<'a>(
         return Answer::Refused { number: refused };
     }
     *clock = time;
-    let place = moves::finding::earliest(ids, deadlines, *top as usize, time);
+    let place = finding::earliest(ids, deadlines, *top as usize, time);
     if place == laws::PLACES {
         return Answer::NothingDue;
     }

@@ -148,7 +148,7 @@ fn issue_request<'a>(
         (λ m. issuedTo m client (now (frame .entry)) (now (out .entry)))
         (columns (now (ids .entry)) (now (asked .entry)) (now (callers .entry)) (now (deadlines .entry)) (now (counts .entry)) (now (clients .entry)) (now (originals .entry)) (now (top .entry))) (now (cursor .entry))) ⌝ }
 {
-    let id = moves::finding::free_id(ids, *top as usize, ProxyId(*cursor));
+    let id = finding::free_id(ids, *top as usize, ProxyId(*cursor));
     let deadline = time + timeout as u64;
     let original = pdu::original_of(frame);
     moves::changing::issue(
@@ -209,7 +209,7 @@ fn serve<'a>(
         (columns (now (ids .entry)) (now (asked .entry)) (now (callers .entry)) (now (deadlines .entry)) (now (counts .entry)) (now (clients .entry)) (now (originals .entry)) (now (top .entry))) (now (cursor .entry)) ⌝ }
 {
     let word = word_asked(frame, what);
-    let seats = moves::finding::find_seats(
+    let seats = finding::find_seats(
         ids,
         asked,
         deadlines,
