@@ -31,7 +31,7 @@ pub fn reply<'a>(
     ensures { λ r. ⌜ Told (lent (now (ids .entry)) (now (asked .entry)) (now (callers .entry)) (now (deadlines .entry)) (now (counts .entry)) (now (clients .entry)) (now (originals .entry)) (now (top .entry)) (now (cursor .entry)) (now (attached .entry)) (now (clock .entry)) (now (timeout .entry)) (now (join .entry)) (now (tagged .entry)) (now (tags .entry))) (replies time (now (frame .entry)) (now (out .entry)) (now (list .entry))) r
         (lent (now (ids .exit)) (now (asked .exit)) (now (callers .exit)) (now (deadlines .exit)) (now (counts .exit)) (now (clients .exit)) (now (originals .exit)) (now (top .exit)) (now (cursor .exit)) (now (attached .exit)) (now (clock .exit)) (now (timeout .exit)) (now (join .exit)) (now (tagged .exit)) (now (tags .exit))) (now (out .exit)) (now (list .exit)) ⌝ }
 {
-    machine::report_of(replying::reply(
+    reports::report_of(replying::reply(
         ids,
         asked,
         callers,
@@ -74,7 +74,7 @@ pub fn tick<'a>(
         → Told (lentTable s (now (ids .entry)) (now (asked .entry)) (now (callers .entry)) (now (deadlines .entry)) (now (counts .entry)) (now (clients .entry)) (now (originals .entry)) (now (top .entry)) (now (clock .entry))) (ticks time (now (out .entry)) (now (list .entry))) r
         (lentTable s (now (ids .exit)) (now (asked .exit)) (now (callers .exit)) (now (deadlines .exit)) (now (counts .exit)) (now (clients .exit)) (now (originals .exit)) (now (top .exit)) (now (clock .exit))) (now (out .exit)) (now (list .exit))) ⌝ }
 {
-    machine::report_of(replying::tick(
+    reports::report_of(replying::tick(
         ids,
         asked,
         callers,

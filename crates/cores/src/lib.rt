@@ -36,7 +36,7 @@ pub fn fresh<'a, 'b>(
 ) -> Report
     ensures { λ r. ⌜ FreshlyTold (settings (now («from_timeout» .entry)) (now («from_join» .entry)) (now («from_tags» .entry)) (now (addr .entry)) (now (width .entry)) (now (sign .entry))) r (lent (now (ids .exit)) (now (asked .exit)) (now (callers .exit)) (now (deadlines .exit)) (now (counts .exit)) (now (clients .exit)) (now (originals .exit)) (now (top .exit)) (now (cursor .exit)) (now (attached .exit)) (now (clock .exit)) (now (timeout .exit)) (now (join .exit)) (now (tagged .exit)) (now (tags .exit))) ⌝ }
 {
-    machine::report_of(proxy::making::fresh(
+    reports::report_of(proxy::making::fresh(
         ids,
         asked,
         callers,
@@ -65,7 +65,7 @@ pub fn fresh<'a, 'b>(
 pub fn attach<'a>(attached: &'a mut u32, client: u32) -> Report
     ensures { λ r. ⌜ ((s : State) → Sounds (lentSet s (now (attached .entry))) → Told (lentSet s (now (attached .entry))) (attaches client) r (lentSet s (now (attached .exit))) [] []) ⌝ }
 {
-    machine::report_of(proxy::attaching::attach(attached, client))
+    reports::report_of(proxy::attaching::attach(attached, client))
 }
 
 // Detaches a client, and strikes its parties out.
@@ -81,7 +81,7 @@ pub fn detach<'a>(
     ensures { λ r. ⌜ ((s : State) → Sounds (lentParties s (now (counts .entry)) (now (clients .entry)) (now (originals .entry)) (now (top .entry)) (now (attached .entry)))
         → Told (lentParties s (now (counts .entry)) (now (clients .entry)) (now (originals .entry)) (now (top .entry)) (now (attached .entry))) (detaches client) r (lentParties s (now (counts .exit)) (now (clients .exit)) (now (originals .exit)) (now (top .exit)) (now (attached .exit))) [] []) ⌝ }
 {
-    machine::report_of(proxy::attaching::detach(counts, clients, originals, top, attached, client))
+    reports::report_of(proxy::attaching::detach(counts, clients, originals, top, attached, client))
 }
 
 // A client's request.
@@ -110,7 +110,7 @@ pub fn request<'a>(
     ensures { λ r. ⌜ Told (lent (now (ids .entry)) (now (asked .entry)) (now (callers .entry)) (now (deadlines .entry)) (now (counts .entry)) (now (clients .entry)) (now (originals .entry)) (now (top .entry)) (now (cursor .entry)) (now (attached .entry)) (now (clock .entry)) (now (timeout .entry)) (now (join .entry)) (now (tagged .entry)) (now (tags .entry))) (asks client time (now (frame .entry)) (now (out .entry))) r
         (lent (now (ids .exit)) (now (asked .exit)) (now (callers .exit)) (now (deadlines .exit)) (now (counts .exit)) (now (clients .exit)) (now (originals .exit)) (now (top .exit)) (now (cursor .exit)) (now (attached .exit)) (now (clock .exit)) (now (timeout .exit)) (now (join .exit)) (now (tagged .exit)) (now (tags .exit))) (now (out .exit)) [] ⌝ }
 {
-    machine::report_of(requesting::request(
+    reports::report_of(requesting::request(
         ids,
         asked,
         callers,
@@ -141,7 +141,7 @@ pub fn link_lost<'a>(
 ) -> Report
     ensures { λ r. ⌜ ((s : State) → Sounds (lentIds s (now (ids .entry)) (now (top .entry)) (now (attached .entry))) → Told (lentIds s (now (ids .entry)) (now (top .entry)) (now (attached .entry))) linkLost r (lentIds s (now (ids .exit)) (now (top .exit)) (now (attached .exit))) [] []) ⌝ }
 {
-    machine::report_of(proxy::attaching::link_lost(ids, top, attached))
+    reports::report_of(proxy::attaching::link_lost(ids, top, attached))
 }
 
 // When the host has to tick next: nothing changes.

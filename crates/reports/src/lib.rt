@@ -1,6 +1,7 @@
-// What the C host is told of the calls that need no device: splitting a run, settings read and written.
-use machine::DONE;
+// What the C host is told: of an answer, and of the calls that need no device: splitting a run, settings read and written.
+use machine::Answer;
 use machine::Report;
+use pdu::ProxyId;
 use settings::Settings;
 use settingstext::writing::Wrote;
 use wire::splitting::Split;
@@ -10,12 +11,99 @@ ghost use Rattle.wire.specs.Splitting.{standingOf, firstFrame};
 ghost use Rattle.settings.specs.Grammar.{readText};
 ghost use Rattle.settings.specs.Values.{settings, valueOf};
 ghost use Rattle.settingstext.specs.TextWritten.{writtenTo};
+ghost use Rattle.machine.specs.Numbers.{report, numbers};
 ghost use Rattle.reports.specs.Reports.{told, splitTold, lineTold, readTold, textSeen, writeTold};
 
-// The outcomes' numbers beside the machine's: ZB_FRAME and ZB_MORE.
+// The outcomes' numbers: ZB_DONE to ZB_MORE. Reading and writing settings are done too.
+const DONE: u32 = 1;
+
+const ISSUED: u32 = 2;
+
+const JOINED: u32 = 3;
+
+pub const EXCEPTION: u32 = 4;
+
+const ANSWERED: u32 = 5;
+
+const TIMED_OUT: u32 = 6;
+
+const NOTHING_DUE: u32 = 7;
+
 const FRAME: u32 = 8;
 
 const MORE: u32 = 9;
+
+// A report of an answer that names no entry.
+fn plain(refusal: u32, outcome: u32, length: u32, set: u32, code: u32) -> Report
+    ensures { λ r. ⌜ r ≡ report refusal outcome length 0 0 0 set 0 code ⌝ }
+{
+    Report {
+        refusal,
+        line: 0,
+        outcome,
+        length,
+        parties: 0,
+        partial: 0,
+        value: 0,
+        set,
+        id: 0,
+        code,
+    }
+}
+
+// A report of an answer that names its entry.
+fn of_entry(
+    outcome: u32,
+    id: ProxyId,
+    length: u32,
+    parties: u32,
+    partial: u32,
+    value: u32,
+) -> Report
+    ensures { λ r. ⌜ r ≡ report 0 outcome length parties partial value 0 (id .0) 0 ⌝ }
+{
+    Report {
+        refusal: 0,
+        line: 0,
+        outcome,
+        length,
+        parties,
+        partial,
+        value,
+        set: 0,
+        id: id.0 as u32,
+        code: 0,
+    }
+}
+
+// The numbers of an answer.
+pub fn report_of(a: Answer) -> Report
+    ensures { λ r. ⌜ r ≡ numbers a ⌝ }
+{
+    let exception = laws::EXCEPTION_FRAME as u32;
+    match a {
+        Answer::Refused { number } => plain(number, 0, 0, 0, 0),
+        Answer::Done => plain(0, DONE, 0, 0, 0),
+        Answer::Issued {
+            id,
+            length,
+            partial,
+            value,
+        } => of_entry(ISSUED, id, length, 0, partial, value),
+        Answer::Joined { id } => of_entry(JOINED, id, 0, 0, 0, 0),
+        Answer::Excepted { code } => plain(0, EXCEPTION, exception, 0, code as u32),
+        Answer::Answered {
+            id,
+            length,
+            parties,
+            partial,
+            value,
+        } => of_entry(ANSWERED, id, length, parties, partial, value),
+        Answer::TimedOut { id, parties } => of_entry(TIMED_OUT, id, exception, parties, 0, 0),
+        Answer::NothingDue => plain(0, NOTHING_DUE, 0, 0, 0),
+        Answer::Lost { set } => plain(0, DONE, 0, set, 0),
+    }
+}
 
 // A report that speaks of a refusal, a line, an outcome or a length.
 fn said(refusal: u32, line: u32, outcome: u32, length: u32) -> Report

@@ -29,7 +29,7 @@ fn first_number(r: Report) -> u32
     if outcome == 0 {
         return r.refusal;
     }
-    if outcome == machine::EXCEPTION {
+    if outcome == reports::EXCEPTION {
         r.code
     } else {
         r.id
@@ -123,7 +123,7 @@ fn say_parties(right: &[u8], at: usize, list: &[u16], parties: u32) -> usize
 pub fn tell(right: &[u8], answer: Answer, out: &[u8], list: &[u16]) -> usize
     ensures { λ r. ⌜ r ≡ said (now (right .entry)) 0 (answerText answer (now (out .entry)) (now (list .entry))) ⌝ }
 {
-    let r = machine::report_of(answer);
+    let r = reports::report_of(answer);
     let at = say_name(right, answer, r);
     let at = say_frame(right, at, before(out, r.length as usize));
     let at = say_parties(right, at, list, r.parties);

@@ -1,10 +1,10 @@
--- `machine::report_of` meets its contract: each answer's case gives the numbers of its definition.
+-- `reports::report_of` meets its contract: each answer's case gives the numbers of its definition.
 -- Assumes nothing.
 use mathlib.Core.Path.{sym, ap, _∙_}
 use Rattle.machine.specs.Numbers.{numbers}
 use borrow.Author.Needs.{needs}
-use Rattle.machine.proofs.report_of.Statement.{statement}
-use Rattle.machine.proofs.report_of.Tie as tie
+use Rattle.reports.proofs.report_of.Statement.{statement}
+use Rattle.reports.proofs.report_of.Tie as tie
 
 returns : tie.Need-returns
 unfolding numbers
