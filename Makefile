@@ -25,7 +25,7 @@ demo:
 
 test:
 	tools/generate --check
-	rt ci
+	.ci/run
 
 generate:
 	tools/generate
