@@ -136,7 +136,8 @@ zb_answer zb_tick(zb_state *st, uint64_t now,
 zb_answer zb_link_lost(zb_state *st);
 
 /* When to tick: how many requests are live, and the earliest deadline of them, UINT64_MAX where none is. A tick that
-   comes next reports ZB_NOTHING_DUE before that time, and ends a request at or after it. Nothing changes. */
+   comes next and is not refused reports ZB_NOTHING_DUE before that time, and ends a request at or after it. (A time
+   above 2^63 - 1 no tick reaches: it is refused, and a reply or a lost link ends what waits for it.) Nothing changes. */
 typedef struct {
     uint64_t time;
     uint32_t live;
