@@ -1,3 +1,4 @@
+pub mod DocumentLaws
 pub mod Choice
 pub mod TestLaws
 pub mod ListLaws

@@ -40,7 +40,7 @@ pub record Waits (m : Machine) (n : NextDeadline) : Type 0 where
   -- no live request is due before it
   pub first : (k : ℕ) (e : Live What Note) → at (m .book) k ≡ some e → n .time ≤ e .deadline
   -- it is the deadline of a live request, or 2^64 − 1
-  pub taken : (n .time ≡ noDeadline) ⊎ ((k : ℕ) × (e : Live What Note) × (at (m .book) k ≡ some e) × (e .deadline ≡ n .time))
+  pub taken : (n .time ≡ 18446744073709551615) ⊎ ((k : ℕ) × (e : Live What Note) × (at (m .book) k ≡ some e) × (e .deadline ≡ n .time))
   -- so many places are live
   pub many : n .live ≡ count (λ k. isLive (at (m .book) k)) places
 
