@@ -1,11 +1,12 @@
 -- What the lines of a history say of a live read: whether anything was issued since its issue that spoils it, and so whether a request may still join it.
 -- Assumes nothing.
-use Prim.Native.Nat.{ℕ, _<_}
+use Prim.Native.Nat.{ℕ, _+_, _*_, _≤_, _<_}
 use mathlib.Core.Path.{_≡_}
+use mathlib.Core.Logic.{_⊎_}
 use mathlib.Core.Bool.{Bool, false, _||_}
 use mathlib.Core.Option.{some}
 use mathlib.Core.List.{List}
-use lib.ListN.{length}
+use lib.ListN.{length, getD}
 use Rattle.laws.specs.Numbers.{room}
 use Rattle.laws.specs.Lists.{lastOf}
 use Rattle.pdu.specs.Replies.{What}
@@ -45,3 +46,34 @@ pub record Joinable (b : Live-book) (vs : List (Event What)) (t : ℕ) (f : List
   pub fewer : length (entry .parties) < room
   pub later : t < entry .deadline
   pub unspoiled : Unspoiled vs id (asking f) (entry .deadline)
+
+-- #102 IN BYTES
+
+-- the number in bytes k and k + 1; and the address x is one of those that a frame asks for, as many as the number at byte 10 says from the one at byte 8 on
+abbrev pub numberAt : List ℕ → ℕ → ℕ
+numberAt f k = 256 * getD f k 0 + getD f (k + 1) 0
+
+abbrev pub AsksFor : List ℕ → ℕ → Type 0
+AsksFor f x = (numberAt f 8 ≤ x) × (x < numberAt f 8 + numberAt f 10)
+
+-- byte 7 says that a frame reads coils or discrete inputs; that it reads registers
+abbrev pub ReadsBits : List ℕ → Type 0
+ReadsBits f = (getD f 7 0 ≡ 1) ⊎ (getD f 7 0 ≡ 2)
+
+abbrev pub ReadsRegisters : List ℕ → Type 0
+ReadsRegisters f = (getD f 7 0 ≡ 3) ⊎ (getD f 7 0 ≡ 4)
+
+-- none of the functions that are looked into
+abbrev pub IsOther : List ℕ → Type 0
+IsOther g =
+    (getD g 7 0 ≡ 1 → ⊥) × (getD g 7 0 ≡ 2 → ⊥) × (getD g 7 0 ≡ 3 → ⊥) × (getD g 7 0 ≡ 4 → ⊥) × (getD g 7 0 ≡ 5 → ⊥) × (getD g 7 0 ≡ 6 → ⊥) × (getD g 7 0 ≡ 15 → ⊥)
+    × (getD g 7 0 ≡ 16 → ⊥)
+
+-- what the frame g, once it is issued, makes of the read f: 05 and 15 meet reads of bits, 06 and 16 reads of registers, if some address is in both; any other function but the reads meets
+-- every read
+pub data Meets (g f : List ℕ) : Type 0 where
+  coil : getD g 7 0 ≡ 5 → ReadsBits f → AsksFor f (numberAt g 8) → Meets g f
+  coils : getD g 7 0 ≡ 15 → ReadsBits f → (x : ℕ) → AsksFor g x → AsksFor f x → Meets g f
+  register : getD g 7 0 ≡ 6 → ReadsRegisters f → AsksFor f (numberAt g 8) → Meets g f
+  registers : getD g 7 0 ≡ 16 → ReadsRegisters f → (x : ℕ) → AsksFor g x → AsksFor f x → Meets g f
+  other : IsOther g → ReadsBits f ⊎ ReadsRegisters f → Meets g f

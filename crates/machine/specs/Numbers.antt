@@ -35,6 +35,11 @@ abbrev pub report : (refusal outcome length parties partial value set id code : 
 report r o n k p v s i c =
     record { refusal = r; line = 0; outcome = o; length = n; parties = k; partial = p; value = v; set = s; id = i; code = c }
 
+-- a report by its ten numbers, in the order of the header's zb_answer: the word of the theorems that say all of them
+abbrev pub ten : (refusal line outcome length parties partial value set id code : ℕ) → Report
+ten r k o n j p v s i c =
+    record { refusal = r; line = k; outcome = o; length = n; parties = j; partial = p; value = v; set = s; id = i; code = c }
+
 unfoldable pub numbers : Answer → Report
 numbers (Refused n) = report n 0 0 0 0 0 0 0 0
 numbers Done = report 0 isDone 0 0 0 0 0 0 0

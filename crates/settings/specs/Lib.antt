@@ -1,4 +1,5 @@
 pub mod Lines
 pub mod Grammar
+pub mod Plain
 pub mod Values
 pub mod TagWords

@@ -1,7 +1,9 @@
 -- A lent stream's life: the calls that a host makes of it after the reset, one after the other, each with what the host sees of it afterwards.
 -- Assumes nothing.
-use Prim.Native.Nat.{ℕ}
+use Prim.Native.Nat.{ℕ, _≤_}
+use mathlib.Core.Path.{_≡_}
 use mathlib.Core.List.{List, [], _∷_, map}
+use lib.ListN.{length, drop}
 use Rattle.stream.specs.Stream.{Outcome, outcome}
 use Rattle.stream.specs.Hosts.{Fed, with, Offer}
 use Rattle.stream.specs.Lent.{streamOf, Takes}
@@ -30,3 +32,12 @@ pub data Lived : Inlet → List Line → Type 0 where
 unfoldable pub heard : Fed → List Line → Fed
 heard f [] = f
 heard f (x ∷ ls) = heard (with f (x .offer .piece) (came x)) ls
+
+-- the lines are the calls of a host that offers these pieces as HOST.md says, each with a buffer of 260 bytes or more: a piece, and as long as a frame comes of it (outcome 8) what is behind
+-- the bytes taken; then the next piece
+pub data Offering : List (List ℕ) → List Line → Type 0 where
+  over : Offering [] []
+  again : {p : List ℕ} {ps : List (List ℕ)} {x : Line} {ls : List Line} → x .offer .piece ≡ p → 260 ≤ length (x .offer .buffer) → x .says .outcome ≡ 8
+      → Offering (drop (x .says .taken) p ∷ ps) ls → Offering (p ∷ ps) (x ∷ ls)
+  next : {p : List ℕ} {ps : List (List ℕ)} {x : Line} {ls : List Line} → x .offer .piece ≡ p → 260 ≤ length (x .offer .buffer) → (x .says .outcome ≡ 8 → ⊥)
+      → Offering ps ls → Offering (p ∷ ps) (x ∷ ls)

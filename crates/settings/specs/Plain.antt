@@ -1,0 +1,93 @@
+-- The plain words of the theorems on settings: which values are valid, in numbers; and which line of a text is the first wrong one, without the reader.
+-- Assumes nothing.
+use Prim.Native.Nat.{ℕ, _+_, _*_, _≤_, _<_}
+use mathlib.Core.Path.{_≡_}
+use mathlib.Core.Logic.{_⊎_}
+use mathlib.Core.List.{List, [], _∷_, _++_}
+use lib.ListN.{length, getD}
+use Rattle.settings.specs.Grammar.{Tag, Value, versionKey, timeoutKey, joinKey, tagsKey, addrKey, widthKey, signKey}
+use Rattle.settings.specs.declared.Settings.{Settings}
+
+-- a tag of a valid value: of width 16 with or without a sign, or of width 32 without one, and within the addresses
+abbrev pub RightTag : Tag → Type 0
+RightTag t = ((t .width ≡ 16) × (t .sign ≤ 1) × (t .address ≤ 65535)) ⊎ ((t .width ≡ 32) × (t .sign ≡ 0) × (t .address ≤ 65534))
+
+-- the address n is above the last register of a tag with this address and width
+abbrev pub Above : (address width n : ℕ) → Type 0
+Above a w n = ((w ≡ 16) × (a < n)) ⊎ ((w ≡ 32) × (a + 1 < n))
+
+-- a valid value
+pub record ValidPlainly (v : Value) : Type 0 where
+  pub least : 100 ≤ v .timeout
+  pub most : v .timeout ≤ 60000
+  pub joins : (v .join ≡ 0) ⊎ (v .join ≡ 1)
+  pub few : length (v .tags) ≤ 256
+  pub each : (i : ℕ) (d : Tag) → i < length (v .tags) → RightTag (getD (v .tags) i d)
+  pub ascend : (i : ℕ) (d : Tag) → i + 1 < length (v .tags) → Above (getD (v .tags) i d .address) (getD (v .tags) i d .width) (getD (v .tags) (i + 1) d .address)
+
+-- the same of the struct that a host lends, zb_settings: the first `tags` places count
+abbrev pub tagIn : Settings → ℕ → Tag
+tagIn s i = record { address = getD (s .addr) i 0; width = getD (s .width) i 0; sign = getD (s .sign) i 0 }
+
+pub record ValidSettings (s : Settings) : Type 0 where
+  pub least : 100 ≤ s .timeout
+  pub most : s .timeout ≤ 60000
+  pub joins : (s .join ≡ 0) ⊎ (s .join ≡ 1)
+  pub few : s .tags ≤ 256
+  pub each : (i : ℕ) → i < s .tags → RightTag (tagIn s i)
+  pub ascend : (i : ℕ) → i + 1 < s .tags → Above (getD (s .addr) i 0) (getD (s .width) i 0) (getD (s .addr) (i + 1) 0)
+
+-- the digits are the number n in decimal, without leading zeros
+pub data Decimal : (digits : List ℕ) (n : ℕ) → Type 0 where
+  one : (d : ℕ) → d ≤ 9 → Decimal ((48 + d) ∷ []) d
+  more : {ds : List ℕ} {n : ℕ} (d : ℕ) → Decimal ds n → 1 ≤ n → d ≤ 9 → Decimal (ds ++ ((48 + d) ∷ [])) (10 * n + d)
+
+-- the bytes of a line: its key, '=', a decimal without leading zeros, LF
+pub record IsLine (key : List ℕ) (n : ℕ) (bytes : List ℕ) : Type 0 where
+  pub digits : List ℕ
+  pub decimal : Decimal digits n
+  pub spells : bytes ≡ key ++ (61 ∷ digits ++ (10 ∷ []))
+
+-- how many lines each tag has, by the version, which is the number of line 1: two in version 1, three in version 2
+abbrev pub linesOfTag : (above : List ℕ) → ℕ
+linesOfTag ns = getD ns 0 0 + 1
+
+-- above the address line of the tag i, counted from 0, the tag before ends below n; the first tag may have any address
+abbrev pub FreeFrom : (above : List ℕ) (i n : ℕ) → Type 0
+FreeFrom ns i n = (j : ℕ) → i ≡ j + 1 → Above (getD ns (4 + j * linesOfTag ns) 0) (getD ns (4 + j * linesOfTag ns + 1) 0) n
+
+-- where the lines above have these numbers, a line with this key and the number n is right. A tag's lines come behind the four before the tags, for as many tags as line 4 says;
+-- sign lines are version 2's
+pub data Right : (above key : List ℕ) (n : ℕ) → Type 0 where
+  version : {n : ℕ} → (n ≡ 1) ⊎ (n ≡ 2) → Right [] versionKey n
+  timeout : {v n : ℕ} → 100 ≤ n → n ≤ 60000 → Right (v ∷ []) timeoutKey n
+  join : {v t n : ℕ} → (n ≡ 0) ⊎ (n ≡ 1) → Right (v ∷ t ∷ []) joinKey n
+  tags : {v t j n : ℕ} → n ≤ 256 → Right (v ∷ t ∷ j ∷ []) tagsKey n
+  addr : {ns : List ℕ} {n : ℕ} (i : ℕ) → i < getD ns 3 0 → length ns ≡ 4 + i * linesOfTag ns → n ≤ 65535 → FreeFrom ns i n → Right ns addrKey n
+  width : {ns : List ℕ} {n : ℕ} (i : ℕ) → i < getD ns 3 0 → length ns ≡ 4 + i * linesOfTag ns + 1
+      → (n ≡ 16) ⊎ ((n ≡ 32) × (getD ns (4 + i * linesOfTag ns) 0 < 65535)) → Right ns widthKey n
+  sign : {ns : List ℕ} {n : ℕ} (i : ℕ) → i < getD ns 3 0 → getD ns 0 0 ≡ 2 → length ns ≡ 4 + i * linesOfTag ns + 2
+      → (n ≡ 0) ⊎ ((n ≡ 1) × (getD ns (4 + i * linesOfTag ns + 1) 0 ≡ 16)) → Right ns signKey n
+
+-- a right line stands first in r, below lines with these numbers
+abbrev pub Next : (above r : List ℕ) → Type 0
+Next ns r = (key : List ℕ) × (n : ℕ) × (line : List ℕ) × (rest : List ℕ) × (r ≡ line ++ rest) × IsLine key n line × Right ns key n
+
+-- below lines with the numbers `above`, the text is right lines with the numbers ns, and `rest` behind them
+pub data Lines : (above text ns rest : List ℕ) → Type 0 where
+  none : {above text : List ℕ} → Lines above text [] text
+  more : {above text line behind ns rest key : List ℕ} {n : ℕ} → text ≡ line ++ behind → IsLine key n line → Right above key n → Lines (above ++ (n ∷ [])) behind ns rest
+      → Lines above text (n ∷ ns) rest
+
+-- these are all the lines that a text has
+abbrev pub AllLines : List ℕ → Type 0
+AllLines ns = (4 ≤ length ns) × (length ns ≡ 4 + getD ns 3 0 * linesOfTag ns)
+
+-- k is the number of the first wrong line of t: the lines 1 to k − 1 are each right, and line k is not, or is an extra byte behind the last line
+pub record FirstWrong (t : List ℕ) (k : ℕ) : Type 0 where
+  pub numbers : List ℕ
+  pub rest : List ℕ
+  pub above : Lines [] t numbers rest
+  pub at : k ≡ length numbers + 1
+  pub wrong : Next numbers rest → ⊥
+  pub left : AllLines numbers → rest ≡ [] → ⊥
