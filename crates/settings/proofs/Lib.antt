@@ -4,4 +4,5 @@ pub mod RowLaws
 pub mod VersionLaws
 pub mod GrammarLaws
 pub mod ValueLaws
+pub mod ValidLaws
 pub mod TagLaws

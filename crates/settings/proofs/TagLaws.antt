@@ -3,29 +3,29 @@
 use Prim.Native.Nat.{ℕ, zero, suc, _+_, _*_, _/_, _%_, _^_, _≤_, _<_}
 use mathlib.Core.Path.{_≡_, refl, ap, sym, _∙_}
 use mathlib.Core.Logic.{⊎-elim, _⊎_, inl, inr}
-use mathlib.Core.Bool.{true, false, cond, _&&_}
+use mathlib.Core.Bool.{true, cond, _&&_}
 use mathlib.Core.List.{List, [], _∷_, _++_, map, map-append}
 use native.Mathlib.Nat.{mod-eq-of-lt}
 use native.Mathlib.Omega.{arith}
 use lib.ListN.{length, getD, set, take, replicate, length-map}
 use lib.Seq.{take-at, take-suc, length-take-le}
-use lib.Dec.{eqb, ltb, leb}
+use lib.Dec.{eqb}
 use native.Mathlib.Numerals.{add-one}
-use borrow.Author.Tests.{eqb-true, ltb-true, leb-true}
 use Rattle.laws.specs.Numbers.{mostTags, addresses, leastTimeout, mostTimeout}
 use Rattle.laws.specs.Lists.{tab}
-use Rattle.laws.proofs.Choice.{true-or, and-left, and-right, or-second}
+use Rattle.laws.proofs.Choice.{true-or, eq-or, and-right}
 use Rattle.laws.proofs.ListLaws.{tab-more, length-tab, set-padded}
 use Rattle.bcd.specs.declared.Kind.{Kind}
 use Rattle.bcd.specs.declared.Kind.the-variants.{Width16, Width32, Signed16}
 use Rattle.bcd.specs.Bcd.{registers}
 use Rattle.bcd.proofs.Words.{registers-least}
 use Rattle.settings.specs.declared.Settings.{Settings}
-use Rattle.settings.specs.Grammar.{Tag, Value, newest, tagNumbers, lastRegister, ascends, rightTimeout, rightJoin, rightTags, rightWidth, rightSign, allRight, tagsRight, valid}
+use Rattle.settings.specs.Grammar.{Tag, Value, newest, tagNumbers, lastRegister, rightTimeout, rightJoin, rightTags, tagsRight, valid}
+use Rattle.settings.specs.Plain.{RightTag}
 use Rattle.settings.specs.Values.{settings, padded, settingsOf}
 use Rattle.settings.specs.TagWords.{kindOf, widthOf, signOf, kindNumber, kindFrom, wordOf, tagOfKind, tagOf, lastOf, Ascending}
-use Rattle.settings.proofs.VersionLaws.{widths}
-use Rattle.settings.proofs.ValueLaws.{tagAt, tag-ext, fromOf, rightKind, tag-right, valid-parts}
+use Rattle.settings.proofs.ValueLaws.{tagAt, tag-ext, fromOf, valid-parts}
+use Rattle.settings.proofs.ValidLaws.{first-exactly, valid-exactly}
 
 -- a tag has one of the two widths, and a sign only with the first
 abbrev pub Wide : Tag → Type 0
@@ -100,53 +100,17 @@ last-register t = rw (registers-wide t) (⊎-elim (λ e. rw e (omega arith)) (λ
 pub address-last : (t : Tag) → t .address ≤ lastOf t
 address-last t = omega (arith, registers-least (kindOf t))
 
--- what the rules of a tag's lines say of it
-pub record Right (prior : List ℕ) (t : Tag) : Type 0 where
-  pub low : t .address < addresses
-  pub follows : fromOf prior ≤ t .address
-  pub wide : Wide t
-  pub ends : lastOf t < addresses
+-- a right tag has one of the kinds, and ends within the addresses
+right-wide : (t : Tag) → RightTag t → Wide t
+right-wide t (inl r) = ⊎-elim (λ (z : t .sign ≡ 0). inl (r .0, z)) (λ (z : t .sign ≡ 0 → ⊥). inr (inr (r .0, omega arith))) (eq-or (t .sign) 0)
+right-wide t (inr r) = inr (inl (r .0, r .1))
 
--- the kinds that the rules allow
-kind-wide : (t : Tag) → rightKind t ≡ true → Wide t
-kind-wide t r =
-    let w = and-left (rightWidth (t .address ∷ []) (t .width)) _ r in
-    let s = and-right (rightWidth (t .address ∷ []) (t .width)) _ r in
-    ⊎-elim
-    (λ (e : eqb (t .sign) 0 ≡ true). let z = eqb-true (t .sign) 0 e in ⊎-elim (λ (n : t .width ≡ 16). inl (n, z)) (λ (n : t .width ≡ 32). inr (inl (n, z))) (widths (t .address ∷ []) (t .width) w))
-    (λ (e : eqb (t .sign) 0 ≡ false).
-    let f = or-second (eqb (t .sign) 0) _ e s in
-    inr (inr (eqb-true (t .width) 16 (and-right (eqb (t .sign) 1) _ f), eqb-true (t .sign) 1 (and-left (eqb (t .sign) 1) _ f))))
-    (true-or (eqb (t .sign) 0))
+right-ends : (t : Tag) → RightTag t → lastOf t < addresses
+right-ends t (inl r) = rw (registers-wide t, r .0) (omega arith)
+right-ends t (inr r) = rw (registers-wide t, r .0) (omega arith)
 
-wide-ends : (t : Tag) → t .address < addresses → rightKind t ≡ true → lastOf t < addresses
-wide-ends t l r =
-    rw (registers-wide t)
-    (⊎-elim
-    (λ (e : eqb (t .width) 16 ≡ true). let q = eqb-true (t .width) 16 e in rw q (omega arith))
-    (λ (e : eqb (t .width) 16 ≡ false).
-    let f = or-second (eqb (t .width) 16) _ e (and-left (rightWidth (t .address ∷ []) (t .width)) _ r) in
-    let q = eqb-true (t .width) 32 (and-left (eqb (t .width) 32) _ f) in
-    let h = ltb-true (t .address + 1) addresses (and-right (eqb (t .width) 32) _ f) in
-    rw q (omega arith))
-    (true-or (eqb (t .width) 16)))
-
-right-low : (prior : List ℕ) (t : Tag) → allRight (newest .tag) prior [] (tagNumbers t) ≡ true → t .address < addresses
-unfolding allRight
-right-low prior t r = ltb-true (t .address) addresses (and-left (ltb (t .address) addresses) _ (and-left (ltb (t .address) addresses && ascends prior (t .address)) _ r))
-
-right-tag : (prior : List ℕ) (t : Tag) → allRight (newest .tag) prior [] (tagNumbers t) ≡ true → Right prior t
-right-tag prior t r =
-    let l = right-low prior t r in
-    let q = sym (tag-right prior t l) ∙ r in
-    let k = and-right (leb (fromOf prior) (t .address)) _ q in
-    record { low = l; follows = leb-true (fromOf prior) (t .address) (and-left (leb (fromOf prior) (t .address)) _ q); wide = kind-wide t k; ends = wide-ends t l k }
-
--- the first of right tags, and the others behind it
-right-first : (prior : List ℕ) (t : Tag) (ts : List Tag) → tagsRight (newest .tag) prior (t ∷ ts) ≡ true → Right prior t × (tagsRight (newest .tag) (tagNumbers t) ts ≡ true)
-unfolding tagsRight
-right-first prior t ts r =
-    (right-tag prior t (and-left (allRight (newest .tag) prior [] (tagNumbers t)) _ r), and-right (allRight (newest .tag) prior [] (tagNumbers t)) _ r)
+right-low : (t : Tag) → RightTag t → t .address < addresses
+right-low t r = let l = right-ends t r in omega (arith, address-last t)
 
 right-tags : (v : Value) → valid v ≡ true → tagsRight (newest .tag) [] (v .tags) ≡ true
 right-tags v h = and-right (rightTimeout (v .timeout) && (rightJoin (v .join) && rightTags (length (v .tags)))) _ (sym (valid-parts v) ∙ h)
@@ -156,8 +120,8 @@ ascending : (prior : List ℕ) (ts : List Tag) → tagsRight (newest .tag) prior
 unfolding Ascending fromOf
 ascending prior [] r = tt
 ascending prior (t ∷ ts) r =
-    let f = right-first prior t ts r in
-    (f .0 .follows, f .0 .ends, rw (last-register t) at (ascending (tagNumbers t) ts (f .1)))
+    let f = first-exactly prior t ts .0 r in
+    (f .0 .1, right-ends t (f .0 .0), rw (last-register t) at (ascending (tagNumbers t) ts (f .1)))
 
 -- the tags of a valid value ascend
 pub valid-ascends : (v : Value) → valid v ≡ true → Ascending 0 (v .tags)
@@ -185,8 +149,8 @@ ascending-apart from (t ∷ ts) (suc i) (suc j) d a h l = ascending-apart (lastO
 right-back : (prior : List ℕ) (ts : List Tag) → tagsRight (newest .tag) prior ts ≡ true → map tagOf (map wordOf ts) ≡ ts
 right-back prior [] r = refl
 right-back prior (t ∷ ts) r =
-    let f = right-first prior t ts r in
-    cc (word-back t (f .0 .low) (f .0 .wide), right-back (tagNumbers t) ts (f .1))
+    let f = first-exactly prior t ts .0 r in
+    cc (word-back t (right-low t (f .0 .0)) (right-wide t (f .0 .0)), right-back (tagNumbers t) ts (f .1))
 
 -- the words of a valid value's tags give the tags back
 pub words-back : (v : Value) → valid v ≡ true → map tagOf (map wordOf (v .tags)) ≡ v .tags
@@ -195,16 +159,6 @@ words-back v h = right-back [] (v .tags) (right-tags v h)
 -- the words that the state keeps, padded, give the tags of a valid value back
 pub words-kept : (v : Value) → valid v ≡ true → map tagOf (take (length (v .tags)) (padded (map wordOf (v .tags)))) ≡ v .tags
 words-kept v h = rw (take-at (map wordOf (v .tags)) _ (length (v .tags)) (length-map (v .tags) wordOf)) (words-back v h)
-
-right-words : (prior : List ℕ) (ts : List Tag) (k : ℕ) → tagsRight (newest .tag) prior ts ≡ true → getD (map wordOf ts) k 0 < 2 ^ 24
-right-words prior [] k r = omega arith
-right-words prior (t ∷ ts) zero r = word-low t (right-first prior t ts r .0 .low)
-right-words prior (t ∷ ts) (suc k) r = right-words (tagNumbers t) ts k (right-first prior t ts r .1)
-
-right-wide : (prior : List ℕ) (ts : List Tag) (i : ℕ) (d : Tag) → tagsRight (newest .tag) prior ts ≡ true → i < length ts → Wide (getD ts i d)
-right-wide prior [] i d r h = absurd (omega arith)
-right-wide prior (t ∷ ts) zero d r h = right-first prior t ts r .0 .wide
-right-wide prior (t ∷ ts) (suc i) d r h = right-wide (tagNumbers t) ts i d (right-first prior t ts r .1) (omega arith)
 
 -- document 01's bounds on a value's numbers
 pub record Bounds (v : Value) : Type 0 where
@@ -217,16 +171,13 @@ pub record Bounds (v : Value) : Type 0 where
 -- a valid value is within the bounds
 pub valid-bounds : (v : Value) → valid v ≡ true → Bounds v
 valid-bounds v h =
-    let r = sym (valid-parts v) ∙ h in
-    let head = and-left (rightTimeout (v .timeout) && (rightJoin (v .join) && rightTags (length (v .tags)))) _ r in
-    let timeout = and-left (rightTimeout (v .timeout)) _ head in
-    let rest = and-right (rightTimeout (v .timeout)) _ head in
+    let p = valid-exactly v .0 h in
     record {
-      least = leb-true leastTimeout (v .timeout) (and-left (leb leastTimeout (v .timeout)) _ timeout);
-      most = leb-true (v .timeout) mostTimeout (and-right (leb leastTimeout (v .timeout)) _ timeout);
-      joins = leb-true (v .join) 1 (and-left (rightJoin (v .join)) _ rest);
-      few = leb-true (length (v .tags)) mostTags (and-right (rightJoin (v .join)) _ rest);
-      wide = λ i d. right-wide [] (v .tags) i d (right-tags v h);
+      least = p .least;
+      most = p .most;
+      joins = ⊎-elim (λ (e : v .join ≡ 0). omega arith) (λ (e : v .join ≡ 1). omega arith) (p .joins);
+      few = p .few;
+      wide = λ i d l. right-wide (getD (v .tags) i d) (p .each i d l);
     }
 
 -- places filled one after the other, and 0 beyond
