@@ -57,10 +57,10 @@ read-only t r v h = go (went t) h
     Goal = (r ≡ []) × ((x : Version) × List·Memᴰ x versions × (validIn x v ≡ true) × (t ≡ textIn x v))
 
     go : {o : Read Value} → Went t o → o ≡ got v r → Goal
-    go unversioned e = never (cc)
+    go (unversioned h) e = never (cc)
     go (inHead y x k w a) e = never (cc)
     go (inTags y x ns q k w a b) e = never (cc)
-    go (extra y x ns q ts p w a b) e = never (cc)
+    go (extra y x ns q ts p w a b c) e = never (cc)
     go (whole y x ns q ts w a b) e =
         let f = fits x (w .listed) in
         let l = lines-only 2 (x .head) [] [] (y .rest) ns q (f .headBounded) a in
@@ -139,7 +139,7 @@ wrong-lines t k h = go (went t) h
     few t ns q x f a = let l = lines-only 2 (x .head) [] [] t ns q (f .headBounded) a in rw (l .whole) (f .few (l .numbers) (l .right))
 
     go : {o : Read Value} → Went t o → o ≡ wrong k → (k ≡ 1) ⊎ ((y : Numbered) × (x : Version) × Versioned t y x × (2 ≤ k) × (k ≤ 5 + length (x .tag) * mostTags))
-    go unversioned e = let n : 1 ≡ k = cc in inl (sym n)
+    go (unversioned h) e = let n : 1 ≡ k = cc in inl (sym n)
     go (inHead y x j w a) e =
         let n : j ≡ k = cc in
         let f = fits x (w .listed) in
@@ -151,7 +151,7 @@ wrong-lines t k h = go (went t) h
         let bound = tags-wrong (getD ns 2 0) (2 + length (x .head)) (x .tag) [] q j b in
         let most : getD ns 2 0 * length (x .tag) ≤ length (x .tag) * mostTags = rw (mul-comm (length (x .tag)) mostTags) (mul-le-mul-right (length (x .tag)) (few (y .rest) ns q x f a)) in
         inr (y, x, w, omega arith, omega (arith, f .heads))
-    go (extra y x ns q ts p w a b) e =
+    go (extra y x ns q ts p w a b c) e =
         let f = fits x (w .listed) in
         let n : 2 + length (x .head) + length (x .tag) * length ts ≡ k = cc in
         let all = tags-only (getD ns 2 0) (2 + length (x .head)) (x .tag) [] q ts p (f .tagBounded) (f .tags) b .0 in

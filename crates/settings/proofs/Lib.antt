@@ -6,3 +6,6 @@ pub mod GrammarLaws
 pub mod ValueLaws
 pub mod ValidLaws
 pub mod TagLaws
+pub mod PlainLines
+pub mod PlaceLaws
+pub mod FirstWrongLaws

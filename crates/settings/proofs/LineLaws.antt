@@ -55,7 +55,7 @@ leading-trailing (c ∷ t) =
     (λ (e : isDigit c ≡ false). rw e)
     (true-or (isDigit c))
 
-digit-of : (n : ℕ) → n < 10 → isDigit (digitZero + n) ≡ true
+pub digit-of : (n : ℕ) → n < 10 → isDigit (digitZero + n) ≡ true
 digit-of n h = rw (le-leb 48 (48 + n) (omega arith), le-leb (48 + n) 57 (omega arith))
 
 pub decimal-digits : (k n : ℕ) → trailing (decimalOf k n) ≡ []
@@ -242,9 +242,16 @@ number-read t x h = go (behind (lineFeed ∷ []) (trailing t)) refl
 
 -- a line in a text: its key with '=', and a number
 
-pub line-parts : (key : List ℕ) (n : ℕ) (rest : List ℕ) → lineOf key n ++ rest ≡ (key ++ (equals ∷ [])) ++ (decimal n ++ (lineFeed ∷ rest))
-unfolding lineOf
-line-parts key n rest = simp append-assoc
+pub line-parts : (key digits rest : List ℕ) → (key ++ (equals ∷ digits ++ (lineFeed ∷ []))) ++ rest ≡ (key ++ (equals ∷ [])) ++ (digits ++ (lineFeed ∷ rest))
+line-parts key digits rest = simp append-assoc
+
+pub digits-back : (key digits rest : List ℕ) → trailing digits ≡ [] → plain digits ≡ true
+    → lineIn key ((key ++ (equals ∷ digits ++ (lineFeed ∷ []))) ++ rest) ≡ some (numbered (numberFrom 0 digits) rest)
+unfolding lineIn
+digits-back key digits rest d p =
+    let r : List ℕ = digits ++ (lineFeed ∷ rest) in
+    rw (line-parts key digits rest) (rw (lineIn, behind-back (key ++ (equals ∷ [])) r)
+    (number-ends digits rest d ∙ rw p))
 
 pub line-read : (key t : List ℕ) (x : Numbered) → lineIn key t ≡ some x → (r : List ℕ) × (t ≡ (key ++ (equals ∷ [])) ++ r) × (numberIn r ≡ some x)
 unfolding lineIn
@@ -256,19 +263,17 @@ line-read key t x h = go (behind (key ++ (equals ∷ [])) t) refl
 
 -- A line is read back from its text: any key, any number of up to 20 digits, and whatever follows.
 pub line-back : (key : List ℕ) (n : ℕ) (rest : List ℕ) → n < 10 ^ 20 → lineIn key (lineOf key n ++ rest) ≡ some (numbered n rest)
-unfolding lineIn
-line-back key n rest l =
-    let r : List ℕ = decimal n ++ (lineFeed ∷ rest) in
-    rw (line-parts key n rest) (rw (lineIn, behind-back (key ++ (equals ∷ [])) r)
-    (number-ends (decimal n) rest (decimal-digits 20 n) ∙ rw (decimal-plain 19 n l, decimal-back 20 n l)))
+unfolding lineOf
+line-back key n rest l = digits-back key (decimal n) rest (decimal-digits 20 n) (decimal-plain 19 n l) ∙ rw (decimal-back 20 n l)
 
 -- And no other text is read as that line.
 pub line-only : (key t : List ℕ) (x : Numbered) → lineIn key t ≡ some x → x .number < 10 ^ 20 → t ≡ lineOf key (x .number) ++ x .rest
+unfolding lineOf
 line-only key t x h l =
     let r = line-read key t x h in
     let d = number-read (r .0) x (r .2) in
     let w : decimal (x .number) ≡ d .digits = ap decimal (d .number) ∙ decimal-only 19 (d .digits) (d .only) (d .right) (rw (d .number) at l) in
-    r .1 ∙ ap ((key ++ (equals ∷ [])) ++_) (d .whole ∙ ap (_++ (lineFeed ∷ x .rest)) (sym w)) ∙ sym (line-parts key (x .number) (x .rest))
+    r .1 ∙ ap ((key ++ (equals ∷ [])) ++_) (d .whole ∙ ap (_++ (lineFeed ∷ x .rest)) (sym w)) ∙ sym (line-parts key (decimal (x .number)) (x .rest))
 
 -- how long a line is
 

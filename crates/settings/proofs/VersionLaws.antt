@@ -5,7 +5,7 @@ use mathlib.Core.Path.{_≡_, refl, ap, sym, subst, _∙_}
 use mathlib.Core.Logic.{⊎-elim, _⊎_, inl, inr}
 use mathlib.Core.Bool.{Bool, true, false, _&&_, false≢true}
 use mathlib.Core.Option.{Option, some, none, Option·some-injective, Option·none-ne-some}
-use mathlib.Core.List.{List, [], _∷_, _++_, map, flatMap, append-nil, List·Memᴰ, List·Memᴰ·head, List·Memᴰ·tail, List·Memᴰ·cases-cons, List·Memᴰ·not-nil}
+use mathlib.Core.List.{List, [], _∷_, _++_, map, flatMap, append-nil, cons≢nil, List·Memᴰ, List·Memᴰ·head, List·Memᴰ·tail, List·Memᴰ·cases-cons, List·Memᴰ·not-nil}
 use native.Mathlib.Nat.{suc-mul}
 use native.Mathlib.Omega.{arith}
 use lib.ListN.{length, getD, take, length-append, length-take}
@@ -129,11 +129,11 @@ pub record Versioned (t : List ℕ) (y : Numbered) (x : Version) : Type 0 where
 
 -- how reading a text goes: no listed version, a wrong line before the tags, a wrong line of a tag, an extra byte, or all of it
 pub data Went (t : List ℕ) : Read Value → Type 0 where
-  unversioned : Went t (wrong 1)
+  unversioned : ((y : Numbered) → lineIn versionKey t ≡ some y → versionIn versions (y .number) ≡ none) → Went t (wrong 1)
   inHead : (y : Numbered) (x : Version) (k : ℕ) → Versioned t y x → readLines 2 (x .head) [] [] (y .rest) ≡ wrong k → Went t (wrong k)
   inTags : (y : Numbered) (x : Version) (ns q : List ℕ) (k : ℕ) → Versioned t y x → readLines 2 (x .head) [] [] (y .rest) ≡ got ns q → tagsIn x ns q ≡ wrong k → Went t (wrong k)
   extra : (y : Numbered) (x : Version) (ns q : List ℕ) (ts : List Tag) (p : List ℕ) → Versioned t y x → readLines 2 (x .head) [] [] (y .rest) ≡ got ns q → tagsIn x ns q ≡ got ts p
-      → Went t (wrong (2 + length (x .head) + length (x .tag) * length ts))
+      → (p ≡ [] → ⊥) → Went t (wrong (2 + length (x .head) + length (x .tag) * length ts))
   whole : (y : Numbered) (x : Version) (ns q : List ℕ) (ts : List Tag) → Versioned t y x → readLines 2 (x .head) [] [] (y .rest) ≡ got ns q → tagsIn x ns q ≡ got ts []
       → Went t (got (valueFrom ns ts) [])
 
@@ -144,20 +144,20 @@ went t = version (lineIn versionKey t) refl
     tags : (y : Numbered) (x : Version) (ns q : List ℕ) → Versioned t y x → readLines 2 (x .head) [] [] (y .rest) ≡ got ns q → (o : Read (List Tag)) → tagsIn x ns q ≡ o → Went t (readBehind x ns q)
     tags y x ns q v e (wrong k) g = rw (g, readBehind) (inTags y x ns q k v e g)
     tags y x ns q v e (got ts []) g = rw (g, readBehind) (whole y x ns q ts v e g)
-    tags y x ns q v e (got ts (c ∷ p)) g = rw (g, readBehind) (rw (ne-eqb (suc (length p)) 0 (λ z. omega arith)) (extra y x ns q ts (c ∷ p) v e g))
+    tags y x ns q v e (got ts (c ∷ p)) g = rw (g, readBehind) (rw (ne-eqb (suc (length p)) 0 (λ z. omega arith)) (extra y x ns q ts (c ∷ p) v e g cons≢nil))
 
     head : (y : Numbered) (x : Version) → Versioned t y x → (o : Read (List ℕ)) → readLines 2 (x .head) [] [] (y .rest) ≡ o → Went t (readIn x (y .rest))
     head y x v (wrong k) e = rw (e, readIn) (inHead y x k v e)
     head y x v (got ns q) e = rw (text-head x (y .rest) ns q e) (tags y x ns q v e (tagsIn x ns q) refl)
 
     number : (y : Numbered) → lineIn versionKey t ≡ some y → (o : Option Version) → versionIn versions (y .number) ≡ o → Went t (readText t)
-    number y e none g = rw (e, readText) (rw g unversioned)
+    number y e none g = rw (e, readText) (rw g (unversioned (λ z f. let q : y ≡ z = Option·some-injective y z (sym e ∙ f) in ap (λ (z : Numbered). versionIn versions (z .number)) (sym q) ∙ g)))
     number y e (some x) g =
         let m = listed versions (y .number) x g in
         rw (text-version t y x e g) (head y x (record { line = e; listed = m .0; number = m .1 }) (readLines 2 (x .head) [] [] (y .rest)) refl)
 
     version : (o : Option Numbered) → lineIn versionKey t ≡ o → Went t (readText t)
-    version none e = rw (e, readText) unversioned
+    version none e = rw (e, readText) (unversioned (λ z f. absurd (Option·none-ne-some z (sym e ∙ f))))
     version (some y) e = number y e (versionIn versions (y .number)) refl
 
 -- a valid value's text is read to what it tells
