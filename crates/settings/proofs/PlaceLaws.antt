@@ -3,18 +3,18 @@
 use Prim.Native.Nat.{ℕ, zero, suc, _+_, _*_, _≤_, _<_}
 use mathlib.Core.Path.{_≡_, refl, ap, sym, subst, _∙_}
 use mathlib.Core.Logic.{_↔_, _⊎_, inl, inr, ⊎-elim}
-use mathlib.Core.Bool.{true, cond}
+use mathlib.Core.Bool.{true}
 use mathlib.Core.List.{List, [], _∷_, _++_, append-assoc, append-nil}
 use native.Mathlib.Omega.{arith}
 use native.Mathlib.Nat.{eq-of-mul-eq-mul-right}
 use lib.ListN.{length, getD, take, length-append, List·getD-append}
 use lib.Seq.{getD-at, getD-append-add}
-use lib.Dec.{eqb, ltb, leb}
-use borrow.Author.Tests.{le-leb, leb-true, lt-ltb, ltb-true}
-use Rattle.laws.proofs.Choice.{lt-or}
-use Rattle.laws.proofs.TestLaws.{holds-eq, holds-and, holds-or}
+use lib.Dec.{ltb}
+use borrow.Author.Tests.{lt-ltb, ltb-true}
+use Rattle.laws.proofs.TestLaws.{holds-and}
 use Rattle.settings.specs.Grammar.{Line, lastRegister, ascends, timeoutKey, joinKey, tagsKey, addrKey, widthKey, signKey, rightTimeout, rightJoin, rightTags, rightAddr, rightWidth, rightSign, headLines, tagLines}
 use Rattle.settings.specs.Plain.{Above, FreeFrom, Right, AllLines}
+use Rattle.settings.proofs.ValidLaws.{timeout-exactly, join-exactly, tags-exactly, Widths, width-exactly, Signs, sign-exactly, above-exactly}
 use Rattle.settings.proofs.PlainLines.{keys, keyAt, InTag, tag-follows}
 
 -- the line l is the next one below these numbers, and its rule is the plain one
@@ -31,26 +31,19 @@ Row P (l ∷ ls) above prior own = Place l above prior own × ((n : ℕ) → Rig
 -- the lines before the tags
 
 timeout-rule : (v n : ℕ) → (rightTimeout n ≡ true) ↔ Right (v ∷ []) timeoutKey n
-timeout-rule v n = (λ e. let w = holds .0 e in Right.timeout (w .0) (w .1), λ g. holds .1 (said g))
+timeout-rule v n = (λ e. let w = timeout-exactly n .0 e in Right.timeout (w .0) (w .1), λ g. timeout-exactly n .1 (said g))
   where
-    holds : (rightTimeout n ≡ true) ↔ ((100 ≤ n) × (n ≤ 60000))
-    holds = holds-and (leb 100 n) (leb n 60000) (leb-true 100 n, le-leb 100 n) (leb-true n 60000, le-leb n 60000)
-
     said : Right (v ∷ []) timeoutKey n → (100 ≤ n) × (n ≤ 60000)
     said (Right.timeout l m) = (l, m)
 
 join-rule : (v t n : ℕ) → (rightJoin n ≡ true) ↔ Right (v ∷ t ∷ []) joinKey n
-join-rule v t n = (λ e. Right.join (one-or-none (leb-true n 1 e)), λ g. le-leb n 1 (said g))
+join-rule v t n = (λ e. Right.join (join-exactly n .0 e), λ g. join-exactly n .1 (said g))
   where
-    one-or-none : n ≤ 1 → (n ≡ 0) ⊎ (n ≡ 1)
-    one-or-none l = ⊎-elim (λ z. inl (omega arith)) (λ z. inr (omega arith)) (lt-or n 1)
-
-    said : Right (v ∷ t ∷ []) joinKey n → n ≤ 1
-    said (Right.join (inl e)) = omega arith
-    said (Right.join (inr e)) = omega arith
+    said : Right (v ∷ t ∷ []) joinKey n → (n ≡ 0) ⊎ (n ≡ 1)
+    said (Right.join e) = e
 
 tags-rule : (v t j n : ℕ) → (rightTags n ≡ true) ↔ Right (v ∷ t ∷ j ∷ []) tagsKey n
-tags-rule v t j n = (λ e. Right.tags (leb-true n 256 e), λ g. le-leb n 256 (said g))
+tags-rule v t j n = (λ e. Right.tags (tags-exactly n .0 e), λ g. tags-exactly n .1 (said g))
   where
     said : Right (v ∷ t ∷ j ∷ []) tagsKey n → n ≤ 256
     said (Right.tags l) = l
@@ -70,10 +63,6 @@ head-row v = (
 )
 
 -- the lines of the tags
-
-above-exactly : (a w n : ℕ) → (w ≡ 16) ⊎ (w ≡ 32) → (ltb (cond (eqb w 32) (a + 1) a) n ≡ true) ↔ Above a w n
-above-exactly a w n (inl e) = rw e (λ h. inl (refl, ltb-true a n h), λ u. lt-ltb a n (⊎-elim (λ z. z .1) (λ z. absurd (omega (arith, z .0))) u))
-above-exactly a w n (inr e) = rw e (λ h. inr (refl, ltb-true (a + 1) n h), λ u. lt-ltb (a + 1) n (⊎-elim (λ z. absurd (omega (arith, z .0))) (λ z. z .1) u))
 
 ascends-last : (prior : List ℕ) (n : ℕ) → 1 ≤ length prior → ascends prior n ≡ ltb (lastRegister prior) n
 unfolding ascends
@@ -158,16 +147,13 @@ module _ (v t j m : ℕ) where
           (omega arith, λ k z. f k (sym same ∙ z))
 
   width-rule : {i : ℕ} {prior start own : List ℕ} → Inside i 1 prior start own → (n : ℕ) → (rightWidth own n ≡ true) ↔ Right (all (start ++ own)) widthKey n
-  width-rule {i} {prior} {start} {own} p n = (λ e. so (holds .0 e), λ g. holds .1 (said g))
+  width-rule {i} {prior} {start} {own} p n = (λ e. so (width-exactly own n .0 e), λ g. width-exactly own n .1 (said g))
     where
-      holds : (rightWidth own n ≡ true) ↔ ((n ≡ 16) ⊎ ((n ≡ 32) × (getD own 0 0 + 1 < 65536)))
-      holds = holds-or (eqb n 16) _ (holds-eq n 16) (holds-and (eqb n 32) _ (holds-eq n 32) (ltb-true (getD own 0 0 + 1) 65536, lt-ltb (getD own 0 0 + 1) 65536))
-
-      so : (n ≡ 16) ⊎ ((n ≡ 32) × (getD own 0 0 + 1 < 65536)) → Right (all (start ++ own)) widthKey n
+      so : Widths (getD own 0 0) n → Right (all (start ++ own)) widthKey n
       so (inl e) = Right.width {ns = all (start ++ own)} i (p .within) (inside p .long) (inl e)
       so (inr w) = Right.width {ns = all (start ++ own)} i (p .within) (inside p .long) (inr (w .0, omega (arith, w .1, own-at start own (4 + i * (v + 1)) 0 (omega (arith, p .begun .long)))))
 
-      said : Right (all (start ++ own)) widthKey n → (n ≡ 16) ⊎ ((n ≡ 32) × (getD own 0 0 + 1 < 65536))
+      said : Right (all (start ++ own)) widthKey n → Widths (getD own 0 0) n
       said (Right.width h l e (inl w)) = inl w
       said (Right.width h l e (inr w)) = inr (w .0, omega (arith, w .1, own-at start own (4 + h * (v + 1)) 0 (omega (arith, length-append start own, p .count))))
 
@@ -175,19 +161,16 @@ module _ (v t j m : ℕ) where
   width-told own c (Right.width {n = n} i l e r) = λ h. rw (getD-at own n [] 0 1 c) (⊎-elim (λ (w : n ≡ 16). inl w) (λ w. inr (w .0)) r)
 
   sign-rule : v < length tagLines → {i : ℕ} {prior start own : List ℕ} → Inside i 2 prior start own → (n : ℕ) → (rightSign own n ≡ true) ↔ Right (all (start ++ own)) signKey n
-  sign-rule u {i} {prior} {start} {own} p n = (λ e. so (holds .0 e), λ g. holds .1 (said g))
+  sign-rule u {i} {prior} {start} {own} p n = (λ e. so (sign-exactly own n .0 e), λ g. sign-exactly own n .1 (said g))
     where
-      holds : (rightSign own n ≡ true) ↔ ((n ≡ 0) ⊎ ((n ≡ 1) × (getD own 1 0 ≡ 16)))
-      holds = holds-or (eqb n 0) _ (holds-eq n 0) (holds-and (eqb n 1) _ (holds-eq n 1) (holds-eq (getD own 1 0) 16))
-
       two : v ≡ 2
       two = omega (arith, p .line)
 
-      so : (n ≡ 0) ⊎ ((n ≡ 1) × (getD own 1 0 ≡ 16)) → Right (all (start ++ own)) signKey n
+      so : Signs (getD own 1 0) n → Right (all (start ++ own)) signKey n
       so (inl e) = Right.sign {ns = all (start ++ own)} i (p .within) two (inside p .long) (inl e)
       so (inr w) = Right.sign {ns = all (start ++ own)} i (p .within) two (inside p .long) (inr (w .0, own-at start own (4 + i * (v + 1) + 1) 1 (omega (arith, p .begun .long)) ∙ w .1))
 
-      said : Right (all (start ++ own)) signKey n → (n ≡ 0) ⊎ ((n ≡ 1) × (getD own 1 0 ≡ 16))
+      said : Right (all (start ++ own)) signKey n → Signs (getD own 1 0) n
       said (Right.sign h l q e (inl w)) = inl w
       said (Right.sign h l q e (inr w)) = inr (w .0, sym (own-at start own (4 + h * (v + 1) + 1) 1 (omega (arith, length-append start own, p .count))) ∙ w .1)
 

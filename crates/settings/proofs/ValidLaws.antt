@@ -2,8 +2,8 @@
 -- Assumes nothing.
 use Prim.Native.Nat.{ℕ, zero, suc, _+_, _≤_, _<_}
 use mathlib.Core.Path.{_≡_, refl}
-use mathlib.Core.Logic.{_↔_, Iff·trans, ⊎-elim, _⊎_, inl, inr}
-use mathlib.Core.Bool.{true, _&&_}
+use mathlib.Core.Logic.{_↔_, Iff·symm, Iff·trans, ⊎-elim, ⊎-map, _⊎_, inl, inr}
+use mathlib.Core.Bool.{true, cond, _&&_}
 use mathlib.Core.List.{List, [], _∷_}
 use native.Mathlib.Nat.{suc-add}
 use native.Mathlib.Omega.{arith}
@@ -21,33 +21,36 @@ use Rattle.settings.specs.Values.{valueOf}
 use Rattle.settings.proofs.ValueLaws.{fromOf, ascends-from, valid-parts}
 
 -- the rule of each line, in numbers
-timeout-exactly : (n : ℕ) → (rightTimeout n ≡ true) ↔ ((100 ≤ n) × (n ≤ 60000))
+pub timeout-exactly : (n : ℕ) → (rightTimeout n ≡ true) ↔ ((100 ≤ n) × (n ≤ 60000))
 timeout-exactly n = holds-and (leb leastTimeout n) (leb n mostTimeout) (leb-true leastTimeout n, le-leb leastTimeout n) (leb-true n mostTimeout, le-leb n mostTimeout)
 
-join-exactly : (n : ℕ) → (rightJoin n ≡ true) ↔ ((n ≡ 0) ⊎ (n ≡ 1))
+pub join-exactly : (n : ℕ) → (rightJoin n ≡ true) ↔ ((n ≡ 0) ⊎ (n ≡ 1))
 join-exactly n = (
   λ e. let l = leb-true n 1 e in ⊎-elim inl (λ (z : n ≡ 0 → ⊥). inr (omega arith)) (eq-or n 0),
   ⊎-elim (λ (e : n ≡ 0). le-leb n 1 (omega arith)) (λ (e : n ≡ 1). le-leb n 1 (omega arith)),
 )
 
-tags-exactly : (n : ℕ) → (rightTags n ≡ true) ↔ (n ≤ 256)
+pub tags-exactly : (n : ℕ) → (rightTags n ≡ true) ↔ (n ≤ 256)
 tags-exactly n = (leb-true n mostTags, le-leb n mostTags)
 
-addr-exactly : (prior : List ℕ) (n : ℕ) → (rightAddr prior n ≡ true) ↔ ((n < addresses) × (fromOf prior ≤ n))
-addr-exactly prior n = holds-and (ltb n addresses) (ascends prior n) (ltb-true n addresses, lt-ltb n addresses) (rw (ascends-from prior n) (leb-true (fromOf prior) n, le-leb (fromOf prior) n))
+ascends-exactly : (prior : List ℕ) (n : ℕ) → (ascends prior n ≡ true) ↔ (fromOf prior ≤ n)
+ascends-exactly prior n = rw (ascends-from prior n) (leb-true (fromOf prior) n, le-leb (fromOf prior) n)
 
-abbrev Widths : (address n : ℕ) → Type 0
+addr-exactly : (prior : List ℕ) (n : ℕ) → (rightAddr prior n ≡ true) ↔ ((n < addresses) × (fromOf prior ≤ n))
+addr-exactly prior n = holds-and (ltb n addresses) (ascends prior n) (ltb-true n addresses, lt-ltb n addresses) (ascends-exactly prior n)
+
+abbrev pub Widths : (address n : ℕ) → Type 0
 Widths a n = (n ≡ 16) ⊎ ((n ≡ 32) × (a + 1 < addresses))
 
-width-exactly : (own : List ℕ) (n : ℕ) → (rightWidth own n ≡ true) ↔ Widths (getD own 0 0) n
+pub width-exactly : (own : List ℕ) (n : ℕ) → (rightWidth own n ≡ true) ↔ Widths (getD own 0 0) n
 width-exactly own n =
     let last = getD own 0 0 + 1 in
     holds-or (eqb n 16) (eqb n 32 && ltb last addresses) (holds-eq n 16) (holds-and (eqb n 32) (ltb last addresses) (holds-eq n 32) (ltb-true last addresses, lt-ltb last addresses))
 
-abbrev Signs : (width n : ℕ) → Type 0
+abbrev pub Signs : (width n : ℕ) → Type 0
 Signs w n = (n ≡ 0) ⊎ ((n ≡ 1) × (w ≡ 16))
 
-sign-exactly : (own : List ℕ) (n : ℕ) → (rightSign own n ≡ true) ↔ Signs (getD own 1 0) n
+pub sign-exactly : (own : List ℕ) (n : ℕ) → (rightSign own n ≡ true) ↔ Signs (getD own 1 0) n
 sign-exactly own n =
     let w = getD own 1 0 in
     holds-or (eqb n 0) (eqb n 1 && eqb w 16) (holds-eq n 0) (holds-and (eqb n 1) (eqb w 16) (holds-eq n 1) (holds-eq w 16))
@@ -79,13 +82,14 @@ pub first-exactly : (prior : List ℕ) (t : Tag) (ts : List Tag)
 unfolding tagsRight
 first-exactly prior t ts = holds-and (allRight (newest .tag) prior [] (tagNumbers t)) (tagsRight (newest .tag) (tagNumbers t) ts) (tag-exactly prior t) (λ e. e, λ e. e)
 
--- behind a right tag's last register is above the tag
-above-exactly : (t : Tag) (n : ℕ) → RightTag t → (fromOf (tagNumbers t) ≤ n) ↔ Above (t .address) (t .width) n
-unfolding fromOf
-above-exactly t n (inl r) =
-    rw (r .0) (λ h. inl (refl, omega arith), ⊎-elim (λ (x : (_≡_ {A = ℕ} 16 16) × (t .address < n)). omega arith) (λ (x : (_≡_ {A = ℕ} 16 32) × (t .address + 1 < n)). absurd (omega arith)))
-above-exactly t n (inr r) =
-    rw (r .0) (λ h. inr (refl, omega arith), ⊎-elim (λ (x : (_≡_ {A = ℕ} 32 16) × (t .address < n)). absurd (omega arith)) (λ (x : (_≡_ {A = ℕ} 32 32) × (t .address + 1 < n)). omega arith))
+-- an address is above a tag of either width
+pub above-exactly : (a w n : ℕ) → (w ≡ 16) ⊎ (w ≡ 32) → (ltb (cond (eqb w 32) (a + 1) a) n ≡ true) ↔ Above a w n
+above-exactly a w n (inl e) = rw e (λ h. inl (refl, ltb-true a n h), λ u. lt-ltb a n (⊎-elim (λ z. z .1) (λ z. absurd (omega (arith, z .0))) u))
+above-exactly a w n (inr e) = rw e (λ h. inr (refl, ltb-true (a + 1) n h), λ u. lt-ltb (a + 1) n (⊎-elim (λ z. absurd (omega (arith, z .0))) (λ z. z .1) u))
+
+follows-exactly : (t : Tag) (n : ℕ) → RightTag t → (fromOf (tagNumbers t) ≤ n) ↔ Above (t .address) (t .width) n
+unfolding ascends
+follows-exactly t n r = Iff·trans (Iff·symm (ascends-exactly (tagNumbers t) n)) (above-exactly (t .address) (t .width) n (⊎-map (λ x. x .0) (λ x. x .0) r))
 
 -- right tags, place by place
 abbrev Each : List Tag → Type 0
@@ -104,7 +108,7 @@ ascend-at prior [] r i d h = absurd (omega arith)
 ascend-at prior (t ∷ []) r i d h = absurd (omega arith)
 ascend-at prior (t ∷ u ∷ ts) r zero d h =
     let f = first-exactly prior t (u ∷ ts) .0 r in
-    above-exactly t (u .address) (f .0 .0) .0 (first-exactly (tagNumbers t) u ts .0 (f .1) .0 .1)
+    follows-exactly t (u .address) (f .0 .0) .0 (first-exactly (tagNumbers t) u ts .0 (f .1) .0 .1)
 ascend-at prior (t ∷ u ∷ ts) r (suc i) d h = rw (suc-add i 1) (ascend-at (tagNumbers t) (u ∷ ts) (first-exactly prior t (u ∷ ts) .0 r .1) i d (omega arith))
 
 at-right : (prior : List ℕ) (ts : List Tag) → ((d : Tag) → 0 < length ts → fromOf prior ≤ getD ts 0 d .address) → Each ts → Ascend ts → tagsRight (newest .tag) prior ts ≡ true
@@ -113,7 +117,7 @@ at-right prior [] f e a = refl
 at-right prior (t ∷ ts) f e a =
     first-exactly prior t ts .1 (
       (e 0 t (omega arith), f t (omega arith)),
-      at-right (tagNumbers t) ts (λ d h. above-exactly t _ (e 0 t (omega arith)) .1 (a 0 d (omega arith))) (λ i d h. e (suc i) d (omega arith)) (λ i d h. rw (suc-add i 1) at (a (suc i) d (omega arith))),
+      at-right (tagNumbers t) ts (λ d h. follows-exactly t _ (e 0 t (omega arith)) .1 (a 0 d (omega arith))) (λ i d h. e (suc i) d (omega arith)) (λ i d h. rw (suc-add i 1) at (a (suc i) d (omega arith))),
     )
 
 -- A value is valid exactly if its numbers are right.
