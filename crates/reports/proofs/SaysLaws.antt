@@ -19,18 +19,19 @@ use Rattle.wire.specs.Splitting.{badHeader, standingOf, firstFrame}
 use Rattle.wire.specs.declared.splitting.Split.{Split}
 use Rattle.wire.specs.declared.splitting.Split.the-variants.{Frame, MoreNeeded, Refused}
 use Rattle.wire.proofs.SplittingLaws.{starts, stands, six-decide, first-size, refused}
-use Rattle.settings.specs.Grammar.{valid, readText}
-use Rattle.settings.specs.Grammar.Read.{got}
-use Rattle.settings.specs.Plain.{ValidSettings}
-use Rattle.settings.specs.Values.{valueOf}
+use Rattle.settings.specs.Grammar.{Value, Read, valid, readText}
+use Rattle.settings.specs.Grammar.Read.{got, wrong}
+use Rattle.settings.specs.Plain.{ValidSettings, FirstWrong}
+use Rattle.settings.specs.Values.{valueOf, settingsOf}
 use Rattle.settings.specs.declared.Settings.{Settings}
-use Rattle.settings.proofs.GrammarLaws.{read-back}
+use Rattle.settings.proofs.GrammarLaws.{read-back, read-valid}
 use Rattle.settings.proofs.ValueLaws.{value-back}
 use Rattle.settings.proofs.ValidLaws.{settings-valid-exactly}
+use Rattle.settings.proofs.FirstWrongLaws.{wrong-exactly}
 use Rattle.settingstext.specs.TextWritten.{writtenTo}
 use Rattle.machine.specs.Numbers.{ten}
 use Rattle.machine.specs.declared.Report.{Report}
-use Rattle.reports.specs.Plain.{protocolIn, lengthIn, WrongHeader, FrameFirst, SplitSays, textFor, WriteSays}
+use Rattle.reports.specs.Plain.{protocolIn, lengthIn, WrongHeader, FrameFirst, SplitSays, textFor, WriteSays, ReadSays}
 use Rattle.reports.specs.Reports.{told, splitTold, readTold, TextSeen, textSeen, wroteTold, writeTold}
 use Rattle.reports.specs.declared.SettingsRead.{SettingsRead}
 
@@ -180,3 +181,27 @@ unfolding readTold
 written-reads-back from b e z p =
     let same = p ∙ ap readTold (text-back from b (writes from b e) z) in
     (ap (λ (x : SettingsRead). x .answer) same, ap (λ (x : SettingsRead). valueOf (x .settings)) same ∙ value-back (valueOf from))
+
+-- reading, case by case: a text that is read, and one with a first wrong line
+read-case : (t : List ℕ) (y : Read Value) → readText t ≡ y → {r : SettingsRead} → r ≡ readTold y → ReadSays t r
+unfolding readTold settingsOf
+read-case t (got v rest) y {r} e =
+    let none : (k : ℕ) → FirstWrong t k → ⊥ = λ k f. let q = wrong-exactly t k .1 f in never (cc) in
+    let answer : r .answer ≡ told 0 0 1 0 = ap (λ (x : SettingsRead). x .answer) e in
+    record {
+      wrong = λ k. Iff·trans (told-exactly 0 0 1 0 10 k 0 0 answer) (neither (λ x. omega arith) (none k));
+      usual = λ k f. absurd (none k f);
+      right = λ h. (answer, rw e (settings-valid-exactly (settingsOf v) .0 (rw (value-back v) (read-valid t rest v y))));
+    }
+read-case t (wrong j) y {r} e =
+    let answer : r .answer ≡ told 10 j 0 0 = ap (λ (x : SettingsRead). x .answer) e in
+    record {
+      wrong = λ k. Iff·trans (told-exactly 10 j 0 0 10 k 0 0 answer)
+          (λ x. let q = x .1 in wrong-exactly t k .0 (y ∙ ap wrong q), λ f. let q = wrong-exactly t k .1 f in (refl, cc, refl, refl));
+      usual = λ k f. ap (λ (x : SettingsRead). x .settings) e;
+      right = λ h. absurd (h j (wrong-exactly t j .0 y));
+    }
+
+-- What reading reports of any text, and what it gives.
+pub read-says : (t : List ℕ) {r : SettingsRead} → r ≡ readTold (readText t) → ReadSays t r
+read-says t e = read-case t (readText t) refl e
