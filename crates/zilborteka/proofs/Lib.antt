@@ -3,3 +3,4 @@ pub mod Lived
 pub mod Handed
 pub mod Places
 pub mod DeviceClaims
+pub mod DevicelessClaims

@@ -1,0 +1,123 @@
+-- Document 01 on the calls that need no device, and on making one: what a host sees of each, for any bytes, buffers and settings. The given equations are the promises of the exported functions.
+-- Assumes nothing.
+use Prim.Native.Nat.{ℕ, _+_, _≤_, _<_}
+use mathlib.Core.Path.{_≡_, refl, ap, sym, _∙_}
+use mathlib.Core.Logic.{_↔_, Iff·trans, ⊎-elim, _⊎_, inl, inr}
+use mathlib.Core.Bool.{true, false, false≢true}
+use mathlib.Core.List.{List, [], _++_}
+use native.Mathlib.Omega.{arith}
+use lib.ListN.{length, take, drop, replicate}
+use Rattle.laws.proofs.Choice.{true-or}
+use Rattle.wire.specs.Splitting.{standingOf, firstFrame}
+use Rattle.settings.specs.declared.Settings.{Settings}
+use Rattle.settings.specs.Grammar.{valid, readText}
+use Rattle.settings.specs.Plain.{ValidSettings, FirstWrong}
+use Rattle.settings.specs.Values.{valueOf}
+use Rattle.settings.proofs.ValidLaws.{settings-valid-exactly}
+use Rattle.settingstext.specs.TextWritten.{writtenTo}
+use Rattle.machine.specs.Machine.{made}
+use Rattle.machine.specs.Numbers.{ten, numbers}
+use Rattle.machine.specs.declared.Report.{Report}
+use Rattle.reports.specs.Plain.{lengthIn, WrongHeader, FrameFirst, textFor}
+use Rattle.reports.specs.Reports.{told, splitTold, readTold, textSeen, writeTold}
+use Rattle.reports.specs.declared.SettingsRead.{SettingsRead}
+use Rattle.reports.proofs.SaysLaws as says
+use Rattle.proxy.proofs.MakingLaws.{adopts-valid, adopts-usual}
+use Rattle.device.specs.declared.Device.{Device}
+use Rattle.device.specs.Device.{Freshly}
+use Rattle.zilborteka.specs.Lives.{inForce, machineIn}
+
+-- A frame: "With fewer than 6 bytes: more needed. With 6 or more: refusal 4 if protocol is not 0 or length not 2 to 254; else the frame, or more needed." A report is one of the three.
+module _ (run : List ℕ) {r : Report} (promise : r ≡ splitTold (standingOf run) (length (firstFrame run))) where
+  pub a-run-is-refused-exactly : (r ≡ ten 4 0 0 0 0 0 0 0 0 0) ↔ WrongHeader run
+  a-run-is-refused-exactly = says.split-says run promise .refused
+
+  pub a-frame-stands-first-exactly : (n : ℕ) → (r ≡ ten 0 0 8 n 0 0 0 0 0 0) ↔ (FrameFirst run × (n ≡ 6 + lengthIn run))
+  a-frame-stands-first-exactly = says.split-says run promise .frame
+
+  pub a-run-needs-more-exactly : (r ≡ ten 0 0 9 0 0 0 0 0 0 0) ↔ ((WrongHeader run → ⊥) × (FrameFirst run → ⊥))
+  a-run-needs-more-exactly = says.split-says run promise .more
+
+  pub fewer-than-six-bytes-need-more : length run < 6 → r ≡ ten 0 0 9 0 0 0 0 0 0 0
+  fewer-than-six-bytes-need-more h = a-run-needs-more-exactly .1 (λ w. omega arith, λ f. omega arith)
+
+-- Settings text, the writer, over a buffer b that is b′ afterwards.
+module _ (from : Settings) (b : List ℕ) {r : Report} {b′ : List ℕ} (promise : textSeen r b′ ≡ writeTold (writtenTo (valueOf from) b)) where
+  -- "Writing from an invalid value is refusal 10 whatever the buffer's length, and writes nothing."
+  pub an-invalid-value-is-not-written : (ValidSettings from → ⊥) → (r ≡ ten 10 0 0 0 0 0 0 0 0 0) × (b′ ≡ b)
+  an-invalid-value-is-not-written n =
+      let w = says.write-says from b promise in
+      let e = w .invalid .1 n in
+      (e, w .untouched (λ z. let h = ap (λ (x : Report). x .refusal) e in omega arith))
+
+  -- "for a valid value it refuses, with 1, exactly if the text does not fit", and writes nothing either.
+  pub a-text-does-not-fit-exactly : ValidSettings from → (r ≡ ten 1 0 0 0 0 0 0 0 0 0) ↔ (length b < length (textFor from))
+  a-text-does-not-fit-exactly v = (λ e. says.write-says from b promise .short .0 e .1, λ l. says.write-says from b promise .short .1 (v, l))
+
+  pub a-refusal-writes-nothing : (r .refusal ≡ 0 → ⊥) → b′ ≡ b
+  a-refusal-writes-nothing = says.write-says from b promise .untouched
+
+  -- "The writer gives this text for every valid settings value",
+  pub a-text-that-fits-is-written : ValidSettings from → length (textFor from) ≤ length b
+      → (r ≡ ten 0 0 1 (length (textFor from)) 0 0 0 0 0 0) × (b′ ≡ textFor from ++ drop (length (textFor from)) b)
+  a-text-that-fits-is-written v l =
+      let w = says.write-says from b promise in
+      let e = w .done (length (textFor from)) .1 (v, refl, l) in
+      (e, w .written (ap (λ (x : Report). x .refusal) e))
+
+  -- "and reading it gives the value back".
+  pub a-written-text-is-read-back : r .refusal ≡ 0 → {q : SettingsRead} → q ≡ readTold (readText (take (r .length) b′)) → (q .answer ≡ ten 0 0 1 0 0 0 0 0 0 0) × (valueOf (q .settings) ≡ valueOf from)
+  a-written-text-is-read-back = says.written-reads-back from b promise
+
+-- Settings text, the reader.
+module _ (t : List ℕ) {r : SettingsRead} (promise : r ≡ readTold (readText t)) where
+  -- Refusal 10: "settings text wrong, with its first wrong line's number".
+  pub a-text-is-wrong-exactly : (k : ℕ) → (r .answer ≡ ten 10 k 0 0 0 0 0 0 0 0) ↔ FirstWrong t k
+  a-text-is-wrong-exactly = says.read-says t promise .wrong
+
+  -- "Refusal 10 on reading returns timeout 3000, join 1 and no tags."
+  pub a-wrong-text-gives-the-usual-settings : (k : ℕ) → FirstWrong t k
+      → r .settings ≡ record { timeout = 3000; join = 1; tags = 0; addr = replicate 256 0; width = replicate 256 0; sign = replicate 256 0 }
+  a-wrong-text-gives-the-usual-settings = says.read-says t promise .usual
+
+  pub a-text-with-no-wrong-line-is-read : ((k : ℕ) → FirstWrong t k → ⊥) → (r .answer ≡ ten 0 0 1 0 0 0 0 0 0 0) × ValidSettings (r .settings)
+  a-text-with-no-wrong-line-is-read = says.read-says t promise .right
+
+-- The settings in force on a device that is made from a value: the value if it is valid, and else "timeout 3000, join 1 and no tags".
+pub valid-settings-are-in-force : (from : Settings) → ValidSettings from → inForce from ≡ valueOf from
+valid-settings-are-in-force from v = adopts-valid (valueOf from) (settings-valid-exactly from .1 v) .1
+
+pub else-the-usual-are-in-force : (from : Settings) → (ValidSettings from → ⊥) → inForce from ≡ record { timeout = 3000; join = 1; tags = [] }
+else-the-usual-are-in-force from n =
+    ⊎-elim
+    (λ (t : valid (valueOf from) ≡ true). absurd (n (settings-valid-exactly from .0 t)))
+    (λ (t : valid (valueOf from) ≡ false). adopts-usual (valueOf from) t .1)
+    (true-or (valid (valueOf from)))
+
+-- "Making a state from an invalid value returns refusal 10 beside the fresh state for timeout 3000, join 1 and no tags."
+module _ (from : Settings) {r : Report} {d : Device} (fresh : Freshly from r d) where
+  made-as : (ValidSettings from × (r ≡ told 0 0 1 0)) ⊎ ((ValidSettings from → ⊥) × (r ≡ told 10 0 0 0))
+  unfolding numbers
+  made-as =
+      ⊎-elim
+      (λ (t : valid (valueOf from) ≡ true). inl (settings-valid-exactly from .0 t, fresh .0 ∙ ap numbers (adopts-valid (valueOf from) t .0)))
+      (λ (t : valid (valueOf from) ≡ false). inr (λ v. false≢true (sym t ∙ settings-valid-exactly from .1 v), fresh .0 ∙ ap numbers (adopts-usual (valueOf from) t .0)))
+      (true-or (valid (valueOf from)))
+
+  pub making-is-refused-exactly : (r ≡ ten 10 0 0 0 0 0 0 0 0 0) ↔ (ValidSettings from → ⊥)
+  making-is-refused-exactly =
+      ⊎-elim
+      (λ (m : ValidSettings from × (r ≡ told 0 0 1 0)). Iff·trans (says.told-exactly 0 0 1 0 10 0 0 0 (m .1)) (says.neither (λ x. omega arith) (λ n. n (m .0))))
+      (λ (m : (ValidSettings from → ⊥) × (r ≡ told 10 0 0 0)). says.both (m .1) (m .0))
+      made-as
+
+  pub making-is-done-exactly : (r ≡ ten 0 0 1 0 0 0 0 0 0 0) ↔ ValidSettings from
+  making-is-done-exactly =
+      ⊎-elim
+      (λ (m : ValidSettings from × (r ≡ told 0 0 1 0)). says.both (m .1) (m .0))
+      (λ (m : (ValidSettings from → ⊥) × (r ≡ told 10 0 0 0)). Iff·trans (says.told-exactly 10 0 0 0 0 0 1 0 (m .1)) (says.neither (λ x. omega arith) (m .0)))
+      made-as
+
+  pub a-made-device-is-fresh : machineIn d ≡ made (inForce from)
+  unfolding machineIn
+  a-made-device-is-fresh = fresh .1
