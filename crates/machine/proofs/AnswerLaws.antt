@@ -1,7 +1,7 @@
 -- What a reply's parties and a tick's parties get, and when nothing is due.
 -- Assumes nothing.
-use Prim.Native.Nat.{ℕ, _≤_, _<_}
-use mathlib.Core.Path.{_≡_, refl, ap, sym, _∙_}
+use Prim.Native.Nat.{ℕ, _+_, _*_, _≤_, _<_}
+use mathlib.Core.Path.{_≡_, refl, ap, sym, subst, _∙_}
 use mathlib.Core.Logic.{⊎-elim, _⊎_, inl, inr}
 use mathlib.Core.Bool.{true, false}
 use mathlib.Core.Option.{Option, some, none}
@@ -14,8 +14,18 @@ use Rattle.laws.specs.Numbers.{places, noResponse}
 use Rattle.laws.specs.Bytes.{over}
 use Rattle.laws.proofs.Choice.{eq-or, lt-or}
 use Rattle.wire.specs.Frame.{idOf, laid, exception}
-use Rattle.pdu.specs.Replies.{What, answering}
+use Rattle.settings.specs.Grammar.{Tag}
+use Rattle.pdu.specs.Replies.{What, answering, excepts}
+use Rattle.pdu.specs.declared.Table.the-variants.{Registers}
+use Rattle.pdu.specs.declared.Asked.{Asked}
+use Rattle.pdu.specs.declared.Asked.the-variants.{Read}
+use Rattle.pdu.proofs.ReplyLaws.{ReplyRoom, answering-room}
+use Rattle.rewrite.specs.declared.Way.the-variants.{ToBinary}
+use Rattle.rewrite.specs.Rewriting.{Rewritten}
 use Rattle.rewrite.specs.Frames.{returned}
+use Rattle.rewrite.specs.Plain.{Rewrites}
+use Rattle.rewrite.proofs.FrameLaws.{returned-read}
+use Rattle.rewrite.proofs.TurnedLaws.{stands-rewritten}
 use Rattle.book.specs.Book.{Live, Good, NothingDue, at}
 use Rattle.book.specs.Book.Move.{pass}
 use Rattle.book.specs.Desk.{duePlace, idPlace}
@@ -48,6 +58,9 @@ pub record Answers (m : Machine) (f o l : List ℕ) (d : Outcome) : Type 0 where
   pub gone : at (d .after .book) place ≡ none
   pub says : d .says ≡ answer.Answered (record { 0 = entry .id }) (length f) (length (entry .parties)) (returned (settings m .tags) (entry .what) f .partial) (returned (settings m .tags) (entry .what) f .value)
   pub frame : d .written ≡ over (laid 0 (returned (settings m .tags) (entry .what) f .bytes)) o
+  -- of a reply to a read of registers that is no exception: every register, turned to binary by its tag or as it came, and what the counts are
+  pub rewritten : (s q : ℕ) → entry .what .asked ≡ Read Registers s q → excepts (entry .what .function) f ≡ false
+      → Rewrites ToBinary (settings m .tags) f (d .written) (returned (settings m .tags) (entry .what) f .partial) (returned (settings m .tags) (entry .what) f .value) 9 s q
   pub list : d .listed ≡ over (pairs (entry .parties)) l
 
 answered-frame : (m : Machine) (k : ℕ) (f o l : List ℕ) (e : Live What Note)
@@ -57,6 +70,16 @@ answered-frame : (m : Machine) (k : ℕ) (f o l : List ℕ) (e : Live What Note)
     ≡ answer.Answered (record { 0 = e .id }) (length f) (length (e .parties)) (returned (settings m .tags) (e .what) f .partial) (returned (settings m .tags) (e .what) f .value))
 unfolding answeredTo
 answered-frame m k f o l e = (refl, refl, refl, refl)
+
+read-room : (a : Asked) (s q : ℕ) (f : List ℕ) → a ≡ Read Registers s q → ReplyRoom a f → 9 + 2 * q ≤ length f
+read-room a s q f e r = omega (arith, rw e at r)
+
+-- the registers that a reply to a read brings, in the frame that is handed on
+read-rewritten : (tags : List Tag) (w : What) (f o : List ℕ) → answering w f ≡ true → (s q : ℕ) → w .asked ≡ Read Registers s q → excepts (w .function) f ≡ false
+    → Rewrites ToBinary tags f (over (laid 0 (returned tags w f .bytes)) o) (returned tags w f .partial) (returned tags w f .value) 9 s q
+read-rewritten tags w f o a s q e x =
+    subst (λ (y : Rewritten). Rewrites ToBinary tags f (over (laid 0 (y .bytes)) o) (y .partial) (y .value) 9 s q) (sym (returned-read tags f w s q e x))
+    (stands-rewritten ToBinary 9 s q tags f 0 o (omega arith) (read-room (w .asked) s q f e (answering-room w f a x)))
 
 -- a place that was emptied holds nothing
 emptied : (ps : List (Option (Live What Note))) (k : ℕ) (e : Live What Note) → getD ps k none ≡ some e → getD (set ps k none) k none ≡ none
@@ -75,15 +98,18 @@ reply-answers m t f o l g h =
     let k = idPlace rules (m .book) (idOf f) in
     let q : outcome m (reply t f o l) ≡ answeredTo (clocked m t) k f o l (some (e .0)) = granted-is m (reply t f o l) h ∙ ap (answeredTo (clocked m t) k f o l) (e .1) in
     let w = id-found rules (m .book) g (idOf f) (rw (g .long) at (at-low (m .book .places) k (e .0) (e .1))) in
+    let matches = matched f (entryFor m f) (e .0) (x .0) (e .1) in
+    let frame = ap (λ (y : Outcome). y .written) q ∙ answered-frame (clocked m t) k f o l (e .0) .0 in
     record {
       place = k;
       entry = e .0;
       there = e .1;
       same = ap (λ (y : Live What Note). y .id) (same-entry (sym (e .1) ∙ w .1)) ∙ w .2;
-      matches = matched f (entryFor m f) (e .0) (x .0) (e .1);
+      matches = matches;
       gone = ap (λ (y : Outcome). at (y .after .book) k) q ∙ ap (λ ps. getD ps k none) (answered-frame (clocked m t) k f o l (e .0) .2) ∙ emptied (m .book .places) k (e .0) (e .1);
       says = ap (λ (y : Outcome). y .says) q ∙ answered-frame (clocked m t) k f o l (e .0) .3;
-      frame = ap (λ (y : Outcome). y .written) q ∙ answered-frame (clocked m t) k f o l (e .0) .0;
+      frame = frame;
+      rewritten = λ s n y z. rw frame (read-rewritten (settings m .tags) (e .0 .what) f o matches s n y z);
       list = ap (λ (y : Outcome). y .listed) q ∙ answered-frame (clocked m t) k f o l (e .0) .1;
     }
 

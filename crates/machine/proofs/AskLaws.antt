@@ -1,13 +1,13 @@
 -- What a request that is not refused comes to, in plain numbers and bytes: it is issued, it joins, or it gets an exception.
 -- Assumes nothing.
-use Prim.Native.Nat.{ℕ, zero, suc, _+_, _*_, _-_, _/_, _%_, _≤_, _<_}
+use Prim.Native.Nat.{ℕ, _+_, _*_, _-_, _/_, _%_, _≤_, _<_}
 use mathlib.Core.Path.{_≡_, refl, ap, sym, _∙_}
 use mathlib.Core.Logic.{⊎-elim, _⊎_, inl, inr}
 use mathlib.Core.Bool.{Bool, true, false, true≢false}
 use mathlib.Core.Option.{Option, some, none, Option·map}
 use mathlib.Core.List.{List, [], _∷_, _++_, map}
 use native.Mathlib.Omega.{arith}
-use lib.ListN.{length, getD, set, drop, length-append, length-drop, List·getD-append, List·getD-map}
+use lib.ListN.{length, getD, set, drop, length-append, length-drop, List·getD-map}
 use lib.Seq.{getD-append-add, getD-drop, getD-set-same, getD-set-other}
 use borrow.Author.Tests.{ltb-false}
 use Rattle.laws.specs.Numbers.{ids, places, frameBuffer, deviceFailure}
@@ -27,12 +27,11 @@ use Rattle.pdu.specs.declared.ProxyId.{ProxyId}
 use Rattle.pdu.proofs.SpoilingLaws.{spoils-itself}
 use Rattle.pdu.proofs.RequestLaws.{RequestRoom, legal-room, legal-checked, excepted-codes, known}
 use Rattle.rewrite.specs.declared.Way.the-variants.{ToBcd}
-use Rattle.rewrite.specs.Registers.{registersAt}
-use Rattle.rewrite.specs.Rewriting.{partials, values, rewriting}
 use Rattle.rewrite.specs.Frames.{forwarded}
-use Rattle.rewrite.specs.Plain.{OfBits}
+use Rattle.rewrite.specs.Plain.{OfBits, Rewrites}
 use Rattle.rewrite.specs.Plain.OfBits.{coils-read, discrete-read, coil-written, coils-written}
-use Rattle.rewrite.proofs.FrameLaws.{length-forwarded, rewriting-other}
+use Rattle.rewrite.proofs.FrameLaws.{length-forwarded, stands-under}
+use Rattle.rewrite.proofs.TurnedLaws.{stands-rewritten}
 use Rattle.book.specs.Book.{Live, Next, Good, at, newEntry, marked}
 use Rattle.book.specs.Desk.{freePlace, freeId}
 use Rattle.book.proofs.PlaceLaws.{at-low}
@@ -82,14 +81,6 @@ pub bits-carry-none : (f : List ℕ) → OfBits (getD f 7 0) → (base start qua
 unfolding asking
 bits-carry-none f b base start quantity c = true≢false (sym (carries-some c) ∙ spelled-none (getD f 7 0) _ _ b)
 
--- the registers from byte base on, of the addresses from start on, stand in w as the definition rewrites them, every other byte behind the id as in f; and what is counted
-pub record Rewrites (tags : List Tag) (f w : List ℕ) (partial value base start quantity : ℕ) : Type 0 where
-  pub inside : base + 2 * quantity ≤ length f
-  pub registers : (k : ℕ) → base ≤ k → k < base + 2 * quantity → getD w k 0 ≡ getD (rewriting ToBcd base start quantity tags f .bytes) k 0
-  pub others : (k : ℕ) → 2 ≤ k → k < length f → (k < base) ⊎ (base + 2 * quantity ≤ k) → getD w k 0 ≡ getD f k 0
-  pub raw-for-cover : partial ≡ partials ToBcd start tags (registersAt base quantity f)
-  pub raw-for-value : value ≡ values ToBcd start tags (registersAt base quantity f)
-
 -- A request that goes out. It is legal, and nothing is there that it may join.
 pub record Issues (m : Machine) (c t : ℕ) (f o : List ℕ) (d : Outcome) : Type 0 where
   pub is-legal : legal (settings m) f ≡ true
@@ -103,7 +94,7 @@ pub record Issues (m : Machine) (c t : ℕ) (f o : List ℕ) (d : Outcome) : Typ
   -- the buffer: the id, the frame with its registers rewritten, and behind it what was there
   pub high : getD (d .written) 0 0 ≡ id / 256
   pub low : getD (d .written) 1 0 ≡ id % 256
-  pub rewritten : (base start quantity : ℕ) → Carries (asking f .asked) base start quantity → Rewrites (settings m .tags) f (d .written) partial value base start quantity
+  pub rewritten : (base start quantity : ℕ) → Carries (asking f .asked) base start quantity → Rewrites ToBcd (settings m .tags) f (d .written) partial value base start quantity
   pub unchanged : ((base start quantity : ℕ) → Carries (asking f .asked) base start quantity → ⊥)
       → ((k : ℕ) → 2 ≤ k → k < length f → getD (d .written) k 0 ≡ getD f k 0) × (partial ≡ 0) × (value ≡ 0)
   pub behind : (k : ℕ) → length f ≤ k → getD (d .written) k 0 ≡ getD o k 0
@@ -170,36 +161,12 @@ over-behind w b k h =
     let e : k ≡ length w + (k - length w) = omega arith in
     ap (λ (n : ℕ). getD (over w b) n 0) e ∙ getD-append-add w (drop (length w) b) (k - length w) 0 ∙ getD-drop (length w) b (k - length w) 0 ∙ ap (λ (n : ℕ). getD b n 0) (sym e)
 
-behind-id : (id : ℕ) (b : List ℕ) (k : ℕ) → getD (laid id b) (suc (suc k)) 0 ≡ getD b (suc (suc k)) 0
-behind-id id b k = getD-drop 2 b k 0 ∙ ap (λ (n : ℕ). getD b n 0) (omega arith)
-
--- a frame under an id, in a buffer, stands there behind the id
-pub stands-under : (id : ℕ) (b o : List ℕ) (k : ℕ) → 2 ≤ k → k < length b → getD (over (laid id b) o) k 0 ≡ getD b k 0
-stands-under id b o zero h l = absurd (omega arith)
-stands-under id b o (suc zero) h l = absurd (omega arith)
-stands-under id b o (suc (suc k)) h l =
-    List·getD-append (laid id b) (drop (length (laid id b)) o) 0 (suc (suc k)) (rw (length-laid id b (omega arith)) l) ∙ behind-id id b k
-
 -- what is behind the id of a frame that is rewritten, and of one that passes
-run-rewritten : (base start quantity : ℕ) (tags : List Tag) (f w : List ℕ) → 2 ≤ base → base + 2 * quantity ≤ length f
-    → ((k : ℕ) → 2 ≤ k → k < length f → getD w k 0 ≡ getD (rewriting ToBcd base start quantity tags f .bytes) k 0)
-    → Rewrites tags f w (rewriting ToBcd base start quantity tags f .partial) (rewriting ToBcd base start quantity tags f .value) base start quantity
-unfolding rewriting
-run-rewritten base start quantity tags f w b r h =
-    record {
-      inside = r;
-      registers = λ k l u. h k (omega arith) (omega arith);
-      others = λ k l u z. h k l u ∙ rewriting-other ToBcd base start quantity tags f k z;
-      raw-for-cover = refl;
-      raw-for-value = refl;
-    }
-
-carried : {a : Asked} {base start quantity : ℕ} → Carries a base start quantity → (tags : List Tag) (f w : List ℕ) → RequestRoom a f
-    → ((k : ℕ) → 2 ≤ k → k < length f → getD w k 0 ≡ getD (forwarded tags a f .bytes) k 0)
-    → Rewrites tags f w (forwarded tags a f .partial) (forwarded tags a f .value) base start quantity
+carried : {a : Asked} {base start quantity : ℕ} → Carries a base start quantity → (tags : List Tag) (f : List ℕ) (id : ℕ) (o : List ℕ) → RequestRoom a f
+    → Rewrites ToBcd tags f (over (laid id (forwarded tags a f .bytes)) o) (forwarded tags a f .partial) (forwarded tags a f .value) base start quantity
 unfolding forwarded
-carried single tags f w r h = run-rewritten _ _ _ tags f w (omega arith) (omega (arith, r)) h
-carried multiple tags f w r h = run-rewritten _ _ _ tags f w (omega arith) (omega (arith, r)) h
+carried single tags f id o r = stands-rewritten ToBcd _ _ _ tags f id o (omega arith) (omega (arith, r))
+carried multiple tags f id o r = stands-rewritten ToBcd _ _ _ tags f id o (omega arith) (omega (arith, r))
 
 passed-on : (a : Asked) → ((base start quantity : ℕ) → Carries a base start quantity → ⊥) → (tags : List Tag) (f : List ℕ)
     → (forwarded tags a f .bytes ≡ f) × (forwarded tags a f .partial ≡ 0) × (forwarded tags a f .value ≡ 0)
@@ -246,7 +213,6 @@ module _ (m : Machine) (c t : ℕ) (f o : List ℕ) (g : Good rules (m .book)) (
       let long : length (sent .bytes) ≡ length f = length-forwarded (settings m .tags) f (askedOf f) in
       let room = fits-in in
       let size : length (laid id (sent .bytes)) ≡ length f = length-laid id (sent .bytes) (omega arith) ∙ long in
-      let stands : (k : ℕ) → 2 ≤ k → k < length f → getD (over (laid id (sent .bytes)) o) k 0 ≡ getD (sent .bytes) k 0 = λ k a b. stands-under id (sent .bytes) o k a (rw long b) in
       record {
         is-legal = is-legal;
         alone = alone;
@@ -258,10 +224,10 @@ module _ (m : Machine) (c t : ℕ) (f o : List ℕ) (g : Good rules (m .book)) (
         high = refl;
         low = refl;
         rewritten = λ base start quantity x.
-            carried (rw (← asked-spelled f) at x) (settings m .tags) f _ (legal-room f (askedOf f) (legal-checked (settings m) f .0 is-legal .1)) stands;
+            carried (rw (← asked-spelled f) at x) (settings m .tags) f id o (legal-room f (askedOf f) (legal-checked (settings m) f .0 is-legal .1));
         unchanged = λ n.
             let p = passed-on (askedOf f) (λ base start quantity x. n base start quantity (rw (asked-spelled f) at x)) (settings m .tags) f in
-            (λ k a b. stands k a b ∙ ap (λ (x : List ℕ). getD x k 0) (p .0), p .1, p .2);
+            (λ k a b. stands-under id (sent .bytes) o k a (rw long b) ∙ ap (λ (x : List ℕ). getD x k 0) (p .0), p .1, p .2);
         behind = λ k b. over-behind (laid id (sent .bytes)) o k (omega arith);
         size = over-size (laid id (sent .bytes)) o (omega arith);
         frame = ap (λ (a : Asked). over (laid id (forwarded (settings m .tags) a f .bytes)) o) (asked-spelled f);

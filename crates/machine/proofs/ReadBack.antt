@@ -5,44 +5,31 @@ use mathlib.Core.Path.{_≡_, refl, ap, _∙_}
 use mathlib.Core.Bool.{true, false}
 use mathlib.Core.List.{List, List·Memᴰ}
 use native.Mathlib.Omega.{arith}
-use lib.ListN.{length, getD}
-use Rattle.laws.specs.Bytes.{over}
-use Rattle.wire.specs.Frame.{laid}
+use lib.ListN.{getD}
 use Rattle.bcd.specs.Bcd.{inRange}
 use Rattle.bcd.specs.Words.{numberOf}
 use Rattle.settings.specs.Grammar.{Tag}
 use Rattle.settings.specs.TagWords.{kindOf, Ascending}
 use Rattle.pdu.specs.Replies.{excepts}
 use Rattle.pdu.specs.declared.Table.the-variants.{Registers}
-use Rattle.pdu.specs.declared.Asked.{Asked}
 use Rattle.pdu.specs.declared.Asked.the-variants.{Read}
-use Rattle.pdu.proofs.ReplyLaws.{ReplyRoom, answering-room}
 use Rattle.rewrite.specs.declared.Way.the-variants.{ToBcd, ToBinary}
 use Rattle.rewrite.specs.Registers.{registersAt}
-use Rattle.rewrite.specs.Rewriting.{Rewritten, ownIn, rewriting}
-use Rattle.rewrite.specs.Frames.{returnedBy, returned}
+use Rattle.rewrite.specs.Rewriting.{ownIn, rewriting}
 use Rattle.rewrite.specs.Plain.{Whole}
-use Rattle.rewrite.proofs.FrameLaws.{length-rewriting, returned-other}
 use Rattle.rewrite.proofs.ReadBack.{read-back-frames}
 use Rattle.machine.specs.Machine.{Machine, settings}
 use Rattle.machine.specs.Calls.Call.{request, reply}
 use Rattle.machine.specs.Outcomes.{outcome}
 use Rattle.machine.specs.Spelled.{asking}
 use Rattle.machine.proofs.AnswerLaws.{Answers}
-use Rattle.machine.proofs.AskLaws.{Carries, Issues, stands-under}
+use Rattle.machine.proofs.AskLaws.{Carries, Issues}
 
 registers-ext : (k n : ℕ) (d e : List ℕ) → ((j : ℕ) → k ≤ j → j < k + 2 * n → getD d j 0 ≡ getD e j 0) → registersAt k n d ≡ registersAt k n e
 unfolding registersAt
 registers-ext k zero d e h = refl
 registers-ext k (suc n) d e h =
     rw (h k (omega arith) (omega arith), h (k + 1) (omega arith) (omega arith), registers-ext (k + 2) n d e (λ j a b. h j (omega arith) (omega arith)))
-
-read-is : (tags : List Tag) (a : Asked) (s q : ℕ) (g : List ℕ) → a ≡ Read Registers s q → returnedBy tags a g .bytes ≡ rewriting ToBinary 9 s q tags g .bytes
-unfolding returnedBy
-read-is tags a s q g e = rw e
-
-read-room : (a : Asked) (s q : ℕ) (g : List ℕ) → a ≡ Read Registers s q → ReplyRoom a g → 9 + 2 * q ≤ length g
-read-room a s q g e r = omega (arith, rw e at r)
 
 -- A value in a tag's range, written over the whole tag in one request, stored as sent and read back whole in one, comes back equal: over any two calls of any two machines
 -- with the same tags.
@@ -56,15 +43,10 @@ pub comes-back : (tags : List Tag) → Ascending 0 tags → (tag : Tag) → List
     → ownIn s′ (registersAt 9 q′ (outcome m′ (reply t′ g o′ l) .written)) tag ≡ ownIn s (registersAt base q f) tag
 comes-back tags asc tag mem m same c t f o bytes x base s q carries whole range m′ same′ t′ g o′ l bytes′ a plain s′ q′ reads whole′ stored =
     let sent = x .rewritten base s q carries in
-    let room′ = read-room (a .entry .what .asked) s′ q′ g reads (answering-room (a .entry .what) g (a .matches) plain) in
-    let b′ = rewriting ToBinary 9 s′ q′ tags g .bytes in
-    let w′ : outcome m′ (reply t′ g o′ l) .written ≡ over (laid 0 b′) o′ =
-    a .frame
-    ∙ ap (λ (y : List ℕ). over (laid 0 y) o′)
-    (ap (λ (y : List Tag). returned y (a .entry .what) g .bytes) same′ ∙ ap (λ (y : Rewritten). y .bytes) (returned-other tags g (a .entry .what) plain) ∙ read-is tags (a .entry .what .asked) s′ q′ g reads) in
+    let back = a .rewritten s′ q′ reads plain in
     let r : registersAt base q (outcome m (request c t f o) .written) ≡ registersAt base q (rewriting ToBcd base s q tags f .bytes) =
     registers-ext base q _ _ (sent .registers) ∙ ap (λ (y : List Tag). registersAt base q (rewriting ToBcd base s q y f .bytes)) same in
-    let r′ : registersAt 9 q′ (outcome m′ (reply t′ g o′ l) .written) ≡ registersAt 9 q′ b′ =
-    ap (registersAt 9 q′) w′ ∙ registers-ext 9 q′ (over (laid 0 b′) o′) b′ (λ j l u. stands-under 0 b′ o′ j (omega arith) (rw (length-rewriting ToBinary 9 s′ q′ tags g) (omega arith))) in
+    let r′ : registersAt 9 q′ (outcome m′ (reply t′ g o′ l) .written) ≡ registersAt 9 q′ (rewriting ToBinary 9 s′ q′ tags g .bytes) =
+    registers-ext 9 q′ _ _ (back .registers) ∙ ap (λ (y : List Tag). registersAt 9 q′ (rewriting ToBinary 9 s′ q′ y g .bytes)) same′ in
     ap (λ (y : List ℕ). ownIn s′ y tag) r′
-    ∙ read-back-frames tags asc tag mem base s q f bytes (sent .inside) whole range 9 s′ q′ g bytes′ room′ whole′ (stored ∙ ap (λ (y : List ℕ). ownIn s y tag) r)
+    ∙ read-back-frames tags asc tag mem base s q f bytes (sent .inside) whole range 9 s′ q′ g bytes′ (back .inside) whole′ (stored ∙ ap (λ (y : List ℕ). ownIn s y tag) r)

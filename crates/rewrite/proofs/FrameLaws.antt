@@ -1,17 +1,18 @@
--- A frame rewritten: its length and every byte outside the registers stay, what it answers too, an exception, coils and discrete inputs pass unchanged, and it goes over a buffer under
--- an id.
+-- A frame rewritten: its length and every byte outside the registers stay, what it answers too, an exception, coils and discrete inputs pass unchanged, the registers of a reply to a read
+-- are rewritten, and it goes over a buffer under an id.
 -- Assumes nothing.
-use Prim.Native.Nat.{ℕ, _+_, _*_, _≤_, _<_}
+use Prim.Native.Nat.{ℕ, zero, suc, _+_, _*_, _≤_, _<_}
 use mathlib.Core.Path.{_≡_, refl, ap, sym, _∙_}
 use mathlib.Core.Logic.{_⊎_, inl, ⊎-elim}
 use mathlib.Core.Bool.{true, false}
 use mathlib.Core.List.{List, [], _∷_, _++_}
 use native.Mathlib.Omega.{arith}
-use lib.ListN.{length, getD, take, drop, length-drop}
-use lib.Seq.{take-append-seam, drop-append-seam, drop-append-le}
+use lib.ListN.{length, getD, take, drop, length-drop, List·getD-append}
+use lib.Seq.{take-append-seam, drop-append-seam, drop-append-le, getD-drop}
 use Rattle.laws.specs.Bytes.{over}
 use Rattle.laws.proofs.Choice.{true-or}
 use Rattle.wire.specs.Frame.{functionOf, misframed, laid}
+use Rattle.wire.proofs.FrameLaws.{length-laid as laid-length}
 use Rattle.settings.specs.Grammar.{Tag}
 use Rattle.pdu.specs.Requests.{classOf, askedBy, askedOf}
 use Rattle.pdu.specs.Replies.{What, what, excepts, shaped, answering}
@@ -97,6 +98,11 @@ module _ (tags : List Tag) (f : List ℕ) where
     -- A reply to what a request 01, 02, 05 or 15 asked passes unchanged, whatever the tags, and no tag is counted.
     pub returned-bits : (g : List ℕ) → OfBits (functionOf g) → w .asked ≡ askedOf g → returned tags w f ≡ outcome 0 0 f
     returned-bits g b e = unchanged (rw e (brought-by (functionOf g) g b))
+
+    -- A reply to a request to read registers is rewritten to binary: as many registers as were asked for, from byte 9 on, of the addresses from the start that was asked on.
+    pub returned-read : (s q : ℕ) → w .asked ≡ Read Registers s q → excepts (w .function) f ≡ false → returned tags w f ≡ rewriting ToBinary 9 s q tags f
+    unfolding returnedBy
+    returned-read s q e x = returned-other x ∙ rw e
 
     -- A reply to a request 06 that was re-encoded is rewritten to binary: the one register at byte 10, of the address asked. To one that was not it passes unchanged.
     pub returned-single : (a v : ℕ) → w .asked ≡ SingleWrite Registers a v → reencoded tags a v ≡ true → excepts (w .function) f ≡ false → returned tags w f ≡ rewriting ToBinary 10 a 1 tags f
@@ -193,6 +199,16 @@ laid-answers id w (a ∷ b ∷ f) h = by (w .asked)
     by Other = refl
 
 -- A FRAME AT THE START OF A BUFFER
+
+behind-id : (id : ℕ) (b : List ℕ) (k : ℕ) → getD (laid id b) (suc (suc k)) 0 ≡ getD b (suc (suc k)) 0
+behind-id id b k = getD-drop 2 b k 0 ∙ ap (λ (n : ℕ). getD b n 0) (omega arith)
+
+-- A frame under an id, in a buffer, stands there behind the id.
+pub stands-under : (id : ℕ) (b o : List ℕ) (k : ℕ) → 2 ≤ k → k < length b → getD (over (laid id b) o) k 0 ≡ getD b k 0
+stands-under id b o zero h l = absurd (omega arith)
+stands-under id b o (suc zero) h l = absurd (omega arith)
+stands-under id b o (suc (suc k)) h l =
+    List·getD-append (laid id b) (drop (length (laid id b)) o) 0 (suc (suc k)) (rw (laid-length id b (omega arith)) l) ∙ behind-id id b k
 
 module _ (f out : List ℕ) where
   -- What was written over the start of a buffer stands there.

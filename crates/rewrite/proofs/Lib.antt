@@ -6,6 +6,7 @@ pub mod TagLaws
 pub mod TableLaws
 pub mod ReadBack
 pub mod FrameLaws
+pub mod TurnedLaws
 pub mod ReencodedLaws
 pub mod SingleLaws
 pub mod EchoLaws

@@ -35,6 +35,13 @@ unfolding registersAt below
 registers-below k zero d b = refl
 registers-below k (suc n) d b = rw (lt-ltb (pairAt d k) 65536 (omega (arith, b k, b (k + 1)))) (registers-below (k + 2) n d b)
 
+-- The register at a place is the number in its two bytes.
+pub register-at : (k n : ℕ) (d : List ℕ) (i : ℕ) → i < n → getD (registersAt k n d) i 0 ≡ pairAt d (k + 2 * i)
+unfolding registersAt
+register-at k zero d i h = absurd (omega arith)
+register-at k (suc n) d zero h = let e : k + 2 * 0 ≡ k = omega arith in rw e
+register-at k (suc n) d (suc i) h = let e : k + 2 * suc i ≡ k + 2 + 2 * i = omega arith in rw e (register-at (k + 2) n d i (omega arith))
+
 -- A part of the registers are the registers from further on.
 pub registers-part : (k n : ℕ) (d : List ℕ) (j m : ℕ) → j + m ≤ n → take m (drop j (registersAt k n d)) ≡ registersAt (k + 2 * j) m d
 unfolding registersAt
