@@ -26,13 +26,13 @@ use Rattle.rewrite.specs.Frames.{returned}
 use Rattle.rewrite.specs.Plain.{Rewrites}
 use Rattle.rewrite.proofs.FrameLaws.{returned-read}
 use Rattle.rewrite.proofs.TurnedLaws.{stands-rewritten}
-use Rattle.book.specs.Book.{Live, Good, NothingDue, at}
+use Rattle.book.specs.Book.{Live, Good, NothingDue, at, book}
 use Rattle.book.specs.Book.Move.{pass}
 use Rattle.book.specs.Desk.{duePlace, idPlace}
 use Rattle.book.proofs.GoodLaws.{good-move}
 use Rattle.book.proofs.DeskLaws.{due-found, due-none, id-found}
 use Rattle.book.proofs.PlaceLaws.{at-low}
-use Rattle.machine.specs.Machine.{Machine, Note, Live-book, rules, settings, clocked}
+use Rattle.machine.specs.Machine.{Machine, Note, Live-book, machine, rules, settings, clocked}
 use Rattle.machine.specs.Calls.{Outcome, done}
 use Rattle.machine.specs.Calls.Call.{reply, tick}
 use Rattle.machine.specs.Refusals.{rows, refusal, entryFor, isMismatched}
@@ -131,7 +131,7 @@ expired-says : (m : Machine) (k : ℕ) (o l : List ℕ) (e : Live What Note) →
 unfolding expiredTo
 expired-says m k o l e = (λ z. let n : _≡_ {A = ℕ} 0 1 = cc in omega arith, refl, refl, refl, refl)
 
-pub idle-says : (m : Machine) (k : ℕ) (o l : List ℕ) → expiredTo m k o l none ≡ done answer.NothingDue m o l
+idle-says : (m : Machine) (k : ℕ) (o l : List ℕ) → expiredTo m k o l none ≡ done answer.NothingDue m o l
 unfolding expiredTo
 idle-says m k o l = refl
 
@@ -141,7 +141,7 @@ pub ticked-is : (m : Machine) (t : ℕ) (o l : List ℕ) → refusal m (tick t o
 unfolding granted ticked
 ticked-is m t o l h = granted-is m (tick t o l) h
 
-pub spot : (b : Live-book) (k : ℕ) → ((e : Live What Note) × (at b k ≡ some e)) ⊎ (at b k ≡ none)
+spot : (b : Live-book) (k : ℕ) → ((e : Live What Note) × (at b k ≡ some e)) ⊎ (at b k ≡ none)
 spot b k = go (at b k) refl
   where
     go : (q : Option (Live What Note)) → at b k ≡ q → ((e : Live What Note) × (at b k ≡ some e)) ⊎ (at b k ≡ none)
@@ -179,8 +179,39 @@ tick-expires m t o l g h n =
     (λ (e : at b k ≡ none). absurd (n (ap (λ (y : Outcome). y .says) (ticked-is m t o l h ∙ ap (expiredTo (clocked m t) k o l) e ∙ idle-says (clocked m t) k o l))))
     (spot b k)
 
--- A tick says that nothing is due exactly when, at its time, nothing is.
-pub idle-when : (m : Machine) (t : ℕ) (o l : List ℕ) → Good rules (m .book) → outcome m (tick t o l) .says ≡ answer.NothingDue → (refusal m (tick t o l) ≡ 0) × NothingDue (clocked m t .book) × (outcome m (tick t o l) .after ≡ clocked m t)
+-- WHERE NOTHING IS DUE
+
+-- m, with its clock at t
+abbrev pub showing : Machine → ℕ → Machine
+showing m t = machine (book (settings m) (m .book .places) (m .book .cursor) t) (m .attached)
+
+-- no live entry of m is due at t
+abbrev pub NoneDue : Machine → ℕ → Type 0
+NoneDue m t = (k : ℕ) (e : Live What Note) → at (m .book) k ≡ some e → t < e .deadline
+
+nothing-found : (b : Live-book) → Good rules b → NothingDue b → at b (duePlace rules b) ≡ none
+nothing-found b g n =
+    ⊎-elim
+    (λ (e : (e : Live What Note) × (at b (duePlace rules b) ≡ some e)).
+    let w = due-found rules b g (rw (g .long) at (at-low (b .places) (duePlace rules b) (e .0) (e .1))) in
+    absurd (let y = n (duePlace rules b) (w .0) (w .1) in let z = w .2 in omega arith))
+    (λ e. e)
+    (spot b (duePlace rules b))
+
+-- A tick that is not refused and finds nothing due once the clock is set: that is said, the clock is at its time, and buffer and list are as they came.
+pub idle-found : (m : Machine) (t : ℕ) (o l : List ℕ) → refusal m (tick t o l) ≡ 0 → Good rules (clocked m t .book) → NothingDue (clocked m t .book)
+    → outcome m (tick t o l) ≡ done answer.NothingDue (showing m t) o l
+idle-found m t o l h g n =
+    let k = duePlace rules (clocked m t .book) in
+    ticked-is m t o l h ∙ ap (expiredTo (clocked m t) k o l) (nothing-found (clocked m t .book) g n) ∙ idle-says (clocked m t) k o l
+    ∙ ap (λ (c : ℕ). done answer.NothingDue (showing m c) o l) (clocked-at m (tick t o l) t h refl)
+
+-- So it is of a tick that is not refused and at whose time no live entry is due.
+pub idle-is : (m : Machine) (t : ℕ) (o l : List ℕ) → Good rules (m .book) → refusal m (tick t o l) ≡ 0 → NoneDue m t → outcome m (tick t o l) ≡ done answer.NothingDue (showing m t) o l
+idle-is m t o l g h n = idle-found m t o l h (good-move rules (m .book) (pass t) g tt) (rw (clocked-at m (tick t o l) t h refl) n)
+
+-- A tick says that nothing is due only where that is so, and it is not refused.
+pub idle-when : (m : Machine) (t : ℕ) (o l : List ℕ) → Good rules (m .book) → outcome m (tick t o l) .says ≡ answer.NothingDue → (refusal m (tick t o l) ≡ 0) × NoneDue m t
 idle-when m t o l g s =
     let b = clocked m t .book in
     let k = duePlace rules b in
@@ -188,8 +219,7 @@ idle-when m t o l g s =
     (λ (h : refusal m (tick t o l) ≡ 0). ⊎-elim
     (λ (e : (e : Live What Note) × (at b k ≡ some e)).
     absurd (expired-says (clocked m t) k o l (e .0) .0 (sym (ap (λ (y : Outcome). y .says) (ticked-is m t o l h ∙ ap (expiredTo (clocked m t) k o l) (e .1))) ∙ s)))
-    (λ (e : at b k ≡ none).
-    (h, nothing-there b (good-move rules (m .book) (pass t) g tt) e, ap (λ (y : Outcome). y .after) (ticked-is m t o l h ∙ ap (expiredTo (clocked m t) k o l) e ∙ idle-says (clocked m t) k o l)))
+    (λ (e : at b k ≡ none). (h, rw (clocked-at m (tick t o l) t h refl) at (nothing-there b (good-move rules (m .book) (pass t) g tt) e)))
     (spot b k))
     (λ (h : refusal m (tick t o l) ≡ 0 → ⊥).
     absurd (let z : _≡_ {A = ℕ} 0 1 = cc (sym (ap (λ (y : Outcome). y .says) (refusal-changes-nothing m (tick t o l) h)) ∙ s) in omega arith))

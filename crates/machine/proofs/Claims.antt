@@ -35,7 +35,7 @@ use Rattle.rewrite.specs.Registers.{registersAt}
 use Rattle.rewrite.specs.Rewriting.{ownIn, Rewritten}
 use Rattle.rewrite.specs.Plain.{Whole, OfBits}
 use Rattle.rewrite.proofs.FrameLaws.{returned-bits}
-use Rattle.book.specs.Book.{Party, Live, Event, Good, NothingDue, at}
+use Rattle.book.specs.Book.{Party, Live, Event, Good, at}
 use Rattle.book.specs.Book.Event.{issued, left, lost}
 use Rattle.book.specs.Ledger.{Ticket, Apart, Differing, Anew, under, partiesOf}
 use Rattle.book.specs.Traced.{touches, issuedId, behind, Outstanding, Holds}
@@ -45,7 +45,7 @@ use Rattle.book.proofs.History.{always-sound, ids-come-round-late, after-on, af
 use Rattle.book.proofs.SpacedLaws.{apart-exactly}
 use Rattle.book.proofs.TracedLaws.{traced}
 use Rattle.book.proofs.LedgerLaws.{successor, successor-of-lost}
-use Rattle.machine.specs.Machine.{Machine, Note, made, rules, settings, clocked}
+use Rattle.machine.specs.Machine.{Machine, Note, made, rules, settings}
 use Rattle.machine.specs.Calls.{Call, Outcome, done, outOf, listOf, timeOf}
 use Rattle.machine.specs.Calls.Call.{attach, detach, request, reply, tick, linkLost}
 use Rattle.machine.specs.Refusals.{rows, lowest, refusal}
@@ -60,7 +60,7 @@ use Rattle.machine.specs.Closed.{Unspoiled, Joinable}
 use Rattle.machine.specs.declared.Answer.{Answer}
 use Rattle.machine.specs.declared.Answer.the-variants as answer
 use Rattle.machine.proofs.RefusalLaws.{table, Applies, refused-exactly}
-use Rattle.machine.proofs.OutcomeLaws.{clocked-at, says-refusal, refused-is, granted-is}
+use Rattle.machine.proofs.OutcomeLaws.{says-refusal, refused-is, granted-is}
 use Rattle.machine.proofs.NumberLaws.{Tells, numbers-tell}
 use Rattle.machine.proofs.SpelledLaws.{AskedBy, asked-spelled, kept-as-asked, asking-says}
 use Rattle.machine.proofs.RequestLaws.{NoneToJoin, codeOf, no-other-exception, exception-04 as said-exactly}
@@ -68,7 +68,7 @@ use Rattle.machine.proofs.AskLaws.Carries.{single}
 use Rattle.machine.proofs.Follows.{same-entry}
 use Rattle.machine.proofs.AskLaws.{Carries, bits-carry-none, Issues, Joins, Excepts, request-comes-to, issue-is, join-is, exception-is}
 use Rattle.machine.proofs.PartyLaws.{Accepts, Stands, accepted-stands}
-use Rattle.machine.proofs.AnswerLaws.{Answers, Expires, reply-answers, tick-expires, idle-when}
+use Rattle.machine.proofs.AnswerLaws.{Answers, Expires, reply-answers, tick-expires, showing, idle-is, idle-when}
 use Rattle.machine.proofs.ReadBack.{comes-back}
 use Rattle.machine.proofs.EchoBack.{echo-comes-back, own-frame, sent-id}
 use Rattle.machine.proofs.TickLaws.{Lent, tickAt, ticksAt, ticking-ends}
@@ -107,9 +107,9 @@ module _ (v : Value) (xs : List Call) where
   good : Good rules (afterCalls v xs .book)
   good = accounted v xs .good
 
-  -- and its settings are those that it was made with
-  same-settings : settings (afterCalls v xs) ≡ v
-  same-settings = always-sound (product v) xs
+  -- The settings in force are those that the machine was made with, whatever was called.
+  pub the-settings-in-force-stay : settings (afterCalls v xs) ≡ v
+  the-settings-in-force-stay = always-sound (product v) xs
 
   -- Tender 1: a call refuses by the numbers in document 01. It says the refusal n exactly if row n of the document's table applies to it and no lower row does; the
   -- table in plain words is `table` of RefusalLaws.
@@ -198,6 +198,17 @@ module _ (v : Value) (xs : List Call) where
   a-timeout-goes-to-its-own t o l h n =
       let a = tick-expires (afterCalls v xs) t o l good h n in
       (a, accounted v xs .entries (a .place) (a .entry) (a .there), asked-alike (a .place) (a .entry) (a .there))
+
+  -- Document 01: "nothing due" is a separate outcome and writes nothing. A tick that says so: the clock is its time, nothing else of the machine has changed, buffer and list are as they
+  -- came, and no live entry's deadline is at or before its time.
+  pub nothing-due-is-this : (t : ℕ) (o l : List ℕ) → outcome (afterCalls v xs) (tick t o l) .says ≡ answer.NothingDue
+      → (outcome (afterCalls v xs) (tick t o l) ≡ done answer.NothingDue (showing (afterCalls v xs) t) o l) × ((k : ℕ) (e : Live What Note) → at (afterCalls v xs .book) k ≡ some e → t < e .deadline)
+  nothing-due-is-this t o l s = let w = idle-when (afterCalls v xs) t o l good s in (idle-is (afterCalls v xs) t o l good (w .0) (w .1), w .1)
+
+  -- And every tick says so that is not refused and at whose time no live entry is due.
+  pub nothing-due-is-said : (t : ℕ) (o l : List ℕ) → refusal (afterCalls v xs) (tick t o l) ≡ 0 → ((k : ℕ) (e : Live What Note) → at (afterCalls v xs .book) k ≡ some e → t < e .deadline)
+      → outcome (afterCalls v xs) (tick t o l) .says ≡ answer.NothingDue
+  nothing-due-is-said t o l h n = ap (λ (d : Outcome). d .says) (idle-is (afterCalls v xs) t o l good h n)
 
   -- When to tick (ours): the time that `nextDeadline` names is the earliest deadline of the live requests, 2^64 − 1 where none is, and so many are live.
   pub the-next-deadline-is-this : Waits (afterCalls v xs) (nextDeadline (afterCalls v xs))
@@ -311,12 +322,12 @@ module _ (v : Value) (xs : List Call) where
 pub nothing-waits-forever : (v : Value) (xs : List Call) (t : ℕ) (o l : List ℕ) → outcome (afterCalls v xs) (tick t o l) .says ≡ answer.NothingDue
     → (k : Ticket What) → List·Memᴰ k (ledgerOf v (xs ++ (tick t o l ∷ [])) .waiting) → t < k .time + v .timeout
 nothing-waits-forever v xs t o l s k m =
-    let w = idle-when (afterCalls v xs) t o l (good v xs) s in
+    let w = nothing-due-is-this v xs t o l s in
     let ys = xs ++ (tick t o l ∷ []) in
-    let e : afterCalls v ys ≡ clocked (afterCalls v xs) t = after-one (product v) (made v) xs (tick t o l) ∙ w .2 in
+    let e : afterCalls v ys ≡ showing (afterCalls v xs) t = after-one (product v) (made v) xs (tick t o l) ∙ ap (λ (d : Outcome). d .after) (w .0) in
     let d = accounted v ys .drained (rw (ap (λ (n : Machine). n .book) e) (w .1)) k m in
-    let c : afterCalls v ys .book .clock ≡ t = ap (λ (n : Machine). n .book .clock) e ∙ clocked-at (afterCalls v xs) (tick t o l) t (w .0) refl in
-    rw (c, same-settings v ys) at d
+    let c : afterCalls v ys .book .clock ≡ t = ap (λ (n : Machine). n .book .clock) e in
+    rw (c, the-settings-in-force-stay v ys) at d
 
 -- Tender 3: ticking at one time ends. After any calls, and then as many ticks at one time as there are places, or more, each with whatever buffers, the next tick at that time says
 -- that nothing is due, and nothing accepted a full timeout before that time waits.
@@ -341,8 +352,8 @@ pub a-value-comes-back : (v : Value) → valid v ≡ true → (tag : Tag) → Li
     → ownIn s′ (registersAt 9 q′ g) tag ≡ ownIn s (registersAt base q (outcome (afterCalls v xs) (request c t f o) .written)) tag
     → ownIn s′ (registersAt 9 q′ (outcome (afterCalls v ys) (reply t′ g o′ l) .written)) tag ≡ ownIn s (registersAt base q f) tag
 a-value-comes-back v right tag m xs c t f o bytes i n p w e base s q carries whole range ys =
-    comes-back (v .tags) (valid-ascends v right) tag m (afterCalls v xs) (ap (λ (x : Value). x .tags) (same-settings v xs)) c t f o bytes (an-issue-is-this v xs c t f o i n p w e) base s q
-    carries whole range (afterCalls v ys) (ap (λ (x : Value). x .tags) (same-settings v ys))
+    comes-back (v .tags) (valid-ascends v right) tag m (afterCalls v xs) (ap (λ (x : Value). x .tags) (the-settings-in-force-stay v xs)) c t f o bytes (an-issue-is-this v xs c t f o i n p w e) base s q
+    carries whole range (afterCalls v ys) (ap (λ (x : Value). x .tags) (the-settings-in-force-stay v ys))
 
 -- Demand 2's addition (#106): a device that echoes what it was sent gives the client back the very frame that the client wrote. A 06 was issued; whatever calls came before the reply,
 -- while what the request asked is outstanding under its id: the reply that is the frame which was sent, byte for byte, is handed on as the client's own frame, once its id is laid over
@@ -367,7 +378,7 @@ an-echo-comes-back v right xs c t f o bytes six i n p w e ys t′ o′ l h clien
     let named : a .entry .id ≡ i .0 = a .same ∙ sent-id m c t f o (good v xs) x n (omega arith) ∙ ap (λ (j : ProxyId). j .0) (sym own) in
     let place : a .place ≡ held .0 = live-ids-differ v ys (a .place) (held .0) (a .entry) (held .1) (a .there) (held .2) (named ∙ sym (held .3)) in
     let same : a .entry ≡ held .1 = same-entry (sym (a .there) ∙ ap (λ (k : ℕ). at (afterCalls v ys .book) k) place ∙ held .2) in
-    let r = echo-comes-back (v .tags) (valid-ascends v right) m (ap (λ (y : Value). y .tags) (same-settings v xs)) c t f o bytes long six x (afterCalls v ys) (ap (λ (y : Value). y .tags) (same-settings v ys)) t′ g o′ l
+    let r = echo-comes-back (v .tags) (valid-ascends v right) m (ap (λ (y : Value). y .tags) (the-settings-in-force-stay v xs)) c t f o bytes long six x (afterCalls v ys) (ap (λ (y : Value). y .tags) (the-settings-in-force-stay v ys)) t′ g o′ l
     (ap (λ (k : ℕ). take k (outcome m (request c t f o) .written)) size) a (ap (λ (y : Live What Note). y .what) same ∙ held .4) in (
       length (a .entry .parties),
       r .0 ∙ ap (λ (j : ProxyId). answer.Answered j (length f) (length (a .entry .parties)) 0 0) (ap (λ (k : ℕ). record { 0 = k }) named) ∙ ap (λ (k : ℕ). answer.Answered i k (length (a .entry .parties)) 0 0) (sym size),

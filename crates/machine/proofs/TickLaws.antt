@@ -2,7 +2,6 @@
 -- Assumes nothing.
 use Prim.Native.Nat.{ℕ, _≤_}
 use mathlib.Core.Path.{_≡_, refl, ap, sym, subst, _∙_}
-use mathlib.Core.Logic.{⊎-elim}
 use mathlib.Core.Option.{Option, some, none}
 use mathlib.Core.List.{List, [], _∷_, map}
 use native.Mathlib.Omega.{arith}
@@ -18,8 +17,6 @@ use Rattle.book.specs.Desk.{duePlace, expireAt, choose, ticks}
 use Rattle.book.specs.Desk.Op.{tick as ticking}
 use Rattle.book.specs.Machine.{after}
 use Rattle.book.proofs.GoodLaws.{good-move}
-use Rattle.book.proofs.DeskLaws.{due-found}
-use Rattle.book.proofs.PlaceLaws.{at-low}
 use Rattle.book.proofs.TickLaws.{ticks-good, drains}
 use Rattle.machine.specs.Machine.{Machine, Note, Live-book, machine, rules, clocked}
 use Rattle.machine.specs.Calls.{Call, Outcome}
@@ -30,7 +27,7 @@ use Rattle.machine.specs.Outcomes.{outcome}
 use Rattle.machine.specs.declared.Answer.the-variants as answer
 use Rattle.machine.proofs.OutcomeLaws.{clock-set}
 use Rattle.machine.proofs.LowestLaws.{passes, none-left}
-use Rattle.machine.proofs.AnswerLaws.{ticked-is, idle-says, spot}
+use Rattle.machine.proofs.AnswerLaws.{ticked-is, idle-found}
 use Rattle.machine.proofs.Histories.{product}
 
 -- the buffers that a host lends a tick: whatever they hold, they are as long as document 01 asks
@@ -60,15 +57,6 @@ tick-leaves m t o l h = let b = clocked m t .book in ap (λ (d : Outcome). d .af
 -- What the buffers hold has no part in the state after a tick.
 pub tick-same-state : (m : Machine) (t : ℕ) (o l o′ l′ : List ℕ) → refusal m (tick t o l) ≡ 0 → refusal m (tick t o′ l′) ≡ 0 → outcome m (tick t o l) .after ≡ outcome m (tick t o′ l′) .after
 tick-same-state m t o l o′ l′ h h′ = tick-leaves m t o l h ∙ sym (tick-leaves m t o′ l′ h′)
-
-pub nothing-found : (b : Live-book) → Good rules b → NothingDue b → at b (duePlace rules b) ≡ none
-nothing-found b g n =
-    ⊎-elim
-    (λ (e : (e : Live What Note) × (at b (duePlace rules b) ≡ some e)).
-    let w = due-found rules b g (rw (g .long) at (at-low (b .places) (duePlace rules b) (e .0) (e .1))) in
-    absurd (let y = n (duePlace rules b) (w .0) (w .1) in let z = w .2 in omega arith))
-    (λ e. e)
-    (spot b (duePlace rules b))
 
 module _ (v : Value) (t : ℕ) (late : t ≤ latestTime) where
   -- a tick at a time that is not below the clock is not refused
@@ -101,9 +89,6 @@ module _ (v : Value) (t : ℕ) (late : t ≤ latestTime) where
       let n = after (product v) m (ticksAt t bs) in
       let w = many-ticks bs m c in
       let gm = good-move rules (m .book) (pass t) g tt in
-      let k = clocked n t .book in
-      let d : NothingDue k = subst (λ (x : Live-book). NothingDue x) (sym (w .1)) (drains rules (clocked m t .book) gm (length bs) p) in
-      let gk : Good rules k = subst (λ (x : Live-book). Good rules x) (sym (w .1)) (ticks-good rules (length bs) (clocked m t .book) gm) in
       ap (λ (x : Outcome). x .says)
-      (ticked-is n t (b .out) (b .list) (timely n b (w .0)) ∙ ap (expiredTo (clocked n t) (duePlace rules k) (b .out) (b .list)) (nothing-found k gk d)
-      ∙ idle-says (clocked n t) (duePlace rules k) (b .out) (b .list))
+      (idle-found n t (b .out) (b .list) (timely n b (w .0)) (subst (λ (x : Live-book). Good rules x) (sym (w .1)) (ticks-good rules (length bs) (clocked m t .book) gm))
+      (subst (λ (x : Live-book). NothingDue x) (sym (w .1)) (drains rules (clocked m t .book) gm (length bs) p)))

@@ -2,12 +2,11 @@
 -- Assumes nothing.
 use Prim.Native.Nat.{ℕ, _≤_, _<_}
 use mathlib.Core.Path.{_≡_, refl, ap, sym, _∙_}
-use mathlib.Core.Logic.{⊎-elim, _⊎_, inl, inr, _↔_}
-use mathlib.Core.Bool.{Bool, true, false}
+use mathlib.Core.Logic.{⊎-elim, _⊎_, inl, inr}
+use mathlib.Core.Bool.{Bool, true}
 use mathlib.Core.Option.{Option, some, none}
 use mathlib.Core.List.{List}
 use native.Mathlib.Omega.{arith}
-use lib.ListN.{length}
 use lib.Dec.{ltb}
 use borrow.Author.Tests.{ltb-false}
 use Rattle.laws.specs.Numbers.{places, latestTime}
@@ -16,24 +15,19 @@ use Rattle.laws.proofs.LeastLaws.{least-low, least-taken}
 use Rattle.laws.proofs.Choice.{or-left}
 use Rattle.pdu.specs.Replies.{What}
 use Rattle.pdu.specs.declared.ProxyId.{ProxyId}
-use Rattle.book.specs.Book.{Live, Good, NothingDue, at}
-use Rattle.book.specs.Book.Move.{pass}
-use Rattle.book.specs.Desk.{duePlace, isLive}
-use Rattle.book.proofs.GoodLaws.{good-move}
+use Rattle.book.specs.Book.{Live, Good, at}
+use Rattle.book.specs.Desk.{isLive}
 use Rattle.book.proofs.PlaceLaws.{at-low}
-use Rattle.machine.specs.Machine.{Machine, Note, rules, clocked}
+use Rattle.machine.specs.Machine.{Machine, Note, rules}
 use Rattle.machine.specs.Calls.{Outcome}
 use Rattle.machine.specs.Calls.Call.{tick}
 use Rattle.machine.specs.Refusals.{rows, refusal, isUntimely}
-use Rattle.machine.specs.Replies.{expiredTo}
 use Rattle.machine.specs.Outcomes.{outcome}
 use Rattle.machine.specs.Waiting.{noDeadline, deadlineOf, nextDeadline}
 use Rattle.machine.specs.declared.Answer.the-variants as answer
 use Rattle.machine.specs.declared.NextDeadline.{NextDeadline}
 use Rattle.machine.proofs.LowestLaws.{none-applies}
-use Rattle.machine.proofs.OutcomeLaws.{clocked-at}
-use Rattle.machine.proofs.AnswerLaws.{ticked-is, idle-says, idle-when, spot, tick-expires}
-use Rattle.machine.proofs.TickLaws.{nothing-found}
+use Rattle.machine.proofs.AnswerLaws.{idle-is, idle-when, tick-expires}
 
 -- the numbers of a next deadline, in plain words
 pub record Waits (m : Machine) (n : NextDeadline) : Type 0 where
@@ -79,15 +73,8 @@ pub next-tick : (m : Machine) (t : ℕ) (o l : List ℕ) → Good rules (m .book
     → (t < nextDeadline m .time → outcome m (tick t o l) .says ≡ answer.NothingDue)
     × (nextDeadline m .time ≤ t → (i : ProxyId) × (n : ℕ) × (outcome m (tick t o l) .says ≡ answer.TimedOut i n))
 next-tick m t o l g h =
-    let w = waits m g in
-    let b = clocked m t .book in
-    let c : b .clock ≡ t = clocked-at m (tick t o l) t h refl in
-    let gb = good-move rules (m .book) (pass t) g tt in (
-      λ early.
-          ap (λ (x : Outcome). x .says)
-          (ticked-is m t o l h
-          ∙ ap (expiredTo (clocked m t) (duePlace rules b) o l) (nothing-found b gb (λ k e z. let y = w .first k e z in omega arith))
-          ∙ idle-says (clocked m t) (duePlace rules b) o l),
+    let w = waits m g in (
+      λ early. ap (λ (x : Outcome). x .says) (idle-is m t o l g h (λ k e z. let y = w .first k e z in omega arith)),
       λ late.
           let x = tick-expires m t o l g h (λ idle. ⊎-elim
           (λ (z : nextDeadline m .time ≡ noDeadline). let y = tick-time m t o l h in omega arith)
