@@ -5,10 +5,10 @@ use mathlib.Core.Path.{_≡_, refl, ap, sym, subst, _∙_}
 use mathlib.Core.Logic.{⊎-elim, _⊎_, inl, inr, _↔_, Iff·trans}
 use mathlib.Core.Bool.{true, false}
 use mathlib.Core.Option.{some, Option·getD}
-use mathlib.Core.List.{List, [], _∷_, _++_, map-append, append-assoc, List·Memᴰ}
+use mathlib.Core.List.{List, [], _∷_, _++_, map, map-append, append-assoc, List·Memᴰ}
 use native.Mathlib.Omega.{arith}
 use lib.ListN.{length, getD, take}
-use Rattle.laws.specs.Numbers.{ids, places, distance, latestTime, exceptionFrame}
+use Rattle.laws.specs.Numbers.{ids, places, distance, latestTime}
 use Rattle.laws.specs.Lists.{lastGiven, lastOf}
 use Rattle.laws.specs.Bits.{has}
 use Rattle.laws.specs.Bytes.{over}
@@ -16,9 +16,10 @@ use Rattle.wire.specs.Frame.{idOf, laid}
 use Rattle.bcd.specs.Bcd.{inRange}
 use Rattle.bcd.specs.Words.{numberOf}
 use Rattle.settings.specs.declared.Settings.{Settings}
-use Rattle.settings.specs.Grammar.{Value, Tag}
+use Rattle.settings.specs.Grammar.{Value, Tag, valid}
 use Rattle.settings.specs.Values.{valueOf}
-use Rattle.settings.specs.TagWords.{kindOf}
+use Rattle.settings.specs.TagWords.{kindOf, tagOf, Ascending}
+use Rattle.settings.proofs.TagLaws.{valid-ascends}
 use Rattle.pdu.specs.Requests.{legal}
 use Rattle.pdu.specs.Replies.{What, excepts}
 use Rattle.pdu.specs.Words.{whatOf, closedBit}
@@ -33,14 +34,13 @@ use Rattle.book.specs.Book.Event.{issued}
 use Rattle.book.specs.Ledger.{Ticket, Apart, Differing, Anew, partiesOf}
 use Rattle.book.specs.Traced.{touches, issuedId, behind, Outstanding}
 use Rattle.book.specs.Desk.{AllLive}
-use Rattle.book.proofs.History.{always-sound}
 use Rattle.machine.specs.Machine.{Machine, rules, settings}
 use Rattle.machine.specs.Calls.{Call, Outcome, done, outOf, listOf, timeOf}
 use Rattle.machine.specs.Calls.Call.{attach, detach, request, reply, tick, linkLost}
 use Rattle.machine.specs.Refusals.{refusal}
 use Rattle.machine.specs.Outcomes.{outcome}
 use Rattle.machine.specs.Granted.{concerns}
-use Rattle.machine.specs.Numbers.{numbers, report, isDone, isIssued, isJoined, isException, isTimedOut, isNothingDue}
+use Rattle.machine.specs.Numbers.{ten, numbers, isIssued, isJoined, isException, isTimedOut, isNothingDue}
 use Rattle.machine.specs.Waiting.{nextDeadline}
 use Rattle.machine.specs.Spelled.{asker, asking}
 use Rattle.machine.specs.Histories.{Seen, seenOf}
@@ -54,19 +54,21 @@ use Rattle.machine.proofs.NumberLaws.{refusal-told, refusal-exactly, exception-
 use Rattle.machine.proofs.RequestLaws.{NoneToJoin}
 use Rattle.machine.proofs.AskLaws.{Carries, bits-carry-none, Issues, Joins, Excepts}
 use Rattle.machine.proofs.PartyLaws.{Accepts, Stands}
+use Rattle.machine.proofs.AnswerLaws.{showing}
 use Rattle.machine.proofs.TickLaws.{Lent, tickAt, ticksAt}
-use Rattle.machine.proofs.Histories.{product, afterCalls, toldBy}
+use Rattle.machine.proofs.Histories.{afterCalls, toldBy}
 use Rattle.machine.proofs.StateLaws.{IssuedBy, seen-issue}
 use Rattle.machine.proofs.Claims as claim
 use Rattle.table.specs.Columns.{partiesAt, noteOf}
-use Rattle.proxy.proofs.MakingLaws.{adopted-valid}
+use Rattle.proxy.specs.State.{valueIn}
+use Rattle.proxy.proofs.MakingLaws.{adopted-valid, adopts-valid, adopts-usual}
 use Rattle.device.specs.declared.Device.{Device}
 use Rattle.device.specs.Device.{Freshly, Awaited}
 use Rattle.device.proofs.DeviceLaws.{same-device}
 use Rattle.zilborteka.specs.Lives.{inForce, machineIn, Called, Line, callsOf, Lived, grantedIn, toldIn, ledgerIn}
 use Rattle.zilborteka.specs.Lives.Lived.{none, then}
 use Rattle.zilborteka.proofs.Lived.{left, seen, came, report-tells, lived-on, each-line, line-told, AsTheMachine, a-device-lives-as-the-machine, a-device-accounts-for-every-request}
-use Rattle.zilborteka.proofs.Handed.{waitingUnder, Replied, TimesOut, replied, timed-out, answers-what}
+use Rattle.zilborteka.proofs.Handed.{waitingUnder, Replied, TimesOut, lives-as, replied, timed-out, answers-what}
 use Rattle.zilborteka.proofs.Places.{LiveIn, place-live, live-in}
 
 -- what a host saw, as an outcome of the machine: the answer that the report tells, the machine that the device is afterwards, and both lent buffers
@@ -85,16 +87,16 @@ exceptionIn r = answer.Excepted (r .code)
 
 -- the whole report of an issue, a join and an exception, and which of the three it is
 module _ {m : Machine} {c t : ℕ} {f o : List ℕ} {y : Outcome} {r : Report} where
-  issue-reported : Issues m c t f o y × (r ≡ numbers (y .says)) → (i : Issues m c t f o y) × (r ≡ report 0 isIssued (length f) 0 (i .partial) (i .value) 0 (i .id) 0)
+  issue-reported : Issues m c t f o y × (r ≡ numbers (y .says)) → (i : Issues m c t f o y) × (r ≡ ten 0 0 2 (length f) 0 (i .partial) (i .value) 0 (i .id) 0)
   unfolding numbers
   issue-reported w = (w .0, w .1 ∙ ap numbers (w .0 .says))
 
-  join-reported : Joins m c t f o y × (r ≡ numbers (y .says)) → (j : Joins m c t f o y) × (r ≡ report 0 isJoined 0 0 0 0 0 (j .entry .id) 0)
+  join-reported : Joins m c t f o y × (r ≡ numbers (y .says)) → (j : Joins m c t f o y) × (r ≡ ten 0 0 3 0 0 0 0 0 (j .entry .id) 0)
   unfolding numbers
   join-reported w = (w .0, w .1 ∙ ap numbers (w .0 .says))
 
 exception-reported : {m : Machine} {t : ℕ} {f o : List ℕ} {y : Outcome} {r : Report} → Excepts m t f o y × (r ≡ numbers (y .says))
-    → (e : Excepts m t f o y) × (r ≡ report 0 isException exceptionFrame 0 0 0 0 0 (e .code))
+    → (e : Excepts m t f o y) × (r ≡ ten 0 0 4 9 0 0 0 0 0 (e .code))
 unfolding numbers
 exception-reported w = (w .0, w .1 ∙ ap numbers (w .0 .says))
 
@@ -104,6 +106,20 @@ unfolding numbers
 one-of-three (inl i) = inl (ap (λ (a : Answer). numbers a .outcome) (i .says))
 one-of-three (inr (inl j)) = inr (inl (ap (λ (a : Answer). numbers a .outcome) (j .says)))
 one-of-three (inr (inr e)) = inr (inr (ap (λ (a : Answer). numbers a .outcome) (e .says)))
+
+-- Fresh reports done for a valid value, which is in force then, and refusal 10 with line 0 for any other, beside timeout 3000, join 1 and no tags.
+pub fresh-is-this : (from : Settings) {r : Report} {d : Device} → Freshly from r d
+    → (valid (valueOf from) ≡ true → (r ≡ ten 0 0 1 0 0 0 0 0 0 0) × (inForce from ≡ valueOf from))
+    × (valid (valueOf from) ≡ false → (r ≡ ten 10 0 0 0 0 0 0 0 0 0) × (inForce from ≡ record { timeout = 3000; join = 1; tags = [] }))
+unfolding numbers
+fresh-is-this from fresh = (
+  λ t. let a = adopts-valid (valueOf from) t in (fresh .0 ∙ ap numbers (a .0), a .1),
+  λ t. let a = adopts-usual (valueOf from) t in (fresh .0 ∙ ap numbers (a .0), a .1),
+)
+
+-- The tags in force on a device ascend, whatever it was made from: so what `Rewrites` says of ascending tags holds of its replies and its issues.
+pub the-tags-in-force-ascend : (from : Settings) → Ascending 0 (inForce from .tags)
+the-tags-in-force-ascend from = valid-ascends (inForce from) (adopted-valid (valueOf from))
 
 -- A device d was made fresh from a settings value, and these lines followed and left d′. What is claimed of the next call is claimed of each line of a life: `each-line` of Lived.antt.
 -- `machineIn d′` is the machine that the device is: its set, cursor and clock are the device's, and its live entries stand in the device's places (`own-fields`, `live-in` of Places.antt).
@@ -137,6 +153,14 @@ module _ (from : Settings) {r : Report} {d d′ : Device} (ls : List Line) (fres
     ap (λ (y : Seen). y .report) (seen x s) ∙ ap numbers h,
   )
 
+  -- The settings in force stay those that fresh adopted: in the machine that the device is, and in the device's own fields, timeout, join and the words of its tags.
+  pub the-settings-in-force-stay : (settings (machineIn d′) ≡ inForce from) × (d′ .timeout ≡ inForce from .timeout) × (d′ .join ≡ inForce from .join)
+      × (map tagOf (take (d′ .tagged) (d′ .tags)) ≡ inForce from .tags)
+  unfolding machineIn valueIn
+  the-settings-in-force-stay =
+      let e = ap (λ (m : Machine). settings m) (lived .after) ∙ claim.the-settings-in-force-stay v xs in
+      (e, ap (λ (y : Value). y .timeout) e, ap (λ (y : Value). y .join) e, ap (λ (y : Value). y .tags) e)
+
   -- Tender 1: a call refuses by the numbers in document 01. The report says the refusal n exactly if row n of the document's table applies to the call on that device and no
   -- lower row does.
   pub refuses-by-the-table : (x : Call) {saw : Seen} {d″ : Device} → Called d′ x saw d″ → (n : ℕ) → (n ≡ 0 → ⊥)
@@ -145,7 +169,7 @@ module _ (from : Settings) {r : Report} {d d′ : Device} (ls : List Line) (fres
 
   -- Tender 1: a refusal changes no state and no lent byte. Every field of the device, both buffers and every other number of the report are as if nothing had been called.
   pub a-refusal-changes-nothing : (x : Call) {saw : Seen} {d″ : Device} → Called d′ x saw d″ → (saw .report .refusal ≡ 0 → ⊥)
-      → (d″ ≡ d′) × (saw ≡ record { report = report (saw .report .refusal) 0 0 0 0 0 0 0 0; frame = outOf x; list = listOf x })
+      → (d″ ≡ d′) × (saw ≡ record { report = ten (saw .report .refusal) 0 0 0 0 0 0 0 0 0; frame = outOf x; list = listOf x })
   unfolding numbers
   a-refusal-changes-nothing x {saw} {d″} s h = (
     same-device d″ d′ (s .2 h),
@@ -159,19 +183,19 @@ module _ (from : Settings) {r : Report} {d d′ : Device} (ls : List Line) (fres
 
   -- and each of the three is told in plain numbers and bytes: the whole report, every byte of the buffer, and the whole machine that the device is afterwards.
   pub an-issue-is-this : (c t : ℕ) (f o : List ℕ) {saw : Seen} {d″ : Device} → Called d′ (request c t f o) saw d″ → saw .report .outcome ≡ isIssued
-      → (i : Issues (machineIn d′) c t f o (outcomeIn (issueIn (saw .report)) saw d″)) × (saw .report ≡ report 0 isIssued (length f) 0 (i .partial) (i .value) 0 (i .id) 0)
+      → (i : Issues (machineIn d′) c t f o (outcomeIn (issueIn (saw .report)) saw d″)) × (saw .report ≡ ten 0 0 2 (length f) 0 (i .partial) (i .value) 0 (i .id) 0)
   an-issue-is-this c t f o s e =
       let x = request c t f o in
       issue-reported (carried (λ m. Issues m c t f o) x s _ (report-tells x s .issued e) (claim.an-issue-is-this v xs c t f o _ _ _ _))
 
   pub a-join-is-this : (c t : ℕ) (f o : List ℕ) {saw : Seen} {d″ : Device} → Called d′ (request c t f o) saw d″ → saw .report .outcome ≡ isJoined
-      → (j : Joins (machineIn d′) c t f o (outcomeIn (joinIn (saw .report)) saw d″)) × (saw .report ≡ report 0 isJoined 0 0 0 0 0 (j .entry .id) 0)
+      → (j : Joins (machineIn d′) c t f o (outcomeIn (joinIn (saw .report)) saw d″)) × (saw .report ≡ ten 0 0 3 0 0 0 0 0 (j .entry .id) 0)
   a-join-is-this c t f o s e =
       let x = request c t f o in
       join-reported (carried (λ m. Joins m c t f o) x s _ (report-tells x s .joined e) (claim.a-join-is-this v xs c t f o _))
 
   pub an-exception-is-this : (c t : ℕ) (f o : List ℕ) {saw : Seen} {d″ : Device} → Called d′ (request c t f o) saw d″ → saw .report .outcome ≡ isException
-      → (e : Excepts (machineIn d′) t f o (outcomeIn (exceptionIn (saw .report)) saw d″)) × (saw .report ≡ report 0 isException exceptionFrame 0 0 0 0 0 (e .code))
+      → (e : Excepts (machineIn d′) t f o (outcomeIn (exceptionIn (saw .report)) saw d″)) × (saw .report ≡ ten 0 0 4 9 0 0 0 0 0 (e .code))
   an-exception-is-this c t f o s e =
       let x = request c t f o in
       exception-reported (carried (λ m. Excepts m t f o) x s _ (report-tells x s .excepted e) (claim.an-exception-is-this v xs c t f o _))
@@ -192,7 +216,7 @@ module _ (from : Settings) {r : Report} {d d′ : Device} (ls : List Line) (fres
       ↔ ((saw .report .refusal ≡ 0) × (legal (inForce from) f ≡ true) × NoneToJoin (machineIn d′) t f × AllLive rules (machineIn d′ .book))
   exception-04-exactly c t f o s =
       let x = request c t f o in
-      let same : legal (settings (afterCalls v xs)) f ≡ legal v f = ap (λ (y : Value). legal y f) (always-sound (product v) xs) in
+      let same : legal (settings (afterCalls v xs)) f ≡ legal v f = ap (λ (y : Value). legal y f) (claim.the-settings-in-force-stay v xs) in
       rw (sees x s, lived .after, refusal-told (afterCalls v xs) x) (Iff·trans (exception-exactly _ 4) (rw same at (claim.exception-04-exactly v xs c t f o)))
 
   -- and no other call reports an exception
@@ -213,6 +237,30 @@ module _ (from : Settings) {r : Report} {d d′ : Device} (ls : List Line) (fres
       let h = passes x s z in
       let due : outcome (afterCalls v xs) x .says ≡ answer.NothingDue → ⊥ = λ e. n (ap (λ (y : Seen). y .report .outcome) (sees x s) ∙ ap (λ (a : Answer). numbers a .outcome) e) in
       rw (lived .told, sees x s) (timed-out v xs t o l h due)
+
+  -- Document 01: "nothing due" is a separate outcome and writes nothing. A tick that reports outcome 7: no other number of the report is set, buffer and list are as they came, no id that
+  -- is outstanding by the host's own lines is due at its time, and the machine that the device is afterwards is as before but for its clock, which is that time.
+  pub nothing-due-is-this : (t : ℕ) (o l : List ℕ) {saw : Seen} {d″ : Device} → Called d′ (tick t o l) saw d″ → saw .report .outcome ≡ 7
+      → (saw ≡ record { report = ten 0 0 7 0 0 0 0 0 0 0; frame = o; list = l }) × ((id : ℕ) (w : What) (c u : ℕ) → Outstanding (toldIn (inForce from) ls) id w c u → t < u)
+      × (machineIn d″ ≡ showing (machineIn d′) t)
+  unfolding numbers
+  nothing-due-is-this t o l s e =
+      let x = tick t o l in
+      let w = claim.nothing-due-is-this v xs t o l (rw (lived .after) at (report-tells x s .nothing-due e)) in (
+        sees x s ∙ ap seenOf (w .0),
+        λ i a c u out. let y = claim.which-ids-are-live v xs i a c u .1 (rw (lived .told) at out) in rw (y .6) at (w .1 (y .0) (y .1) (y .2)),
+        left x s ∙ subst (λ (m : Machine). outcome m x .after ≡ showing m t) (sym (lived .after)) (ap (λ (y : Outcome). y .after) (w .0)),
+      )
+
+  -- And so reports every tick that is not refused and at whose time no such id is due.
+  pub nothing-due-is-said : (t : ℕ) (o l : List ℕ) {saw : Seen} {d″ : Device} → Called d′ (tick t o l) saw d″ → saw .report .refusal ≡ 0
+      → ((id : ℕ) (w : What) (c u : ℕ) → Outstanding (toldIn (inForce from) ls) id w c u → t < u) → saw .report .outcome ≡ 7
+  unfolding numbers
+  nothing-due-is-said t o l s z n =
+      let x = tick t o l in
+      ap (λ (y : Seen). y .report .outcome) (sees x s)
+      ∙ ap (λ (a : Answer). numbers a .outcome)
+      (claim.nothing-due-is-said v xs t o l (passes x s z) (λ k e h. n (e .id) (e .what) (e .by) (e .deadline) (rw (lived .told) (lives-as v xs k e h))))
 
   -- Request #101: no tag touches coils and discrete inputs. A request 01, 02, 05 or 15 that is issued goes out as it came, but for its id, and the report counts no tag;
   pub bits-go-out-as-they-came : (c t : ℕ) (f o : List ℕ) {saw : Seen} {d″ : Device} → Called d′ (request c t f o) saw d″ → saw .report .outcome ≡ isIssued → OfBits (getD f 7 0)
@@ -358,7 +406,7 @@ module _ (from : Settings) {r : Report} {d d′ : Device} (ls : List Line) (fres
       ↔ (Joinable (machineIn d′ .book) (toldIn (inForce from) ls) t f id × ((i : ℕ) → Joinable (machineIn d′ .book) (toldIn (inForce from) ls) t f i → id ≤ i))
   a-read-joins-exactly c t f o s z l reads on id =
       let x = request c t f o in
-      let same : legal (settings (afterCalls v xs)) f ≡ true = ap (λ (y : Value). legal y f) (always-sound (product v) xs) ∙ l in
+      let same : legal (settings (afterCalls v xs)) f ≡ true = ap (λ (y : Value). legal y f) (claim.the-settings-in-force-stay v xs) ∙ l in
       rw (sees x s, lived .after, lived .told) (Iff·trans (join-exactly _ id) (claim.a-read-joins-exactly v xs c t f o (passes x s z) same reads on (record { 0 = id })))
 
   -- Tender 3: live proxy ids differ, place by place of the device.
@@ -376,24 +424,24 @@ module _ (from : Settings) {r : Report} {d d′ : Device} (ls : List Line) (fres
   the-others-differ = rw (lived .told) (claim.the-others-differ v xs)
 
   -- Document 01: link lost returns the former set, client by client those that were attached, and nobody is attached after it.
-  pub link-lost-says-who-was-attached : {saw : Seen} {d″ : Device} → Called d′ linkLost saw d″ → (saw .report ≡ report 0 isDone 0 0 0 0 (saw .report .set) 0 0)
+  pub link-lost-says-who-was-attached : {saw : Seen} {d″ : Device} → Called d′ linkLost saw d″ → (saw .report ≡ ten 0 0 1 0 0 0 0 (saw .report .set) 0 0)
       × ((c : ℕ) → (has (saw .report .set) c ≡ true) ↔ (lastOf (concerns c) (grantedIn ls) ≡ some (attach c))) × ((c : ℕ) → has (d″ .attached) c ≡ false)
   unfolding numbers machineIn
   link-lost-says-who-was-attached {saw} s =
       let w = claim.link-lost-says-who-was-attached v xs in
-      let told : saw .report ≡ report 0 isDone 0 0 0 0 (w .0) 0 0 = ap (λ (y : Seen). y .report) (sees linkLost s) ∙ ap numbers (w .1) in
+      let told : saw .report ≡ ten 0 0 1 0 0 0 0 (w .0) 0 0 = ap (λ (y : Seen). y .report) (sees linkLost s) ∙ ap numbers (w .1) in
       let set = ap (λ (y : Report). y .set) told in (
-        told ∙ ap (λ (n : ℕ). report 0 isDone 0 0 0 0 n 0 0) (sym set),
+        told ∙ ap (λ (n : ℕ). ten 0 0 1 0 0 0 0 n 0 0) (sym set),
         λ c. rw (set, lived .granted) (w .2 c),
         λ c. ap (λ (m : Machine). has (m .attached) c) (rw (lived .after) at (left linkLost s)) ∙ w .3 c,
       )
 
   -- Attach and detach that are not refused report done and nothing else.
-  pub attach-says-done : (c : ℕ) {saw : Seen} {d″ : Device} → Called d′ (attach c) saw d″ → saw .report .refusal ≡ 0 → saw .report ≡ report 0 isDone 0 0 0 0 0 0 0
+  pub attach-says-done : (c : ℕ) {saw : Seen} {d″ : Device} → Called d′ (attach c) saw d″ → saw .report .refusal ≡ 0 → saw .report ≡ ten 0 0 1 0 0 0 0 0 0 0
   unfolding numbers
   attach-says-done c s z = let x = attach c in let h = passes x s z in rw (sees x s, claim.attach-says-done v xs c h)
 
-  pub detach-says-done : (c : ℕ) {saw : Seen} {d″ : Device} → Called d′ (detach c) saw d″ → saw .report .refusal ≡ 0 → saw .report ≡ report 0 isDone 0 0 0 0 0 0 0
+  pub detach-says-done : (c : ℕ) {saw : Seen} {d″ : Device} → Called d′ (detach c) saw d″ → saw .report .refusal ≡ 0 → saw .report ≡ ten 0 0 1 0 0 0 0 0 0 0
   unfolding numbers
   detach-says-done c s z = let x = detach c in let h = passes x s z in rw (sees x s, claim.detach-says-done v xs c h)
 

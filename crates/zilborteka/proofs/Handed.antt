@@ -1,9 +1,9 @@
 -- What a reply and a timeout hand to whom, as a host sees it: over the ledger and the history that are kept from the calls and what was seen of them.
 -- Assumes nothing.
 use Prim.Native.Nat.{ℕ, _+_, _*_, _%_, _≤_, _<_}
-use mathlib.Core.Path.{_≡_, refl, ap, _∙_}
+use mathlib.Core.Path.{_≡_, refl, ap, subst, _∙_}
 use mathlib.Core.Logic.{_⊎_}
-use mathlib.Core.Bool.{true}
+use mathlib.Core.Bool.{true, false}
 use mathlib.Core.Option.{some}
 use mathlib.Core.List.{List, _∷_, List·Memᴰ}
 use native.Mathlib.Omega.{arith}
@@ -13,76 +13,90 @@ use Rattle.laws.specs.Lists.{filter}
 use Rattle.laws.specs.Bytes.{over}
 use Rattle.wire.specs.Frame.{laid, exception}
 use Rattle.settings.specs.Grammar.{Value}
-use Rattle.pdu.specs.Replies.{What, answering}
+use Rattle.pdu.specs.Replies.{What, answering, excepts}
+use Rattle.pdu.specs.declared.Table.the-variants.{Registers}
+use Rattle.pdu.specs.declared.Asked.the-variants.{Read}
+use Rattle.rewrite.specs.declared.Way.the-variants.{ToBinary}
 use Rattle.rewrite.specs.Frames.{returned}
+use Rattle.rewrite.specs.Plain.{Rewrites}
 use Rattle.book.specs.Book.{Event, Live, at}
 use Rattle.book.specs.Ledger.{Ticket, empty, posts, under, partiesOf}
 use Rattle.book.specs.Traced.{Outstanding}
-use Rattle.book.proofs.History.{always-sound}
-use Rattle.machine.specs.Machine.{Note, settings}
+use Rattle.machine.specs.Machine.{Note}
 use Rattle.machine.specs.Calls.{Call}
 use Rattle.machine.specs.Calls.Call.{reply, tick}
 use Rattle.machine.specs.Refusals.{refusal}
 use Rattle.machine.specs.Replies.{pairs}
 use Rattle.machine.specs.Outcomes.{outcome}
-use Rattle.machine.specs.Numbers.{numbers, isAnswered, isTimedOut}
+use Rattle.machine.specs.Numbers.{ten, numbers}
 use Rattle.machine.specs.Histories.{Seen, seenOf}
 use Rattle.machine.specs.declared.Answer.{Answer}
 use Rattle.machine.specs.declared.Answer.the-variants as answer
 use Rattle.machine.proofs.FrameOfParty.{EachItsFrame, reply-frame, always-known}
-use Rattle.machine.proofs.Histories.{product, afterCalls, toldBy, ledgerOf}
+use Rattle.machine.proofs.Histories.{afterCalls, toldBy, ledgerOf}
 use Rattle.machine.proofs.Claims as claim
 
 -- those that wait under an id in the ledger of a history, in the order in which they were accepted
 abbrev pub waitingUnder : List (Event What) → ℕ → List (Ticket What)
 waitingUnder vs id = filter (under id) (posts empty vs .waiting)
 
--- what is handed to those that wait under the id which the report names, each of whom asked w: the report says how many they are, the list holds pair by pair their clients and
--- original ids and behind them what was there (l), and each gets its frame
+-- what is handed to those that wait under the id which the report names, each of whom asked w: the list holds pair by pair their clients and original ids and behind them what was
+-- there (l), and each gets its frame
 pub record HandsOut (vs : List (Event What)) (w : What) (l : List ℕ) (saw : Seen) : Type 0 where
-  pub parties : saw .report .parties ≡ length (waitingUnder vs (saw .report .id))
   pub list : saw .list ≡ over (pairs (partiesOf (waitingUnder vs (saw .report .id)))) l
   pub alike : (k : Ticket What) → List·Memᴰ k (waitingUnder vs (saw .report .id)) → k .what ≡ w
   pub frames : EachItsFrame (posts empty vs) saw
 
--- what a reply f comes to after a history: its id, under which w is outstanding, which it answers; the definition's rewriting of it, under id 0; and whom it is handed to
+-- what a reply f comes to after a history: what is outstanding under its id, which it answers; all ten numbers of the report; the definition's rewriting of it, under id 0, which for a
+-- reply to a read of registers that is no exception is told tag by tag; and whom it is handed to
 pub record Replied (v : Value) (vs : List (Event What)) (f o l : List ℕ) (saw : Seen) : Type 0 where
-  pub outcome : saw .report .outcome ≡ isAnswered
-  pub id : saw .report .id ≡ getD f 0 0 * 256 + getD f 1 0
-  pub size : saw .report .length ≡ length f
   pub asked : What
   pub client : ℕ
   pub deadline : ℕ
   pub outstanding : Outstanding vs (saw .report .id) asked client deadline
   pub matches : answering asked f ≡ true
+  pub report : saw .report
+      ≡ ten 0 0 5 (length f) (length (waitingUnder vs (saw .report .id))) (returned (v .tags) asked f .partial) (returned (v .tags) asked f .value) 0 (getD f 0 0 * 256 + getD f 1 0) 0
   pub frame : saw .frame ≡ over (laid 0 (returned (v .tags) asked f .bytes)) o
-  pub partial : saw .report .partial ≡ returned (v .tags) asked f .partial
-  pub value : saw .report .value ≡ returned (v .tags) asked f .value
+  pub rewritten : (s q : ℕ) → asked .asked ≡ Read Registers s q → excepts (asked .function) f ≡ false
+      → Rewrites ToBinary (v .tags) f (saw .frame) (saw .report .partial) (saw .report .value) 9 s q
   pub handed : HandsOut vs asked l saw
 
--- what a timeout at t comes to: of the outstanding ids whose deadline has come the one that was due first, the smaller id of two; exception 0B; and whom it is handed to
+-- what a timeout at t comes to: of the outstanding ids whose deadline has come the one that was due first, the smaller id of two; all ten numbers of the report; exception 0B; and whom
+-- it is handed to
 pub record TimesOut (vs : List (Event What)) (t : ℕ) (o l : List ℕ) (saw : Seen) : Type 0 where
-  pub outcome : saw .report .outcome ≡ isTimedOut
-  pub size : saw .report .length ≡ 9
   pub asked : What
   pub client : ℕ
   pub deadline : ℕ
   pub outstanding : Outstanding vs (saw .report .id) asked client deadline
   pub due : deadline ≤ t
   pub earliest : (i : ℕ) (w : What) (c u : ℕ) → Outstanding vs i w c u → u ≤ t → (deadline < u) ⊎ ((deadline ≡ u) × (saw .report .id ≤ i))
+  pub report : saw .report ≡ ten 0 0 6 9 (length (waitingUnder vs (saw .report .id))) 0 0 0 (saw .report .id) 0
   pub frame : saw .frame ≡ (0 ∷ 0 ∷ 0 ∷ 0 ∷ 0 ∷ 3 ∷ asked .unit ∷ (asked .function + 128) ∷ 11 ∷ drop 9 o)
   pub handed : HandsOut vs asked l saw
 
+-- the ten numbers of a reply and of a timeout, with equal numbers in place of the answer's
+answered-ten : (i j n k m p q v w : ℕ) → k ≡ m → p ≡ q → v ≡ w → i ≡ j → numbers (answer.Answered (record { 0 = i }) n k p v) ≡ ten 0 0 5 n m q w 0 j 0
+unfolding numbers
+answered-ten i j n k m p q v w a b c d = cc
+
+timed-ten : (i k m : ℕ) → k ≡ m → numbers (answer.TimedOut (record { 0 = i }) k) ≡ ten 0 0 6 9 m 0 0 0 i 0
+unfolding numbers
+timed-ten i k m a = cc
+
 module _ (v : Value) (xs : List Call) where
   -- what is live is outstanding
-  lives-as : (k : ℕ) (e : Live What Note) → at (afterCalls v xs .book) k ≡ some e → Outstanding (toldBy v xs) (e .id) (e .what) (e .by) (e .deadline)
+  pub lives-as : (k : ℕ) (e : Live What Note) → at (afterCalls v xs .book) k ≡ some e → Outstanding (toldBy v xs) (e .id) (e .what) (e .by) (e .deadline)
   lives-as k e h = claim.which-ids-are-live v xs (e .id) (e .what) (e .by) (e .deadline) .0 (k, e, h, refl, refl, refl, refl)
 
-  hands-out : (saw : Seen) (l : List ℕ) (e : Live What Note) → saw .report .id ≡ e .id → saw .report .parties ≡ length (e .parties) → saw .list ≡ over (pairs (e .parties)) l
+  -- as many wait under an entry's id as it has parties
+  as-many : (e : Live What Note) → e .parties ≡ partiesOf (waitingUnder (toldBy v xs) (e .id)) → length (e .parties) ≡ length (waitingUnder (toldBy v xs) (e .id))
+  as-many e q = ap length q ∙ length-map (waitingUnder (toldBy v xs) (e .id)) _
+
+  hands-out : (saw : Seen) (l : List ℕ) (e : Live What Note) → saw .report .id ≡ e .id → saw .list ≡ over (pairs (e .parties)) l
       → e .parties ≡ partiesOf (waitingUnder (toldBy v xs) (e .id)) → ((k : Ticket What) → List·Memᴰ k (waitingUnder (toldBy v xs) (e .id)) → k .what ≡ e .what)
       → EachItsFrame (ledgerOf v xs) saw → HandsOut (toldBy v xs) (e .what) l saw
-  hands-out saw l e i n p q w z =
-      record { parties = rw i (n ∙ ap length q ∙ length-map (waitingUnder (toldBy v xs) (e .id)) _); list = rw (i, ← q) p; alike = rw i w; frames = z }
+  hands-out saw l e i p q w z = record { list = rw (i, ← q) p; alike = rw i w; frames = z }
 
   -- A reply that is not refused, and a tick that is not refused and does not say that nothing is due, come to that.
   pub replied : (t : ℕ) (f o l : List ℕ) → refusal (afterCalls v xs) (reply t f o l) ≡ 0 → Replied v (toldBy v xs) f o l (seenOf (outcome (afterCalls v xs) (reply t f o l)))
@@ -90,21 +104,24 @@ module _ (v : Value) (xs : List Call) where
   replied t f o l h =
       let g = claim.a-reply-goes-to-its-own v xs t f o l h in
       let a = g .0 in
-      let same : settings (afterCalls v xs) ≡ v = always-sound (product v) xs in
+      let same = claim.the-settings-in-force-stay v xs in
       let id = ap (λ (y : Answer). numbers y .id) (a .says) in
+      let w = a .entry .what in
+      let partial = ap (λ (y : Value). returned (y .tags) w f .partial) same in
+      let value = ap (λ (y : Value). returned (y .tags) w f .value) same in
       record {
-        outcome = ap (λ (y : Answer). numbers y .outcome) (a .says);
-        id = id ∙ a .same;
-        size = ap (λ (y : Answer). numbers y .length) (a .says);
-        asked = a .entry .what;
+        asked = w;
         client = a .entry .by;
         deadline = a .entry .deadline;
         outstanding = rw id (lives-as (a .place) (a .entry) (a .there));
         matches = a .matches;
-        frame = a .frame ∙ ap (λ (y : Value). over (laid 0 (returned (y .tags) (a .entry .what) f .bytes)) o) same;
-        partial = ap (λ (y : Answer). numbers y .partial) (a .says) ∙ ap (λ (y : Value). returned (y .tags) (a .entry .what) f .partial) same;
-        value = ap (λ (y : Answer). numbers y .value) (a .says) ∙ ap (λ (y : Value). returned (y .tags) (a .entry .what) f .value) same;
-        handed = hands-out _ l (a .entry) id (ap (λ (y : Answer). numbers y .parties) (a .says)) (a .list) (g .1) (g .2) (claim.a-partys-frame v xs t f o l h);
+        report = rw (a .says) (answered-ten _ _ _ _ _ _ _ _ _ (as-many (a .entry) (g .1)) partial value (a .same));
+        frame = a .frame ∙ ap (λ (y : Value). over (laid 0 (returned (y .tags) w f .bytes)) o) same;
+        rewritten = λ s q e x.
+            rw (ap (λ (y : Answer). numbers y .partial) (a .says), ap (λ (y : Answer). numbers y .value) (a .says), partial, value)
+            (subst (λ (y : Value). Rewrites ToBinary (y .tags) f (outcome (afterCalls v xs) (reply t f o l) .written) (returned (y .tags) w f .partial) (returned (y .tags) w f .value) 9 s q) same
+            (a .rewritten s q e x));
+        handed = hands-out _ l (a .entry) id (a .list) (g .1) (g .2) (claim.a-partys-frame v xs t f o l h);
       }
 
   pub timed-out : (t : ℕ) (o l : List ℕ) → refusal (afterCalls v xs) (tick t o l) ≡ 0 → (outcome (afterCalls v xs) (tick t o l) .says ≡ answer.NothingDue → ⊥)
@@ -117,8 +134,6 @@ module _ (v : Value) (xs : List Call) where
       let byte : (a .entry .what .function + 128) % 256 ≡ a .entry .what .function + 128 = mod-eq-of-lt (omega arith) in
       let id = ap (λ (y : Answer). numbers y .id) (a .says) in
       record {
-        outcome = ap (λ (y : Answer). numbers y .outcome) (a .says);
-        size = ap (λ (y : Answer). numbers y .length) (a .says);
         asked = a .entry .what;
         client = a .entry .by;
         deadline = a .entry .deadline;
@@ -127,8 +142,9 @@ module _ (v : Value) (xs : List Call) where
         earliest = λ i w c u z q.
             let y = claim.which-ids-are-live v xs i w c u .1 z in
             rw id (rw (y .3, y .6) at (a .earliest (y .0) (y .1) (y .2) (rw (y .6) q)));
+        report = rw (a .says) (timed-ten _ _ _ (as-many (a .entry) (g .1)));
         frame = rw byte at (a .frame);
-        handed = hands-out _ l (a .entry) id (ap (λ (y : Answer). numbers y .parties) (a .says)) (a .list) (g .1) (g .2) (claim.a-partys-timeout v xs t o l h n);
+        handed = hands-out _ l (a .entry) id (a .list) (g .1) (g .2) (claim.a-partys-timeout v xs t o l h n);
       }
 
   -- and what is outstanding under its id is what the entry that it answers holds
