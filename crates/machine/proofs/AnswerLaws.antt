@@ -131,10 +131,6 @@ expired-says : (m : Machine) (k : ℕ) (o l : List ℕ) (e : Live What Note) →
 unfolding expiredTo
 expired-says m k o l e = (λ z. let n : _≡_ {A = ℕ} 0 1 = cc in omega arith, refl, refl, refl, refl)
 
-idle-says : (m : Machine) (k : ℕ) (o l : List ℕ) → expiredTo m k o l none ≡ done answer.NothingDue m o l
-unfolding expiredTo
-idle-says m k o l = refl
-
 -- the tick's search, once the clock is set
 pub ticked-is : (m : Machine) (t : ℕ) (o l : List ℕ) → refusal m (tick t o l) ≡ 0
     → outcome m (tick t o l) ≡ expiredTo (clocked m t) (duePlace rules (clocked m t .book)) o l (at (clocked m t .book) (duePlace rules (clocked m t .book)))
@@ -157,6 +153,7 @@ nothing-there b g n =
 
 -- A tick that is not refused and does not say that nothing is due hands exception 0B to the parties of an entry whose deadline has come.
 pub tick-expires : (m : Machine) (t : ℕ) (o l : List ℕ) → Good rules (m .book) → refusal m (tick t o l) ≡ 0 → (outcome m (tick t o l) .says ≡ answer.NothingDue → ⊥) → Expires m t o l (outcome m (tick t o l))
+unfolding expiredTo
 tick-expires m t o l g h n =
     let b = clocked m t .book in
     let gb = good-move rules (m .book) (pass t) g tt in
@@ -176,7 +173,7 @@ tick-expires m t o l g h n =
       frame = ap (λ (y : Outcome). y .written) q ∙ expired-says (clocked m t) k o l (e .0) .1;
       list = ap (λ (y : Outcome). y .listed) q ∙ expired-says (clocked m t) k o l (e .0) .2;
     })
-    (λ (e : at b k ≡ none). absurd (n (ap (λ (y : Outcome). y .says) (ticked-is m t o l h ∙ ap (expiredTo (clocked m t) k o l) e ∙ idle-says (clocked m t) k o l))))
+    (λ (e : at b k ≡ none). absurd (n (ap (λ (y : Outcome). y .says) (ticked-is m t o l h ∙ ap (expiredTo (clocked m t) k o l) e))))
     (spot b k)
 
 -- WHERE NOTHING IS DUE
@@ -201,9 +198,10 @@ nothing-found b g n =
 -- A tick that is not refused and finds nothing due once the clock is set: that is said, the clock is at its time, and buffer and list are as they came.
 pub idle-found : (m : Machine) (t : ℕ) (o l : List ℕ) → refusal m (tick t o l) ≡ 0 → Good rules (clocked m t .book) → NothingDue (clocked m t .book)
     → outcome m (tick t o l) ≡ done answer.NothingDue (showing m t) o l
+unfolding expiredTo
 idle-found m t o l h g n =
     let k = duePlace rules (clocked m t .book) in
-    ticked-is m t o l h ∙ ap (expiredTo (clocked m t) k o l) (nothing-found (clocked m t .book) g n) ∙ idle-says (clocked m t) k o l
+    ticked-is m t o l h ∙ ap (expiredTo (clocked m t) k o l) (nothing-found (clocked m t .book) g n)
     ∙ ap (λ (c : ℕ). done answer.NothingDue (showing m c) o l) (clocked-at m (tick t o l) t h refl)
 
 -- So it is of a tick that is not refused and at whose time no live entry is due.
