@@ -133,14 +133,16 @@ module _ (xs : List Offer) where
 pub made-keeps : (i : Inlet) → Made i → (i .count ≤ 259) × (length (i .bytes) ≡ 260)
 made-keeps i h = let l = h .most in (omega arith, h .long)
 
--- from a lent stream that goes on from f, the host hears what the calls come to
+-- a line of the life of a lent stream that goes on from f came as the definition says
+pub line-took : (f : Fed) {i : Inlet} (x : Line) → f .after ≡ streamOf i → Takes i (x .offer .piece) (x .offer .buffer) (x .says) (x .after) (x .written)
+    → came x ≡ took (f .after) (x .offer .piece) (x .offer .buffer)
+line-took f x e t = t .comes ∙ ap (λ s. took s (x .offer .piece) (x .offer .buffer)) (sym e)
+
+-- so the host hears what the calls come to
 lives : {i : Inlet} {ls : List Line} (f : Fed) → f .after ≡ streamOf i → Lived i ls → heard f ls ≡ calls f (offersOf ls)
 unfolding heard calls
 lives f e none = refl
-lives {ls = x ∷ ls} f e (then t l) =
-    let p = x .offer .piece in
-    let c : came x ≡ took (f .after) p (x .offer .buffer) = t .comes ∙ ap (λ s. took s p (x .offer .buffer)) (sym e) in
-    lives (with f p (came x)) refl l ∙ ap (λ d. calls (with f p d) (offersOf ls)) c
+lives {ls = x ∷ ls} f e (then t l) = lives (with f (x .offer .piece) (came x)) refl l ∙ ap (λ d. calls (with f (x .offer .piece) d) (offersOf ls)) (line-took f x e t)
 
 -- Whatever calls a host makes of a stream that it lends, after the reset: the frames, the bytes taken, the refusals and the stream are those of the definition. So what is said of any
 -- calls is said of the exported functions.

@@ -11,12 +11,12 @@ use lib.Seq.{take-append-le, take-length}
 use Rattle.laws.specs.Numbers.{uncounted, frameBuffer}
 use Rattle.laws.proofs.Choice.{true-or}
 use Rattle.wire.proofs.FrameLaws.{framed as is-framed}
-use Rattle.wire.specs.Splitting.{standingOf, firstFrame, frames}
+use Rattle.wire.specs.Splitting.{standingOf, frames}
 use Rattle.wire.specs.declared.splitting.Split.{Split}
 use Rattle.wire.specs.declared.splitting.Split.the-variants.{Frame, MoreNeeded, Refused}
 use Rattle.wire.proofs.SplittingLaws.{starts, first-size, first-none, refusal-stays, Whole, frames-back-rest}
-use Rattle.stream.specs.Stream.{Stream, stream, refused, outcome, found, took}
-use Rattle.stream.specs.Hosts.{Fed, start, with, Offer, calls, Lends, drained, pieces, isBad, remains, isRefused, keptOf, uncut}
+use Rattle.stream.specs.Stream.{stream, Outcome, found, took}
+use Rattle.stream.specs.Hosts.{Fed, start, again, with, Offer, calls, Lends, drained, pieces, isBad, remains, isRefused, keptOf, uncut}
 use Rattle.stream.specs.Lent.{stood}
 use Rattle.stream.proofs.StreamLaws.{Reads, more-frame, unmarked, frame-ends-behind, marked-refused, waiting-finds, flatten-more, reads-nothing, reads-on, found-reads, took-reads}
 
@@ -35,11 +35,11 @@ bad-stood true = refl
 bad-stood false = refl
 
 -- what was taken, and the rest of the bytes that were offered: a run, whose rest is nothing but behind a bad header
-record Cut (r : List ℕ) (f : Fed) : Type 0 where
-  reads : Reads f
-  rest : List ℕ
-  parts : f .bytes ++ rest ≡ r
-  all : f .after .marked ≡ false → rest ≡ []
+pub record Cut (r : List ℕ) (f : Fed) : Type 0 where
+  pub reads : Reads f
+  pub rest : List ℕ
+  pub parts : f .bytes ++ rest ≡ r
+  pub all : f .after .marked ≡ false → rest ≡ []
 
 -- what the uncut run yields of it
 record Agrees (f u : Fed) : Type 0 where
@@ -92,77 +92,107 @@ any-calls xs =
     (a .frames, a .after)
 
 -- the bytes r were offered, cut in some way
-record Offered (r : List ℕ) (f : Fed) : Type 0 where
-  cut : Cut r f
-  says : f .refusal ≡ cond (f .after .marked) 4 0
+pub record Offered (r : List ℕ) (f : Fed) : Type 0 where
+  pub cut : Cut r f
+  pub says : f .refusal ≡ cond (f .after .marked) 4 0
 
-module _ (o : Lends) (long : (f : Fed) → frameBuffer ≤ length (o f)) where
-  -- a piece behind bytes that were offered and taken, where more are needed
-  abbrev Piece : ℕ → Type 0
-  Piece n = (f : Fed) (p : List ℕ) → length p < n → Reads f → f .after .marked ≡ false → Offered (f .bytes ++ p) (drained n o f p)
+pub offered-nothing : Offered [] start
+offered-nothing = record { cut = record { reads = reads-nothing; rest = []; parts = refl; all = λ _. refl }; says = refl }
 
-  found-offers : (n : ℕ) → Piece n → (f : Fed) (p : List ℕ) → length p < suc n → Reads f → f .after .marked ≡ false → (v : Split) → standingOf (f .after .kept ++ p) ≡ v
-      → took (f .after) p (o f) ≡ found (f .after .kept) p (o f) v → Offered (f .bytes ++ p) (drained (suc n) o f p)
-  unfolding drained found
-  found-offers n on f p l h m Frame e t =
-      let k = f .after .kept in
-      let g = firstFrame (k ++ p) in
-      let x = length g - length k in
-      let b = frame-ends-behind k p (rw m at (h .stands)) e in
-      let whole = starts (k ++ p) e .whole in
-      let i = on (with f p (found k p (o f) Frame)) (drop x p) (omega (arith, first-size (k ++ p) e, length-drop x p, length-append k p)) (found-reads f p (o f) m h Frame e) refl in
-      let r : (f .bytes ++ take x p) ++ drop x p ≡ f .bytes ++ p = append-assoc (f .bytes) (take x p) (drop x p) ∙ ap (λ y. f .bytes ++ y) (take-append-drop x p) in
-      rw t (rw r at i)
-  found-offers n on f p l h m MoreNeeded e t = rw t (record {
-    cut = record { reads = found-reads f p (o f) m h MoreNeeded e; rest = []; parts = append-nil _ ∙ ap (λ y. f .bytes ++ y) (take-length p); all = λ _. refl };
-    says = refl;
-  })
-  found-offers n on f p l h m Refused e t =
-      let x = uncounted - length (f .after .kept) in
-      rw t (record {
-        cut = record { reads = found-reads f p (o f) m h Refused e; rest = drop x p; parts = append-assoc (f .bytes) (take x p) (drop x p) ∙ ap (λ y. f .bytes ++ y) (take-append-drop x p); all = λ z. absurd (unmarked (sym z)) };
+-- what has come of them is what the uncut run comes to
+pub offered-uncut : (r : List ℕ) (f : Fed) → Offered r f → f ≡ uncut r
+unfolding uncut
+offered-uncut r f h =
+    let a = cut-agrees r f (h .cut) in
+    let s : f .refusal ≡ cond (isRefused r) 4 0 = h .says ∙ ap (λ b. cond b 4 0) (sym (a .0)) in
+    λ i. record { frames = a .1 .frames i; bytes = a .1 .bytes i; refusal = s i; after = a .1 .after i }
+
+-- what was offered of a piece, and what is left of it
+pub offered-rest : (r : List ℕ) (n : ℕ) (p : List ℕ) → (r ++ take n p) ++ drop n p ≡ r ++ p
+offered-rest r n p = append-assoc r (take n p) (drop n p) ∙ ap (λ x. r ++ x) (take-append-drop n p)
+
+-- one call more, with a piece p: where a frame comes, some of the piece was offered, and what is behind that is left; else all of it was
+pub record Offers (r : List ℕ) (f : Fed) (p : List ℕ) (d : Outcome) : Type 0 where
+  pub some : again (d .says) ≡ true → Offered (r ++ take (d .says .taken) p) (with f p d) × (0 < d .says .taken) × (d .says .taken ≤ length p)
+  pub all : again (d .says) ≡ false → Offered (r ++ p) (with f p d)
+
+-- on a stream that still waits
+found-offers : (f : Fed) (p o : List ℕ) → Reads f → f .after .marked ≡ false → (v : Split) → standingOf (f .after .kept ++ p) ≡ v → Offers (f .bytes) f p (found (f .after .kept) p o v)
+unfolding found
+found-offers f p o h m Frame e =
+    let k = f .after .kept in
+    let b = frame-ends-behind k p (rw m at (h .stands)) e in
+    let whole = starts (k ++ p) e .whole in
+    record {
+      some = λ _. (
+        record { cut = record { reads = found-reads f p o m h Frame e; rest = []; parts = append-nil _; all = λ _. refl }; says = refl },
+        omega arith,
+        omega (arith, first-size (k ++ p) e, length-append k p),
+      );
+      all = λ z. absurd (unmarked (sym z));
+    }
+found-offers f p o h m MoreNeeded e = record {
+  some = λ z. absurd (unmarked z);
+  all = λ _. record { cut = record { reads = found-reads f p o m h MoreNeeded e; rest = []; parts = append-nil _ ∙ ap (λ y. f .bytes ++ y) (take-length p); all = λ _. refl }; says = refl };
+}
+found-offers f p o h m Refused e =
+    let x = uncounted - length (f .after .kept) in
+    record {
+      some = λ z. absurd (unmarked z);
+      all = λ _. record {
+        cut = record { reads = found-reads f p o m h Refused e; rest = drop x p; parts = offered-rest (f .bytes) x p; all = λ z. absurd (unmarked (sym z)) };
         says = refl;
-      })
+      };
+    }
 
-  piece-offers : (n : ℕ) → Piece n
-  piece-offers zero f p l h m = absurd (omega arith)
-  piece-offers (suc n) f p l h m = found-offers n (piece-offers n) f p l h m (standingOf (f .after .kept ++ p)) refl (waiting-finds (f .after) p (o f) (long f) m)
-
-  -- a piece behind bytes that were offered
-  drained-offers : (r : List ℕ) (f : Fed) (p : List ℕ) → Cut r f → Offered (r ++ p) (drained (suc (length p)) o f p)
-  unfolding drained
-  drained-offers r f p c =
-      ⊎-elim
-      (λ (m : f .after .marked ≡ true).
-      rw (marked-refused (f .after) p (o f) (long f) m) (record {
+-- on any stream, over a buffer that is long enough
+pub took-offers : (r : List ℕ) (f : Fed) (p o : List ℕ) → frameBuffer ≤ length o → Cut r f → Offers r f p (took (f .after) p o)
+took-offers r f p o l c =
+    ⊎-elim
+    (λ (m : f .after .marked ≡ true). rw (marked-refused (f .after) p o l m) (record {
+      some = λ z. absurd (unmarked z);
+      all = λ _. record {
         cut = record {
-          reads = reads-on f p 4 (o f) (c .reads);
+          reads = reads-on f p 4 o (c .reads);
           rest = c .rest ++ p;
           parts = rw (append-nil (f .bytes)) (sym (append-assoc (f .bytes) (c .rest) p) ∙ ap (λ x. x ++ p) (c .parts));
           all = λ z. absurd (unmarked (sym z ∙ m));
         };
         says = rw m refl;
-      }))
-      (λ (m : f .after .marked ≡ false).
-      let e : f .bytes ≡ r = sym (append-nil (f .bytes)) ∙ ap (λ x. f .bytes ++ x) (sym (c .all m)) ∙ c .parts in
-      subst (λ (x : List ℕ). Offered (x ++ p) (drained (suc (length p)) o f p)) e (piece-offers (suc (length p)) f p (omega arith) (c .reads) m))
-      (true-or (f .after .marked))
+      };
+    }))
+    (λ (m : f .after .marked ≡ false).
+    let e : f .bytes ≡ r = sym (append-nil (f .bytes)) ∙ ap (λ x. f .bytes ++ x) (sym (c .all m)) ∙ c .parts in
+    rw (waiting-finds (f .after) p o l m) (subst (λ (x : List ℕ). Offers x f p (found (f .after .kept) p o (standingOf (f .after .kept ++ p)))) e (found-offers f p o (c .reads) m (standingOf (f .after .kept ++ p)) refl)))
+    (true-or (f .after .marked))
+
+module _ (o : Lends) (long : (f : Fed) → frameBuffer ≤ length (o f)) where
+  -- a piece behind bytes that were offered
+  drained-offers : (n : ℕ) (r : List ℕ) (f : Fed) (p : List ℕ) → length p < n → Cut r f → Offered (r ++ p) (drained n o f p)
+  unfolding drained
+  drained-offers zero r f p l c = absurd (omega arith)
+  drained-offers (suc n) r f p l c =
+      let d = took (f .after) p (o f) in
+      let s = took-offers r f p (o f) (long f) c in
+      by (again (d .says))
+      (λ e.
+      let t = s .some e in
+      rw (offered-rest r (d .says .taken) p) at (drained-offers n _ (with f p d) (drop (d .says .taken) p) (omega (arith, t .1, length-drop (d .says .taken) p)) (t .0 .cut)))
+      (s .all)
+    where
+      by : (b : Bool) {x y : Fed} → (b ≡ true → Offered (r ++ p) x) → (b ≡ false → Offered (r ++ p) y) → Offered (r ++ p) (cond b x y)
+      by true h k = h refl
+      by false h k = k refl
 
   pieces-offer : (r : List ℕ) (f : Fed) (ps : List (List ℕ)) → Offered r f → Offered (r ++ flatten ps) (pieces o f ps)
   unfolding pieces flatten
   pieces-offer r f [] h = rw (append-nil r) h
-  pieces-offer r f (p ∷ ps) h = rw (append-assoc r p (flatten ps)) at (pieces-offer (r ++ p) (drained (suc (length p)) o f p) ps (drained-offers r f p (h .cut)))
+  pieces-offer r f (p ∷ ps) h = rw (append-assoc r p (flatten ps)) at (pieces-offer (r ++ p) (drained (suc (length p)) o f p) ps (drained-offers (suc (length p)) r f p (omega arith) (h .cut)))
 
   -- The same bytes, cut in any way into pieces, empty ones among them, over any buffers that are long enough: after every piece the frames, the bytes taken, the refusal that
   -- the last call said, and the stream are what splitting makes of the uncut bytes up to there.
   pub any-cutting : (ps : List (List ℕ)) → pieces o start ps ≡ uncut (flatten ps)
-  unfolding uncut
-  any-cutting ps =
-      let f = pieces o start ps in
-      let h = pieces-offer [] start ps (record { cut = record { reads = reads-nothing; rest = []; parts = refl; all = λ _. refl }; says = refl }) in
-      let a = cut-agrees (flatten ps) f (h .cut) in
-      let s : f .refusal ≡ cond (isRefused (flatten ps)) 4 0 = h .says ∙ ap (λ b. cond b 4 0) (sym (a .0)) in
-      λ i. record { frames = a .1 .frames i; bytes = a .1 .bytes i; refusal = s i; after = a .1 .after i }
+  any-cutting ps = offered-uncut (flatten ps) (pieces o start ps) (pieces-offer [] start ps offered-nothing)
 
   -- So refusal 4 is said in the last call for the piece that brings a bad header's sixth byte, and not for the pieces before it; what is taken ends with that byte.
   pub refused-with-the-sixth-byte : (ps : List (List ℕ)) (p : List ℕ) → isRefused (flatten ps) ≡ false → isRefused (flatten ps ++ p) ≡ true

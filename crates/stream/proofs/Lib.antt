@@ -1,6 +1,7 @@
 pub mod StreamLaws
 pub mod CuttingLaws
 pub mod CallLaws
+pub mod OfferLaws
 pub mod FieldLaws
 pub mod Fields
 pub mod EntryReset
