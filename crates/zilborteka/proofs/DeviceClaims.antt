@@ -16,7 +16,7 @@ use Rattle.wire.specs.Frame.{idOf, laid}
 use Rattle.bcd.specs.Bcd.{inRange}
 use Rattle.bcd.specs.Words.{numberOf}
 use Rattle.settings.specs.declared.Settings.{Settings}
-use Rattle.settings.specs.Grammar.{Value, Tag, valid}
+use Rattle.settings.specs.Grammar.{Value, Tag}
 use Rattle.settings.specs.Values.{valueOf}
 use Rattle.settings.specs.TagWords.{kindOf, tagOf, Ascending}
 use Rattle.settings.proofs.TagLaws.{valid-ascends}
@@ -61,7 +61,7 @@ use Rattle.machine.proofs.StateLaws.{IssuedBy, seen-issue}
 use Rattle.machine.proofs.Claims as claim
 use Rattle.table.specs.Columns.{partiesAt, noteOf}
 use Rattle.proxy.specs.State.{valueIn}
-use Rattle.proxy.proofs.MakingLaws.{adopted-valid, adopts-valid, adopts-usual}
+use Rattle.proxy.proofs.MakingLaws.{adopted-valid}
 use Rattle.device.specs.declared.Device.{Device}
 use Rattle.device.specs.Device.{Freshly, Awaited}
 use Rattle.device.proofs.DeviceLaws.{same-device}
@@ -106,16 +106,6 @@ unfolding numbers
 one-of-three (inl i) = inl (ap (λ (a : Answer). numbers a .outcome) (i .says))
 one-of-three (inr (inl j)) = inr (inl (ap (λ (a : Answer). numbers a .outcome) (j .says)))
 one-of-three (inr (inr e)) = inr (inr (ap (λ (a : Answer). numbers a .outcome) (e .says)))
-
--- Fresh reports done for a valid value, which is in force then, and refusal 10 with line 0 for any other, beside timeout 3000, join 1 and no tags.
-pub fresh-is-this : (from : Settings) {r : Report} {d : Device} → Freshly from r d
-    → (valid (valueOf from) ≡ true → (r ≡ ten 0 0 1 0 0 0 0 0 0 0) × (inForce from ≡ valueOf from))
-    × (valid (valueOf from) ≡ false → (r ≡ ten 10 0 0 0 0 0 0 0 0 0) × (inForce from ≡ record { timeout = 3000; join = 1; tags = [] }))
-unfolding numbers
-fresh-is-this from fresh = (
-  λ t. let a = adopts-valid (valueOf from) t in (fresh .0 ∙ ap numbers (a .0), a .1),
-  λ t. let a = adopts-usual (valueOf from) t in (fresh .0 ∙ ap numbers (a .0), a .1),
-)
 
 -- The tags in force on a device ascend, whatever it was made from: so what `Rewrites` says of ascending tags holds of its replies and its issues.
 pub the-tags-in-force-ascend : (from : Settings) → Ascending 0 (inForce from .tags)
