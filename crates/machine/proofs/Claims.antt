@@ -7,7 +7,7 @@ use mathlib.Core.Path.{_≡_, refl, ap, sym, _∙_}
 use mathlib.Core.Logic.{_⊎_, _↔_}
 use mathlib.Core.Bool.{true, false}
 use mathlib.Core.Option.{some, Option·getD}
-use mathlib.Core.List.{List, [], _∷_, _++_, List·Memᴰ, List·Memᴰ·head, Memᴰ·append-right}
+use mathlib.Core.List.{List, [], _∷_, _++_, append-assoc, List·Memᴰ, List·Memᴰ·head, Memᴰ·append-right}
 use native.Mathlib.Omega.{arith}
 use lib.ListN.{length, getD, take}
 use borrow.Author.Tests.{eqb-true}
@@ -36,7 +36,7 @@ use Rattle.rewrite.specs.Rewriting.{ownIn, Rewritten}
 use Rattle.rewrite.specs.Plain.{Whole, OfBits}
 use Rattle.rewrite.proofs.FrameLaws.{returned-bits}
 use Rattle.book.specs.Book.{Party, Live, Event, Good, at}
-use Rattle.book.specs.Book.Event.{issued, left, lost}
+use Rattle.book.specs.Book.Event.{passed, issued, left, lost}
 use Rattle.book.specs.Ledger.{Ticket, Apart, Differing, Anew, under, partiesOf}
 use Rattle.book.specs.Traced.{touches, issuedId, behind, Outstanding, Holds}
 use Rattle.book.specs.Desk.{AllLive}
@@ -56,7 +56,7 @@ use Rattle.machine.specs.Granted.{grantedCalls, concerns}
 use Rattle.machine.specs.Waiting.{nextDeadline}
 use Rattle.machine.specs.Spelled.{asker, asking}
 use Rattle.machine.specs.Histories.{seenOf, events, told}
-use Rattle.machine.specs.Closed.{Unspoiled, Joinable}
+use Rattle.machine.specs.Closed.{Unspoiled, Joinable, Meets}
 use Rattle.machine.specs.declared.Answer.{Answer}
 use Rattle.machine.specs.declared.Answer.the-variants as answer
 use Rattle.machine.proofs.RefusalLaws.{table, Applies, refused-exactly}
@@ -74,8 +74,8 @@ use Rattle.machine.proofs.EchoBack.{echo-comes-back, own-frame, sent-id
 use Rattle.machine.proofs.TickLaws.{Lent, tickAt, ticksAt, ticking-ends}
 use Rattle.machine.proofs.WaitingLaws.{Waits, waits, next-tick}
 use Rattle.machine.proofs.FrameOfParty.{EachItsFrame, reply-frame, always-known, timeout-frame}
-use Rattle.machine.proofs.Histories.{product, afterCalls, toldBy, ledgerOf, accounted}
-use Rattle.machine.proofs.ClosedLaws.{open-exactly, not-stale, joins-exactly}
+use Rattle.machine.proofs.Histories.{product, afterCalls, toldBy, toldSince, ledgerOf, accounted}
+use Rattle.machine.proofs.ClosedLaws.{open-exactly, not-stale, not-stale-in-bytes, joins-exactly}
 use Rattle.machine.proofs.StateLaws.{Origin, attached-exactly, clock-exactly, issue-origin}
 
 -- Tender 3, the sum: accepted = answered by a reply + answered by timeout + dropped by a leaving + dropped by a lost link + held in the party places; each accepted
@@ -282,7 +282,7 @@ module _ (v : Value) (xs : List Call) where
       )
 
   -- Request #102: nothing joins a read any more once a request was issued that spoils it, by unit, table and range, or "other"; which those are is said in plain numbers by
-  -- `spoils-exactly` of SpoilingLaws of `pdu`. A live entry is open exactly if nothing that spoils it was issued since its own issue.
+  -- `spoils-exactly` of SpoilingLaws of `pdu`, and in bytes by `spoils-in-bytes` of MeetsLaws. A live entry is open exactly if nothing that spoils it was issued since its own issue.
   pub what-is-open : (k : ℕ) (e : Live What Note) → at (afterCalls v xs .book) k ≡ some e
       → (e .note .closed ≡ false) ↔ Unspoiled (toldBy v xs) (e .id) (e .what) (e .deadline)
   what-is-open = open-exactly v xs
@@ -338,6 +338,30 @@ ticking-comes-to-an-end v xs t late c bs p b =
     let s : outcome (afterCalls v (xs ++ ticksAt t bs)) (tickAt t b) .says ≡ answer.NothingDue =
     rw (after-on (product v) (made v) xs (ticksAt t bs)) (ticking-ends v t late bs b (afterCalls v xs) (good v xs) c p) in
     (s, nothing-waits-forever v (xs ++ ticksAt t bs) t (b .out) (b .list) s)
+
+-- an issue tells its time and itself
+issue-told : (v : Value) (m : Machine) (c t : ℕ) (f o : List ℕ) (ys : List Call) (i : ProxyId) (n p w : ℕ) → outcome m (request c t f o) .says ≡ answer.Issued i n p w
+    → history (product v) m (request c t f o ∷ ys) ≡ passed t ∷ issued (i .0) (asking f) (t + v .timeout) (asker c f) ∷ history (product v) (outcome m (request c t f o) .after) ys
+unfolding history events told numbers
+issue-told v m c t f o ys i n p w e =
+    let d = outcome m (request c t f o) in
+    ap (λ (a : Answer). events v (request c t f o) (record { report = numbers a; frame = d .written; list = d .listed }) ++ history (product v) (d .after) ys) e
+
+-- Request #102 in bytes: a read after a write is not stale. A request g was issued, after whatever calls; whatever calls came later, a request f then joins, and g meets it: byte 6 of both
+-- is equal, byte 7 of g is 05 or 15 and that of f 01 or 02, or 06 or 16 and 03 or 04, and some address is in both ranges, or g is "other" and f a read. Then of the lines that the later
+-- calls tell (`toldSince`), the last that begins or ends a life of the id that f joined is its issue, which asks what f asks: what f joined was issued after g, and is live since.
+pub a-read-after-a-write-is-not-stale-in-bytes : (v : Value) (before : List Call) (c t : ℕ) (g o : List ℕ) (j : ProxyId) (n p w : ℕ)
+    → outcome (afterCalls v before) (request c t g o) .says ≡ answer.Issued j n p w
+    → (later : List Call) (c′ t′ : ℕ) (f o′ : List ℕ) (i : ProxyId) → outcome (afterCalls v (before ++ request c t g o ∷ later)) (request c′ t′ f o′) .says ≡ answer.Joined i
+    → getD g 6 0 ≡ getD f 6 0 → Meets g f
+    → (d : ℕ) × (q : Party) × (lastOf (touches (i .0)) (toldSince v (before ++ request c t g o ∷ []) later) ≡ some (issued (i .0) (asking f) d q))
+a-read-after-a-write-is-not-stale-in-bytes v before c t g o j n p w e later c′ t′ f o′ i =
+    let m = afterCalls v before in
+    let x = request c t g o in
+    not-stale-in-bytes v (before ++ x ∷ later) (toldBy v before ++ passed t ∷ []) (toldSince v (before ++ x ∷ []) later) (j .0) _ g (t + v .timeout) (asker c g) (an-issue-is-this v before c t g o j n p w e .is-legal)
+    (rw (after-one (product v) (made v) before x)
+    (history-on (product v) (made v) before (x ∷ later) ∙ ap (λ vs. toldBy v before ++ vs) (issue-told v m c t g o later j n p w e) ∙ sym (append-assoc (toldBy v before) (passed t ∷ []) _)))
+    c′ t′ f o′ i
 
 -- Tender 2: a value in a tag's range, written over the whole tag in one request, stored as sent and read back whole in one, comes back equal. Whatever calls came before the
 -- write and whatever calls came before the reply: the registers of the tag in the frame that was issued, carried by a reply to a read that covers the tag, reach the reader

@@ -39,7 +39,8 @@ use Rattle.machine.specs.Requests.{closing, canJoin, exhausted, joiningP
 use Rattle.machine.specs.Outcomes.{outcome}
 use Rattle.machine.specs.Spelled.{asking}
 use Rattle.machine.specs.declared.Answer.the-variants as answer
-use Rattle.machine.specs.Closed.{closes, concernsRead, Unspoiled, Joinable}
+use Rattle.machine.specs.Closed.{closes, concernsRead, Unspoiled, Joinable, Meets}
+use Rattle.machine.proofs.MeetsLaws.{spoils-in-bytes}
 use Rattle.machine.proofs.JoinLaws.{MayJoin}
 use Rattle.machine.proofs.RequestLaws.Comes.{faulty, joining, full, issuing}
 use Rattle.machine.proofs.RequestLaws.{Comes, comes}
@@ -213,6 +214,14 @@ module _ (v : Value) (xs : List Call) where
   not-stale before later j w d p told c t f o i says met =
       let u = joined-unspoiled c t f o i says in
       since before later j w d p (i .0) (asking f) (u .0) met (rw told at (u .1))
+
+  -- The same in bytes: the request that was issued is a legal frame g, and what it spoils is what it meets.
+  pub not-stale-in-bytes : (before later : List (Event What)) (j : ℕ) (s : Value) (g : List ℕ) (d : ℕ) (p : Party) → legal s g ≡ true → toldBy v xs ≡ before ++ (issued j (asking g) d p ∷ later)
+      → (c t : ℕ) (f o : List ℕ) (i : ProxyId) → outcome (afterCalls v xs) (request c t f o) .says ≡ answer.Joined i → getD g 6 0 ≡ getD f 6 0 → Meets g f
+      → (d′ : ℕ) × (p′ : Party) × (lastOf (touches (i .0)) later ≡ some (issued (i .0) (asking f) d′ p′))
+  not-stale-in-bytes before later j s g d p l told c t f o i says unit met =
+      let y = join-is (afterCalls v xs) c t f o good i says in
+      not-stale before later j (asking g) d p told c t f o i says (spoils-in-bytes s _ g f l (y .is-legal) .1 (unit, met))
 
   module _ (c t : ℕ) (f o : List ℕ) (h : refusal (afterCalls v xs) (request c t f o) ≡ 0) (l : legal (settings (afterCalls v xs)) f ≡ true)
       (reads : ((getD f 7 0 ≡ 1) ⊎ (getD f 7 0 ≡ 2)) ⊎ ((getD f 7 0 ≡ 3) ⊎ (getD f 7 0 ≡ 4))) (on : v .join ≡ 1) where

@@ -34,12 +34,15 @@ product v =
       honest = λ m x s g. honest v m x g s;
     }
 
--- the machine after some calls, what they tell, and the ledger of that
+-- the machine after some calls, what they tell, what the calls ys tell that come after the calls xs, and the ledger of what some calls tell
 abbrev pub afterCalls : Value → List Call → Machine
 afterCalls v xs = after (product v) (made v) xs
 
 abbrev pub toldBy : Value → List Call → List (Event What)
 toldBy v xs = history (product v) (made v) xs
+
+abbrev pub toldSince : Value → List Call → List Call → List (Event What)
+toldSince v xs ys = history (product v) (afterCalls v xs) ys
 
 abbrev pub ledgerOf : Value → List Call → Ledger What
 ledgerOf v xs = posts empty (toldBy v xs)

@@ -1,4 +1,5 @@
 pub mod SpelledLaws
+pub mod MeetsLaws
 pub mod JoinLaws
 pub mod LowestLaws
 pub mod RefusalLaws

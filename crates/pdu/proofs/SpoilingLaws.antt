@@ -4,13 +4,15 @@ use Prim.Native.Nat.{ℕ, _+_, _≤_, _<_, max}
 use mathlib.Core.Path.{_≡_, refl, ap, sym, _∙_}
 use mathlib.Core.Logic.{_↔_, Iff·trans, ⊎-elim, ⊎-map, _⊎_, inl, inr}
 use mathlib.Core.Bool.{true, false, false≢true, and-false}
+use mathlib.Core.List.{List}
 use native.Mathlib.Omega.{arith}
 use lib.Dec.{eqb, ltb}
 use borrow.Author.Tests.{lt-ltb, ltb-true}
 use Rattle.laws.proofs.Choice.{eq-or, and-left, and-right, never}
 use Rattle.laws.proofs.TestLaws.{holds-eq, holds-and}
-use Rattle.pdu.specs.Requests.{classOf}
-use Rattle.pdu.specs.Replies.{What}
+use Rattle.wire.specs.Frame.{unitOf, functionOf}
+use Rattle.pdu.specs.Requests.{classOf, askedBy, checkedOf}
+use Rattle.pdu.specs.Replies.{What, what}
 use Rattle.pdu.specs.Words.{kept, keptIn, Lawful, Proper}
 use Rattle.pdu.specs.Spoiling.{sameTable, overlap, meets, spoils}
 use Rattle.pdu.specs.declared.Table.{Table}
@@ -19,7 +21,8 @@ use Rattle.pdu.specs.declared.Class.{Class}
 use Rattle.pdu.specs.declared.Class.the-variants.{Reads, WritesOne, WritesMany, Others}
 use Rattle.pdu.specs.declared.Asked.{Asked}
 use Rattle.pdu.specs.declared.Asked.the-variants.{Read, SingleWrite, MultipleWrite, Other}
-use Rattle.pdu.proofs.RequestLaws.{class-read-bits, class-read, class-single, class-multiple, class-other}
+use Rattle.pdu.specs.declared.Checked.the-variants.{Legal}
+use Rattle.pdu.proofs.RequestLaws.{Valued, classIn, legal-passed, class-read-bits, class-read, class-single, class-multiple, class-other}
 
 -- Two tables are the same exactly where they are equal.
 pub same-table : (t r : Table) → (sameTable t r ≡ true) ↔ (t ≡ r)
@@ -94,7 +97,7 @@ class-exact n c = (λ e. rw e at (named n), back c)
     back Others e = class-other n (e .0) (e .1) (e .2) (e .3) (e .4) (e .5) (e .6) (e .7)
 
 -- the class that asks such a thing
-abbrev sortOf : Asked → Class
+abbrev pub sortOf : Asked → Class
 sortOf (Read t s q) = Reads t
 sortOf (SingleWrite t a v) = WritesOne t
 sortOf (MultipleWrite t s q) = WritesMany t
@@ -107,8 +110,46 @@ sort-kept (WritesOne t) n = refl
 sort-kept (WritesMany t) n = refl
 sort-kept Others n = refl
 
-sort-class : (w : What) → Proper w → classOf (w .function) ≡ sortOf (w .asked)
-sort-class w p = sym (sort-kept (classOf (w .function)) (kept (w .asked))) ∙ ap sortOf (p .class)
+sort-asked : (c : Class) (f : List ℕ) → sortOf (askedBy c f) ≡ c
+unfolding askedBy
+sort-asked (Reads t) f = refl
+sort-asked (WritesOne t) f = refl
+sort-asked (WritesMany t) f = refl
+sort-asked Others f = refl
+
+-- where there is a quantity, it is not 0
+abbrev pub NotEmpty : Asked → Type 0
+NotEmpty (Read t s q) = 1 ≤ q
+NotEmpty (SingleWrite t a v) = Unit {0}
+NotEmpty (MultipleWrite t s q) = 1 ≤ q
+NotEmpty Other = Unit {0}
+
+lawful-some : (a : Asked) → Lawful a → NotEmpty a
+unfolding Lawful
+lawful-some (Read t s q) l = l .0
+lawful-some (SingleWrite t a v) l = tt
+lawful-some (MultipleWrite t s q) l = l .0
+lawful-some Other l = tt
+
+valued-some : (c : Class) (f : List ℕ) → Valued c f → NotEmpty (askedBy c f)
+unfolding askedBy
+valued-some (Reads t) f v = v .0
+valued-some (WritesOne t) f v = tt
+valued-some (WritesMany t) f v = v .0
+valued-some Others f v = tt
+
+-- what is asked is what the function's class asks, of one address or more
+pub record Ranging (w : What) : Type 0 where
+  pub class : classOf (w .function) ≡ sortOf (w .asked)
+  pub some : NotEmpty (w .asked)
+
+-- What may stand in a live entry is such;
+pub proper-ranges : (w : What) → Proper w → Ranging w
+proper-ranges w p = record { class = sym (sort-kept (classOf (w .function)) (kept (w .asked))) ∙ ap sortOf (p .class); some = lawful-some (w .asked) (p .lawful) }
+
+-- so is what a legal request asks, whatever numbers its frame has for bytes.
+pub legal-ranges : (f : List ℕ) (a : Asked) → checkedOf f ≡ Legal a → Ranging (what (unitOf f) (functionOf f) a)
+legal-ranges f a e = let p = legal-passed f a e in rw (p .asks) (record { class = sym (sort-asked (classIn f) f); some = valued-some (classIn f) f (p .value) })
 
 -- two ranges that are not empty overlap exactly where they have an address in common
 overlaps : (s n u m : ℕ) → 1 ≤ n → 1 ≤ m → (overlap s n u m ≡ true) ↔ ((x : ℕ) × ((s ≤ x) × (x < s + n)) × ((u ≤ x) × (x < u + m)))
@@ -124,14 +165,14 @@ overlaps s n u m h l = (
 abbrev Sorted : Asked → Asked → Type 0
 Sorted a b = (t : Table) × (sortOf b ≡ Reads t) × ((sortOf a ≡ Others) ⊎ (((sortOf a ≡ WritesOne t) ⊎ (sortOf a ≡ WritesMany t)) × Common a b))
 
-meets-sorted : (a b : Asked) → Lawful a → Lawful b → (meets a b ≡ true) ↔ Sorted a b
-unfolding meets Lawful
+meets-sorted : (a b : Asked) → NotEmpty a → NotEmpty b → (meets a b ≡ true) ↔ Sorted a b
+unfolding meets
 meets-sorted a (SingleWrite r b v) h l = (λ e. absurd (false≢true e), λ w. let z = w .1 in never (cc))
 meets-sorted a (MultipleWrite r s q) h l = (λ e. absurd (false≢true e), λ w. let z = w .1 in never (cc))
 meets-sorted a Other h l = (λ e. absurd (false≢true e), λ w. let z = w .1 in never (cc))
 meets-sorted (Read t u p) (Read r s q) h l = (λ e. absurd (false≢true e), λ w. ⊎-elim (λ z. never (cc)) (λ z. ⊎-elim (λ y. never (cc)) (λ y. never (cc)) (z .0)) (w .2))
 meets-sorted (SingleWrite t a v) (Read r s q) h l =
-    Iff·trans (holds-and (sameTable t r) (overlap a 1 s q) (same-table t r) (overlaps a 1 s q (omega arith) (l .0))) (
+    Iff·trans (holds-and (sameTable t r) (overlap a 1 s q) (same-table t r) (overlaps a 1 s q (omega arith) l)) (
       λ w. (r, refl, inr (inl (ap WritesOne (w .0)), (w .1 .0, omega (arith, w .1 .1), w .1 .2))),
       λ w. ⊎-elim
           (λ z. never (cc))
@@ -141,7 +182,7 @@ meets-sorted (SingleWrite t a v) (Read r s q) h l =
           (w .2),
     )
 meets-sorted (MultipleWrite t u p) (Read r s q) h l =
-    Iff·trans (holds-and (sameTable t r) (overlap u p s q) (same-table t r) (overlaps u p s q (h .0) (l .0))) (
+    Iff·trans (holds-and (sameTable t r) (overlap u p s q) (same-table t r) (overlaps u p s q h l)) (
       λ w. (r, refl, inr (inr (ap WritesMany (w .0)), w .1)),
       λ w. ⊎-elim
           (λ z. never (cc))
@@ -156,19 +197,19 @@ writes-class : (t : Table) (n : ℕ) → ((classOf n ≡ WritesOne t) ⊎ (class
 writes-class Bits n = (⊎-map (class-exact n (WritesOne Bits) .0) (class-exact n (WritesMany Bits) .0), ⊎-map (class-exact n (WritesOne Bits) .1) (class-exact n (WritesMany Bits) .1))
 writes-class Registers n = (⊎-map (class-exact n (WritesOne Registers) .0) (class-exact n (WritesMany Registers) .0), ⊎-map (class-exact n (WritesOne Registers) .1) (class-exact n (WritesMany Registers) .1))
 
-sorted-plainly : (w r : What) → Proper w → Proper r → Sorted (w .asked) (r .asked) ↔ Meeting w r
+sorted-plainly : (w r : What) → Ranging w → Ranging r → Sorted (w .asked) (r .asked) ↔ Meeting w r
 sorted-plainly w r p q =
-    rw (← sort-class w p, ← sort-class r q) (
+    rw (← p .class, ← q .class) (
       λ x. (x .0, class-exact (r .function) (Reads (x .0)) .0 (x .1), ⊎-map (class-exact (w .function) Others .0) (λ y. (writes-class (x .0) (w .function) .0 (y .0), y .1)) (x .2)),
       λ x. (x .0, class-exact (r .function) (Reads (x .0)) .1 (x .1), ⊎-map (class-exact (w .function) Others .1) (λ y. (writes-class (x .0) (w .function) .1 (y .0), y .1)) (x .2)),
     )
 
 -- A request spoils another exactly where the unit is equal, that one reads bits or registers, and the request is "other", or writes those with an address in common.
-pub spoils-exactly : (w r : What) → Proper w → Proper r → (spoils w r ≡ true) ↔ ((w .unit ≡ r .unit) × Meeting w r)
+pub spoils-exactly : (w r : What) → Ranging w → Ranging r → (spoils w r ≡ true) ↔ ((w .unit ≡ r .unit) × Meeting w r)
 unfolding spoils
 spoils-exactly w r p q =
     holds-and (eqb (w .unit) (r .unit)) (meets (w .asked) (r .asked)) (holds-eq (w .unit) (r .unit))
-    (Iff·trans (meets-sorted (w .asked) (r .asked) (p .lawful) (q .lawful)) (sorted-plainly w r p q))
+    (Iff·trans (meets-sorted (w .asked) (r .asked) (p .some) (q .some)) (sorted-plainly w r p q))
 
 -- A read spoils nothing.
 pub read-spoils-none : (w r : What) (t : Table) (s q : ℕ) → w .asked ≡ Read t s q → spoils w r ≡ false

@@ -34,6 +34,7 @@ use Rattle.book.specs.Book.Event.{issued}
 use Rattle.book.specs.Ledger.{Ticket, Apart, Differing, Anew, partiesOf}
 use Rattle.book.specs.Traced.{touches, issuedId, behind, Outstanding}
 use Rattle.book.specs.Desk.{AllLive}
+use Rattle.book.specs.Machine.{history}
 use Rattle.machine.specs.Machine.{Machine, rules, settings}
 use Rattle.machine.specs.Calls.{Call, Outcome, done, outOf, listOf, timeOf}
 use Rattle.machine.specs.Calls.Call.{attach, detach, request, reply, tick, linkLost}
@@ -44,7 +45,7 @@ use Rattle.machine.specs.Numbers.{ten, numbers, isIssued, isJoined, isException
 use Rattle.machine.specs.Waiting.{nextDeadline}
 use Rattle.machine.specs.Spelled.{asker, asking}
 use Rattle.machine.specs.Histories.{Seen, seenOf}
-use Rattle.machine.specs.Closed.{Unspoiled, Joinable}
+use Rattle.machine.specs.Closed.{Unspoiled, Joinable, Meets}
 use Rattle.machine.specs.declared.Answer.{Answer}
 use Rattle.machine.specs.declared.Answer.the-variants as answer
 use Rattle.machine.specs.declared.Report.{Report}
@@ -56,7 +57,7 @@ use Rattle.machine.proofs.AskLaws.{Carries, bits-carry-none, Issues, Joins, Exc
 use Rattle.machine.proofs.PartyLaws.{Accepts, Stands}
 use Rattle.machine.proofs.AnswerLaws.{showing}
 use Rattle.machine.proofs.TickLaws.{Lent, tickAt, ticksAt}
-use Rattle.machine.proofs.Histories.{afterCalls, toldBy}
+use Rattle.machine.proofs.Histories.{product, afterCalls, toldBy, toldSince}
 use Rattle.machine.proofs.StateLaws.{IssuedBy, seen-issue}
 use Rattle.machine.proofs.Claims as claim
 use Rattle.table.specs.Columns.{partiesAt, noteOf}
@@ -67,7 +68,7 @@ use Rattle.device.specs.Device.{Freshly, Awaited}
 use Rattle.device.proofs.DeviceLaws.{same-device}
 use Rattle.zilborteka.specs.Lives.{inForce, machineIn, Called, Line, callsOf, Lived, grantedIn, toldIn, ledgerIn}
 use Rattle.zilborteka.specs.Lives.Lived.{none, then}
-use Rattle.zilborteka.proofs.Lived.{left, seen, came, report-tells, lived-on, each-line, line-told, AsTheMachine, a-device-lives-as-the-machine, a-device-accounts-for-every-request}
+use Rattle.zilborteka.proofs.Lived.{left, seen, came, report-tells, tells, lived-on, each-line, line-told, AsTheMachine, a-device-lives-as-the-machine, a-report-tells-the-answer, a-device-accounts-for-every-request}
 use Rattle.zilborteka.proofs.Handed.{waitingUnder, Replied, TimesOut, lives-as, replied, timed-out, answers-what}
 use Rattle.zilborteka.proofs.Places.{LiveIn, place-live, live-in}
 
@@ -387,6 +388,23 @@ module _ (from : Settings) {r : Report} {d d′ : Device} (ls : List Line) (fres
       → (u′ : ℕ) × (p′ : Party) × (lastOf (touches (saw .report .id)) later ≡ some (issued (saw .report .id) (asking f) u′ p′))
   a-read-after-a-write-is-not-stale before later j w u p told c t f o s e =
       claim.a-read-after-a-write-is-not-stale v xs before later j w u p (sym (lived .told) ∙ told) c t f o _ (rw (lived .after) at (report-tells (request c t f o) s .joined e))
+
+  -- The same in bytes: a line of this life is a request g that was reported issued, and a later request f is reported joined, which g meets: byte 6 of both is equal, byte 7 of g is 05 or 15
+  -- and that of f 01 or 02, or 06 or 16 and 03 or 04, and some address is in both ranges, or g is "other" and f a read. Then of what the lines behind g's tell, the last that
+  -- begins or ends a life of the id that f joined is its issue, which asks what f asks.
+  pub a-read-after-a-write-is-not-stale-in-bytes : (ks : List Line) (x : Line) (ys : List Line) → ls ≡ ks ++ x ∷ ys → (c t : ℕ) (g o : List ℕ) → x .call ≡ request c t g o
+      → x .saw .report .outcome ≡ 2
+      → (c′ t′ : ℕ) (f o′ : List ℕ) {saw : Seen} {d″ : Device} → Called d′ (request c′ t′ f o′) saw d″ → saw .report .outcome ≡ 3 → getD g 6 0 ≡ getD f 6 0 → Meets g f
+      → (u : ℕ) × (p : Party) × (lastOf (touches (saw .report .id)) (toldIn (inForce from) ys) ≡ some (issued (saw .report .id) (asking f) u p))
+  a-read-after-a-write-is-not-stale-in-bytes ks x ys e c t g o call issue c′ t′ f o′ s join unit met =
+      let i = each-line ks x ys (subst (λ (l : List Line). Lived d l d′) e life) in
+      let first = a-device-lives-as-the-machine from (ks ++ x ∷ []) fresh (lived-on (i .2) (then (i .3) none)) in
+      let calls : (zs : List Line) → callsOf (ks ++ x ∷ zs) ≡ callsOf ks ++ request c t g o ∷ callsOf zs = λ zs. map-append (λ (y : Line). y .call) ks (x ∷ zs) ∙ ap (λ (y : Call). callsOf ks ++ y ∷ callsOf zs) call in
+      let later : toldIn v ys ≡ toldSince v (callsOf ks ++ request c t g o ∷ []) (callsOf ys) = tells v (i .4) ∙ ap (λ (m : Machine). history (product v) m (callsOf ys)) (first .after ∙ ap (afterCalls v) (calls [])) in
+      let now : machineIn d′ ≡ afterCalls v (callsOf ks ++ request c t g o ∷ callsOf ys) = lived .after ∙ ap (afterCalls v) (ap callsOf e ∙ calls ys) in
+      rw later
+      (claim.a-read-after-a-write-is-not-stale-in-bytes v (callsOf ks) c t g o _ _ _ _ (rw call at (a-report-tells-the-answer from ls fresh life ks x ys e .issued issue))
+      (callsOf ys) c′ t′ f o′ _ (rw now at (report-tells (request c′ t′ f o′) s .joined join)) unit met)
 
   -- And closing everything is no way out: a legal 01 to 04 that is not refused, with joining on, reports a join of the id exactly if that is the smallest under which a live entry asks
   -- the same, has room for one more party and a deadline later than now, and nothing that spoils it was issued since its issue.

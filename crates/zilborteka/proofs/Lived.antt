@@ -61,7 +61,7 @@ module _ (v : Value) where
   shows (y ∷ xs) x ys (then s l) = shows xs x ys l ∙ ap (λ (m : Machine). seenOf (outcome (after (product v) m (callsOf xs)) (x .call))) (left (y .call) s)
 
   -- and the lines tell what the machine's history does.
-  tells : {d d′ : Device} {ls : List Line} → Lived d ls d′ → toldIn v ls ≡ history (product v) (machineIn d) (callsOf ls)
+  pub tells : {d d′ : Device} {ls : List Line} → Lived d ls d′ → toldIn v ls ≡ history (product v) (machineIn d) (callsOf ls)
   unfolding toldIn history
   tells none = refl
   tells {d} {ls = x ∷ ls} (then s l) =
