@@ -25,9 +25,9 @@ may-await d made = made .table .within
 pub zeros-made : Made zeros × ((client : ℕ) → has (zeros .attached) client ≡ false)
 zeros-made = zeros-sound
 
--- The size that a host is told is that of a device in memory.
-pub state-size : size mir ≡ stateSize
-state-size = refl
+-- A device in memory has 32,296 bytes, and that is the size that a host is told.
+pub state-size : (size mir ≡ 32296) × (stateSize ≡ 32296)
+state-size = (refl, refl)
 
 -- the device whose state it is: stateOf read backwards
 abbrev deviceOf : State → Device

@@ -16,6 +16,7 @@ pub mod Histories
 pub mod StateLaws
 pub mod TickLaws
 pub mod WaitingLaws
+pub mod SizeLaws
 pub mod FrameOfParty
 pub mod ClosedLaws
 pub mod Claims

@@ -1,5 +1,6 @@
 -- What the calls without a device report is what the crates below come to, and every number of it fits.
 -- Assumes nothing.
+use prog.Memory.{size}
 use Prim.Native.Nat.{ℕ, _≤_}
 use mathlib.Core.Path.{_≡_, refl, ap, sym, _∙_}
 use mathlib.Core.Bool.{Bool, true, false, cond, not}
@@ -24,6 +25,7 @@ use Rattle.settingstext.specs.TextRead.{reported}
 use Rattle.settingstext.specs.TextWritten.{Writing, writing, writtenTo}
 use Rattle.machine.specs.declared.Report.{Report}
 use Rattle.reports.specs.Reports.{splitTold, settingsRead, lineTold, readTold, textSeen, wroteTold, writeTold}
+use Rattle.reports.proofs.SettingsRead.Laws.{mir}
 
 -- A first frame is no longer than a frame may be.
 pub first-low : (r : List ℕ) → standingOf r ≡ Frame → length (firstFrame r) ≤ mostFrame
@@ -58,3 +60,7 @@ unfolding writtenTo
 written-low v b a w n e s =
     let x = text-of (valid v) (ltb (length b) (length (textIn newest v))) (length (textIn newest v)) n a b (over (textIn newest v) b) w e s in
     rw (x .1) (longest-2 v (x .0))
+
+-- What reading settings returns has in memory the size of zb_read: that of an answer, and of settings behind it.
+pub read-size : size mir ≡ 1588
+read-size = refl

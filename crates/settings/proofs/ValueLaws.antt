@@ -1,5 +1,6 @@
--- Settings values tag by tag: what makes one valid, when two are equal, and the value of the boundary's struct and back.
+-- Settings values tag by tag: what makes one valid, when two are equal, the value of the boundary's struct and back, and that struct's size.
 -- Assumes nothing.
+use prog.Memory.{size}
 use Prim.Native.Nat.{ℕ, zero, suc, _+_, _-_, _≤_, _<_, min}
 use mathlib.Core.Path.{_≡_, refl, ap, sym, _∙_}
 use mathlib.Core.Logic.{⊎-elim}
@@ -18,6 +19,7 @@ use Rattle.laws.proofs.ListLaws.{tab-ext, tab-more, length-tab, tab-getD, getD-
 use Rattle.settings.specs.declared.Settings.{Settings}
 use Rattle.settings.specs.Grammar.{Tag, Value, Line, newest, tagNumbers, lastRegister, ascends, rightTimeout, rightJoin, rightTags, rightWidth, rightSign, allRight, tagsRight, validIn, valid}
 use Rattle.settings.specs.Values.{valueOf, settingsOf, padded, sameTags, same}
+use Rattle.settings.proofs.Settings.Laws.{mir}
 
 -- tags and values are equal where their fields are
 pub tag-ext : (t u : Tag) → t .address ≡ u .address → t .width ≡ u .width → t .sign ≡ u .sign → t ≡ u
@@ -234,3 +236,7 @@ value-back v =
   where
     of : (field : Tag → ℕ) (k : ℕ) → k < length (v .tags) → getD (padded (map field (v .tags))) k 0 ≡ field (getD (v .tags) k blank)
     of field k h = getD-zeros (mostTags - length (map field (v .tags))) (map field (v .tags)) k ∙ getD-map field (v .tags) k blank 0 h
+
+-- The boundary's struct has the size in memory that the header says of zb_settings.
+pub settings-size : size mir ≡ 1548
+settings-size = refl

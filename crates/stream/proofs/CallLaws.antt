@@ -1,5 +1,6 @@
 -- A call on a stream in plain words: what is kept, what is taken, which refusal is said, and the one refusal that does not leave the stream as it was.
 -- Assumes nothing.
+use prog.Memory.{size}
 use Prim.Native.Nat.{ℕ, _-_, _≤_, _<_}
 use mathlib.Core.Path.{_≡_, refl, ap, sym, _∙_}
 use mathlib.Core.Logic.{⊎-elim, _⊎_, inl, inr}
@@ -22,6 +23,8 @@ use Rattle.stream.specs.Lives.{Line, came, offersOf, Lived, heard}
 use Rattle.stream.specs.Lives.Lived.{none, then}
 use Rattle.stream.specs.declared.Taken.{Taken}
 use Rattle.stream.specs.declared.Inlet.{Inlet}
+use Rattle.stream.proofs.Inlet.Laws as inlet
+use Rattle.stream.proofs.Taken.Laws as taken
 use Rattle.stream.proofs.StreamLaws.{Reads, more-frame, more-refused, unmarked, frame-ends-behind, refusal-is-new, six-are-taken, six-are-bad, waits-short, short-refused, marked-refused, waiting-finds}
 use Rattle.stream.proofs.CuttingLaws.{any-calls-read}
 
@@ -132,6 +135,13 @@ module _ (xs : List Offer) where
 -- a lent stream that these calls made keeps at most 259 bytes, as many as its count says
 pub made-keeps : (i : Inlet) → Made i → (i .count ≤ 259) × (length (i .bytes) ≡ 260)
 made-keeps i h = let l = h .most in (omega arith, h .long)
+
+-- a lent stream, and what a call on it answers, have the sizes in memory of zb_stream and zb_taken
+pub stream-size : size inlet.mir ≡ 268
+stream-size = refl
+
+pub taken-size : size taken.mir ≡ 16
+taken-size = refl
 
 -- a line of the life of a lent stream that goes on from f came as the definition says
 pub line-took : (f : Fed) {i : Inlet} (x : Line) → f .after ≡ streamOf i → Takes i (x .offer .piece) (x .offer .buffer) (x .says) (x .after) (x .written)
