@@ -1,7 +1,7 @@
 -- Document 01 on the calls that need no device, and on making one: what a host sees of each, for any bytes, buffers and settings. The given equations are the promises of the exported functions.
 -- Assumes nothing.
 use Prim.Native.Nat.{ℕ, _+_, _≤_, _<_}
-use mathlib.Core.Path.{_≡_, refl, ap, sym, _∙_}
+use mathlib.Core.Path.{_≡_, ap, sym, _∙_}
 use mathlib.Core.Logic.{_↔_, Iff·trans, ⊎-elim, _⊎_, inl, inr}
 use mathlib.Core.Bool.{true, false, false≢true}
 use mathlib.Core.List.{List, [], _++_}
@@ -27,7 +27,7 @@ use Rattle.device.specs.declared.Device.{Device}
 use Rattle.device.specs.Device.{Freshly}
 use Rattle.zilborteka.specs.Lives.{inForce, machineIn}
 
--- A frame: "With fewer than 6 bytes: more needed. With 6 or more: refusal 4 if protocol is not 0 or length not 2 to 254; else the frame, or more needed." A report is one of the three.
+-- A frame: "With fewer than 6 bytes: more needed. With 6 or more: refusal 4 if protocol is not 0 or length not 2 to 254; else the frame, or more needed."
 module _ (run : List ℕ) {r : Report} (promise : r ≡ splitTold (standingOf run) (length (firstFrame run))) where
   pub a-run-is-refused-exactly : (r ≡ ten 4 0 0 0 0 0 0 0 0 0) ↔ WrongHeader run
   a-run-is-refused-exactly = says.split-says run promise .refused
@@ -44,26 +44,22 @@ module _ (run : List ℕ) {r : Report} (promise : r ≡ splitTold (standingOf ru
 -- Settings text, the writer, over a buffer b that is b′ afterwards.
 module _ (from : Settings) (b : List ℕ) {r : Report} {b′ : List ℕ} (promise : textSeen r b′ ≡ writeTold (writtenTo (valueOf from) b)) where
   -- "Writing from an invalid value is refusal 10 whatever the buffer's length, and writes nothing."
-  pub an-invalid-value-is-not-written : (ValidSettings from → ⊥) → (r ≡ ten 10 0 0 0 0 0 0 0 0 0) × (b′ ≡ b)
-  an-invalid-value-is-not-written n =
-      let w = says.write-says from b promise in
-      let e = w .invalid .1 n in
-      (e, w .untouched (λ z. let h = ap (λ (x : Report). x .refusal) e in omega arith))
-
-  -- "for a valid value it refuses, with 1, exactly if the text does not fit", and writes nothing either.
-  pub a-text-does-not-fit-exactly : ValidSettings from → (r ≡ ten 1 0 0 0 0 0 0 0 0 0) ↔ (length b < length (textFor from))
-  a-text-does-not-fit-exactly v = (λ e. says.write-says from b promise .short .0 e .1, λ l. says.write-says from b promise .short .1 (v, l))
+  pub an-invalid-value-is-refused-exactly : (r ≡ ten 10 0 0 0 0 0 0 0 0 0) ↔ (ValidSettings from → ⊥)
+  an-invalid-value-is-refused-exactly = says.write-says from b promise .invalid
 
   pub a-refusal-writes-nothing : (r .refusal ≡ 0 → ⊥) → b′ ≡ b
   a-refusal-writes-nothing = says.write-says from b promise .untouched
 
+  -- "for a valid value it refuses, with 1, exactly if the text does not fit".
+  pub a-text-does-not-fit-exactly : ValidSettings from → (r ≡ ten 1 0 0 0 0 0 0 0 0 0) ↔ (length b < length (textFor from))
+  a-text-does-not-fit-exactly v = (λ e. says.write-says from b promise .short .0 e .1, λ l. says.write-says from b promise .short .1 (v, l))
+
   -- "The writer gives this text for every valid settings value",
-  pub a-text-that-fits-is-written : ValidSettings from → length (textFor from) ≤ length b
-      → (r ≡ ten 0 0 1 (length (textFor from)) 0 0 0 0 0 0) × (b′ ≡ textFor from ++ drop (length (textFor from)) b)
-  a-text-that-fits-is-written v l =
-      let w = says.write-says from b promise in
-      let e = w .done (length (textFor from)) .1 (v, refl, l) in
-      (e, w .written (ap (λ (x : Report). x .refusal) e))
+  pub a-text-is-written-exactly : (n : ℕ) → (r ≡ ten 0 0 1 n 0 0 0 0 0 0) ↔ (ValidSettings from × (n ≡ length (textFor from)) × (n ≤ length b))
+  a-text-is-written-exactly = says.write-says from b promise .done
+
+  pub a-written-text-stands-first : r .refusal ≡ 0 → b′ ≡ textFor from ++ drop (length (textFor from)) b
+  a-written-text-stands-first = says.write-says from b promise .written
 
   -- "and reading it gives the value back".
   pub a-written-text-is-read-back : r .refusal ≡ 0 → {q : SettingsRead} → q ≡ readTold (readText (take (r .length) b′)) → (q .answer ≡ ten 0 0 1 0 0 0 0 0 0 0) × (valueOf (q .settings) ≡ valueOf from)
