@@ -4,7 +4,7 @@ use Prim.Native.Nat.{ℕ}
 use mathlib.Core.Path.{_≡_, refl}
 use mathlib.Core.List.{List}
 use Rattle.table.specs.Columns.{Columns}
-use Rattle.proxy.specs.State.{State, lentSet, lentParties, lentIds, lentDeadlines, lentTable}
+use Rattle.proxy.specs.State.{State, lentSet, lentParties, lentIds, lentTable}
 
 module _ (s : State) where
   -- its table as it is
@@ -20,9 +20,6 @@ module _ (s : State) where
   pub ids-own : lentIds s (own .ids) (own .top) (s .attached) ≡ s
   ids-own = refl
 
-  pub deadlines-own : lentDeadlines s (own .ids) (own .deadlines) (own .top) ≡ s
-  deadlines-own = refl
-
   pub table-own : lentTable s (own .ids) (own .asked) (own .callers) (own .deadlines) (own .counts) (own .clients) (own .originals) (own .top) (s .clock) ≡ s
   table-own = refl
 
@@ -36,9 +33,6 @@ module _ (s : State) where
 
     pub ids-lent : (ids : List ℕ) → let l = lentIds s ids top attached in (l .table .ids ≡ ids) × (l .table .top ≡ top) × (l .attached ≡ attached)
     ids-lent ids = (refl, refl, refl)
-
-    pub deadlines-lent : (ids deadlines : List ℕ) → let l = lentDeadlines s ids deadlines top in (l .table .ids ≡ ids) × (l .table .deadlines ≡ deadlines) × (l .table .top ≡ top)
-    deadlines-lent ids deadlines = (refl, refl, refl)
 
   pub table-lent : (c : Columns) (clock : ℕ)
       → let l = lentTable s (c .ids) (c .asked) (c .callers) (c .deadlines) (c .counts) (c .clients) (c .originals) (c .top) clock in (l .table ≡ c) × (l .clock ≡ clock)

@@ -10,10 +10,8 @@ use Rattle.machine.specs.Machine.{made}
 use Rattle.machine.specs.Calls.{Call, done}
 use Rattle.machine.specs.Numbers.{numbers, reported, numbered}
 use Rattle.machine.specs.Outcomes.{outcome}
-use Rattle.machine.specs.Waiting.{nextDeadline}
 use Rattle.machine.specs.declared.Answer.{Answer}
 use Rattle.machine.specs.declared.Report.{Report}
-use Rattle.machine.specs.declared.NextDeadline.{NextDeadline}
 use Rattle.proxy.specs.State.{State, machineOf, Sounds}
 use Rattle.proxy.specs.Gates.{adopted, makingAnswer}
 
@@ -36,7 +34,3 @@ Freshened from answer s = (answer ≡ makingAnswer (valueOf from)) × (machineOf
 -- the same with the report for a C host in place of the answer
 abbrev pub FreshlyTold : Settings → Report → State → Type 0
 FreshlyTold from r s = (r ≡ numbers (makingAnswer (valueOf from))) × (machineOf s ≡ made (adopted (valueOf from))) × Sounds s
-
--- when the host has to tick next, as the machine has it; the state stays
-abbrev pub Awaits : State → NextDeadline → State → Type 0
-Awaits s n s′ = (n ≡ nextDeadline (machineOf s)) × (s′ ≡ s)

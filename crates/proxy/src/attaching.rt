@@ -7,13 +7,9 @@ ghost use mathlib.Core.Bool.{not, _||_};
 ghost use lib.Dec.{leb};
 ghost use Rattle.laws.specs.Numbers.{clients as clientCount, places};
 ghost use Rattle.laws.specs.Bits.{has};
-ghost use Rattle.machine.specs.Machine.{Live-book, machine};
-ghost use Rattle.machine.specs.Calls.{done};
 ghost use Rattle.machine.specs.Calls.Call.{attach as attaches, detach as detaches, linkLost};
-ghost use Rattle.machine.specs.Numbers.{numbers};
-ghost use Rattle.machine.specs.Outcomes.{outcome};
 ghost use Rattle.table.specs.Changes.{Runs};
-ghost use Rattle.proxy.specs.State.{State, lentParties, lentIds, Sounds};
+ghost use Rattle.proxy.specs.State.{State, lentSet, lentParties, lentIds, Sounds};
 ghost use Rattle.proxy.specs.Calls.{Does};
 
 // Whether a client is in a set.
@@ -35,10 +31,9 @@ pub fn is_stranger(attached: u32, client: u32) -> bool
     }
 }
 
-// Attaches a client: refusal 2 above 31, refusal 9 where it is attached. Whatever the book is, only the set changes.
+// Attaches a client: refusal 2 above 31, refusal 9 where it is attached. Whatever the rest of the state is, it stays.
 pub fn attach(attached: &mut u32, client: u32) -> Answer
-    ensures { λ r. ⌜ ((b : Live-book) → done r (machine b (now (attached .exit))) [] [] ≡ outcome (machine b (now (attached .entry))) (attaches client)) ⌝ }
-    ensures { λ r. ⌜ ((numbers r .refusal ≡ 0 → ⊥) → now (attached .exit) ≡ now (attached .entry)) ⌝ }
+    ensures { λ r. ⌜ ((s : State) → Sounds (lentSet s (now (attached .entry))) → Does (lentSet s (now (attached .entry))) (attaches client) r (lentSet s (now (attached .exit))) [] []) ⌝ }
 {
     if laws::CLIENTS <= client {
         return Answer::Refused { number: 2 };
@@ -59,8 +54,7 @@ pub fn detach<'a>(
     attached: &'a mut u32,
     client: u32,
 ) -> Answer
-    requires { ⌜ Runs (now counts) (now clients) (now originals) ⌝ }
-    requires { ⌜ now top ≤ places ⌝ }
+    requires { ⌜ Runs (now counts) (now clients) (now originals) × (now top ≤ places) ⌝ }
     ensures { λ r. ⌜ ((s : State) → Sounds (lentParties s (now (counts .entry)) (now (clients .entry)) (now (originals .entry)) (now (top .entry)) (now (attached .entry)))
         → Does (lentParties s (now (counts .entry)) (now (clients .entry)) (now (originals .entry)) (now (top .entry)) (now (attached .entry))) (detaches client) r (lentParties s (now (counts .exit)) (now (clients .exit)) (now (originals .exit)) (now (top .exit)) (now (attached .exit))) [] []) ⌝ }
 {

@@ -274,18 +274,15 @@ module _ (from : Settings) {r : Report} {d d′ : Device} (ls : List Line) (fres
       let told : (q : Report → ℕ) → _ = λ q. ap (λ (y : Seen). q (y .report)) shown ∙ ap (λ (y : Answer). q (numbers y)) (r .1) in
       (ap (λ (y : Seen). y .frame) shown ∙ r .0, told (λ y. y .partial), told (λ y. y .value))
 
-  -- When to tick (ours): a look at the next deadline leaves every field of the device as it was;
-  pub a-look-changes-nothing : {n : NextDeadline} {e : Device} → Awaited d′ n e → e ≡ d′
-  a-look-changes-nothing a = same-device _ _ (a .1)
-
-  -- and of a tick that comes next and is not refused, one before the time that it named reports that nothing is due, and one at or after it ends an entry.
-  pub when-the-next-tick-ends-one : {n : NextDeadline} {e : Device} → Awaited d′ n e → (t : ℕ) (o l : List ℕ) {saw : Seen} {d″ : Device} → Called d′ (tick t o l) saw d″ → saw .report .refusal ≡ 0
+  -- When to tick (ours): a look at the next deadline changes nothing, the device is lent by `&`; and of a tick that comes next and is not refused, one before the time that it
+  -- named reports that nothing is due, and one at or after it ends an entry.
+  pub when-the-next-tick-ends-one : {n : NextDeadline} → Awaited d′ n → (t : ℕ) (o l : List ℕ) {saw : Seen} {d″ : Device} → Called d′ (tick t o l) saw d″ → saw .report .refusal ≡ 0
       → (t < n .time → saw .report .outcome ≡ isNothingDue) × (n .time ≤ t → saw .report .outcome ≡ isTimedOut)
   unfolding numbers machineIn
   when-the-next-tick-ends-one {n} a t o l s z =
       let x = tick t o l in
       let w = claim.when-the-next-tick-ends-one v xs t o l (passes x s z) in
-      let same : n ≡ nextDeadline (afterCalls v xs) = a .0 ∙ ap nextDeadline (lived .after) in
+      let same : n ≡ nextDeadline (afterCalls v xs) = a ∙ ap nextDeadline (lived .after) in
       let told : (b : Answer) → outcome (afterCalls v xs) x .says ≡ b → _ = λ b q. ap (λ (y : Seen). y .report .outcome) (sees x s) ∙ ap (λ (y : Answer). numbers y .outcome) q in
       (λ early. told answer.NothingDue (w .0 (rw same at early)), λ late. let y = w .1 (rw same at late) in told (answer.TimedOut (y .0) (y .1)) (y .2))
 

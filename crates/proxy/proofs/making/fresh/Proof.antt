@@ -14,7 +14,7 @@ adopt-requires c κs = let b = c .before .before .before .before in sym (b .befo
 returns : tie.Need-returns
 returns c =
     let b = c .before .before .before .before .before in
-    made-fresh _ _ Done _ _ (adopts-valid _ (sym (b .before .is-valid .ensures) ∙ b .if1 .taken)) (b .before .before .clear .ensures) (c .adopt .ensures)
+    made-fresh _ _ Done _ _ (adopts-valid _ (sym (b .before .is-valid .ensures) ∙ b .if1 .taken)) (b .before .before .before .before .before .clear .ensures) (c .adopt .ensures)
 
 adopt-requires-2 : tie.Need-adopt-requires-2
 adopt-requires-2 c κs = rw (usual-settings _ _ _) usual-valid
@@ -22,7 +22,7 @@ adopt-requires-2 c κs = rw (usual-settings _ _ _) usual-valid
 returns-2 : tie.Need-returns-2
 returns-2 c =
     let b = c .before .before .before .before .before in
-    made-fresh _ usual (Refused 10) _ _ (adopts-usual _ (sym (b .before .is-valid .ensures) ∙ b .if1 .left)) (b .before .before .clear .ensures) (rw (usual-settings _ _ _) at (c .adopt2 .ensures))
+    made-fresh _ usual (Refused 10) _ _ (adopts-usual _ (sym (b .before .is-valid .ensures) ∙ b .if1 .left)) (b .before .before .before .before .before .clear .ensures) (rw (usual-settings _ _ _) at (c .adopt2 .ensures))
 
 pub fresh-spec : {M : Type 1} → statement M
 fresh-spec =
