@@ -167,7 +167,8 @@ fn issue_request<'a>(
         client,
         original,
     );
-    moves::closing::close(ids, asked, *top as usize, word);
+    let unit = wire::unit_of(frame);
+    moves::closing::close(ids, asked, *top as usize, unit, what);
     let next = id.next();
     *cursor = next.0;
     let raw = payloads::forward(out, frame, id, what, tags, tagged as usize);
