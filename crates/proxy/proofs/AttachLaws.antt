@@ -2,13 +2,12 @@
 -- Assumes nothing.
 use Prim.Native.Nat.{ℕ, _≤_, _<_, _^_}
 use mathlib.Core.Path.{_≡_, refl, ap, sym, _∙_}
-use mathlib.Core.Bool.{true, false, not, _||_}
+use mathlib.Core.Bool.{true, false, not}
 use mathlib.Core.Option.{none}
 use mathlib.Core.List.{List, []}
 use native.Mathlib.Omega.{arith}
 use lib.ListN.{replicate, length-replicate}
 use lib.Pow.{pow-pos}
-use lib.Dec.{leb}
 use borrow.Author.Tests.{le-leb, lt-leb, leb-false}
 use Rattle.laws.specs.Numbers.{clients, places}
 use Rattle.laws.specs.Bits.{has, with, without}
@@ -21,7 +20,7 @@ use Rattle.book.specs.Book.Move.{wipe}
 use Rattle.machine.specs.Machine.{machine, rules}
 use Rattle.machine.specs.Calls.{done, outOf, listOf}
 use Rattle.machine.specs.Calls.Call.{attach, detach, linkLost}
-use Rattle.machine.specs.Refusals.{rows, lowest, refusal, isStranger}
+use Rattle.machine.specs.Refusals.{rows, lowest, refusal, isStrangeTo, isStranger}
 use Rattle.machine.specs.Numbers.{numbers}
 use Rattle.machine.specs.Outcomes.{granted, outcome}
 use Rattle.machine.specs.declared.Answer.the-variants.{Refused, Done as Finished, Lost}
@@ -35,7 +34,7 @@ use Rattle.proxy.specs.Calls.{Does}
 use Rattle.proxy.proofs.StateLaws.{still-sound}
 
 -- who is no stranger has a client's number
-pub no-stranger : (set client : ℕ) → (leb clients client || not (has set client)) ≡ false → client < clients
+pub no-stranger : (set client : ℕ) → isStrangeTo set client ≡ false → client < clients
 no-stranger set client t = leb-false clients client (or-left _ (not (has set client)) t)
 
 module _ (s : State) (sounds : Sounds s) where

@@ -3,11 +3,10 @@ use machine::Answer;
 ghost use mathlib.Core.Path.{_≡_};
 ghost use mathlib.Core.List.{[]};
 ghost use Prim.Native.Nat.{_<_, _≤_};
-ghost use mathlib.Core.Bool.{not, _||_};
-ghost use lib.Dec.{leb};
 ghost use Rattle.laws.specs.Numbers.{clients as clientCount, places};
 ghost use Rattle.laws.specs.Bits.{has};
 ghost use Rattle.machine.specs.Calls.Call.{attach as attaches, detach as detaches, linkLost};
+ghost use Rattle.machine.specs.Refusals.{isStrangeTo};
 ghost use Rattle.table.specs.Changes.{Runs};
 ghost use Rattle.proxy.specs.State.{State, lentSet, lentParties, lentIds, Sounds};
 ghost use Rattle.proxy.specs.Calls.{Does};
@@ -22,7 +21,7 @@ pub fn is_member(set: u32, client: u32) -> bool
 
 // Whether a client number is above the last, or not attached: refusal 2.
 pub fn is_stranger(attached: u32, client: u32) -> bool
-    ensures { λ r. ⌜ r ≡ (leb clientCount client || not (has attached client)) ⌝ }
+    ensures { λ r. ⌜ r ≡ isStrangeTo attached client ⌝ }
 {
     if client < laws::CLIENTS {
         !is_member(attached, client)

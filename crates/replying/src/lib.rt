@@ -21,7 +21,7 @@ fn tick_refusal(out: usize, list: usize, time: u64, clock: u64) -> u32
     if (out < laws::FRAME_BUFFER) | (list < laws::LIST_BUFFER) {
         return 1;
     }
-    if (laws::LATEST_TIME < time) | (time < clock) {
+    if proxy::is_untimely(clock, time) {
         return 3;
     }
     0
