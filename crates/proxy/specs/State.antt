@@ -43,7 +43,7 @@ lent ids asked callers deadlines counts clients originals top cursor attached cl
 abbrev pub seated : State → Columns → (attached clock : ℕ) → State
 seated s c a t = state c (s .cursor) a t (s .settings)
 
--- the state that some lent fields are, beside what else the state s has: the set alone; the parties; the ids; the table and the clock
+-- the state that some lent fields are, beside what else the state s has: the set alone; the parties; the ids; the table and the clock; these and the settings
 abbrev pub lentSet : State → (attached : ℕ) → State
 lentSet s a = seated s (s .table) a (s .clock)
 
@@ -59,6 +59,10 @@ lentIds s ids top a =
 
 abbrev pub lentTable : State → (ids asked callers deadlines counts clients originals : List ℕ) (top clock : ℕ) → State
 lentTable s ids asked callers deadlines counts clients originals top clock = seated s (columns ids asked callers deadlines counts clients originals top) (s .attached) clock
+
+abbrev pub lentKept : State → (ids asked callers deadlines counts clients originals : List ℕ) (top clock timeout join tagged : ℕ) (tags : List ℕ) → State
+lentKept s ids asked callers deadlines counts clients originals top clock timeout join tagged tags =
+    state (columns ids asked callers deadlines counts clients originals top) (s .cursor) (s .attached) clock (kept timeout join tagged tags)
 
 -- the machine that it is
 abbrev pub machineOf : State → Machine

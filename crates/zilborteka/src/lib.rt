@@ -121,8 +121,6 @@ pub extern "C" fn zb_reply(
         &mut st.clients,
         &mut st.originals,
         &mut st.top,
-        &mut st.cursor,
-        &mut st.attached,
         &mut st.clock,
         &mut st.timeout,
         &mut st.join,

@@ -5,10 +5,12 @@ use denote.Triple.Spec.{tripleOf}
 use denote.Triple.Table.{entered, cited}
 use Rattle.machine.specs.Calls.Call.{reply as replies, reply as replyCall}
 use Rattle.device.specs.Device.{Made, Served}
-use Rattle.proxy.specs.State.{lent, Sounds}
+use Rattle.table.specs.Columns.{columns, Sound}
+use Rattle.proxy.specs.State.{State, kept, lentKept, Settled, Sounds}
 use Rattle.proxy.specs.Calls.{Does}
 use mathlib.Core.Path.{_≡_}
 use Rattle.machine.specs.Numbers.{numbers}
+use Rattle.device.specs.Fields.{stateOf}
 use Rattle.proxy.proofs.ToldLaws.{as-told}
 use Rattle.device.proofs.written.EntryReply.{Core, entry-meets, Rel, CoreRel, Pre, CorePre, TellerRel, Teller}
 use Rattle.replying.proofs.reply.Symbol as g
@@ -28,10 +30,10 @@ abbrev Pe : Pre
 Pe = λ st time frame out list. Made st
 
 abbrev Pc : CorePre
-Pc = λ ids asked callers deadlines counts clients originals top cursor attached clock timeout join tagged tags time frame out list. Sounds (lent ids asked callers deadlines counts clients originals top cursor attached clock timeout join tagged tags)
+Pc = λ ids asked callers deadlines counts clients originals top clock timeout join tagged tags time frame out list. Sound (columns ids asked callers deadlines counts clients originals top) × Settled (kept timeout join tagged tags)
 
 abbrev Rc : CoreRel
-Rc = λ ids asked callers deadlines counts clients originals top cursor attached clock timeout join tagged tags time frame out list r ids′ asked′ callers′ deadlines′ counts′ clients′ originals′ top′ cursor′ attached′ clock′ timeout′ join′ tagged′ tags′ out′ list′. Does (lent ids asked callers deadlines counts clients originals top cursor attached clock timeout join tagged tags) (replyCall time frame out list) r (lent ids′ asked′ callers′ deadlines′ counts′ clients′ originals′ top′ cursor′ attached′ clock′ timeout′ join′ tagged′ tags′) out′ list′
+Rc = λ ids asked callers deadlines counts clients originals top clock timeout join tagged tags time frame out list r ids′ asked′ callers′ deadlines′ counts′ clients′ originals′ top′ clock′ timeout′ join′ tagged′ tags′ out′ list′. ((s : State) → Sounds (lentKept s ids asked callers deadlines counts clients originals top clock timeout join tagged tags) → Does (lentKept s ids asked callers deadlines counts clients originals top clock timeout join tagged tags) (replyCall time frame out list) r (lentKept s ids′ asked′ callers′ deadlines′ counts′ clients′ originals′ top′ clock′ timeout′ join′ tagged′ tags′) out′ list′)
 
 abbrev Rk : TellerRel
 Rk = λ a r. r ≡ numbers a
@@ -41,6 +43,6 @@ unfolding code.routine tablesOf
 zb-reply-spec 𝓤 H 𝓜 𝓖 𝓡 =
     entered 𝓤 H (tripleOf 𝓤 H (𝓖 .A) f.signature (f.spec 𝓤 H (𝓖 .A) (𝓜 .mem) (𝓡 .run)))
     (tables 𝓤 H 𝓜 𝓡 code.env .C) (tables 𝓤 H 𝓜 𝓡 code.env .Λ) #f code.function (code.unfolded 𝓤 H 𝓜 𝓡)
-    (entry-meets 𝓤 H (𝓖 .A) (givenOf 𝓤 H 𝓜 𝓖) g.name k.name R Pe Rc Pc Rk (λ _ _ _ _ _ _ _ _ _ _ _ _ _ _ _ _ _ _ _ _ _ _ _ ok told _ tells. as-told _ _ _ _ _ _ _ tells told) (λ _ _ _ _ _ ok. ok) (tablesOf 𝓤 H 𝓜 (tables 𝓤 H 𝓜 𝓡 code.env))
+    (entry-meets 𝓤 H (𝓖 .A) (givenOf 𝓤 H 𝓜 𝓖) g.name k.name R Pe Rc Pc Rk (λ st _ _ _ _ _ _ _ _ _ _ _ _ _ _ _ _ _ _ _ _ ok told _ tells. as-told _ _ _ _ _ _ _ tells (told (stateOf st) ok)) (λ st _ _ _ _ ok. (ok .table, ok .settings)) (tablesOf 𝓤 H 𝓜 (tables 𝓤 H 𝓜 𝓡 code.env))
     (cited 𝓤 H (Core 𝓤 Rc Pc H (𝓖 .A)) 𝓜 𝓡 code.env g.name g.routine code.calls-replying·reply (g-thm.met 𝓤 H 𝓜 𝓖 𝓡))
     (cited 𝓤 H (Teller 𝓤 Rk H (𝓖 .A)) 𝓜 𝓡 code.env k.name k.routine code.calls-reports·report-of (k-thm.met 𝓤 H 𝓜 𝓖 𝓡)))
