@@ -17,8 +17,8 @@ use Rattle.table.proofs.FindLaws.{next-time, next-live}
 use Rattle.proxy.specs.State.{State, valueIn}
 use Rattle.proxy.proofs.MakingLaws.{zeros-sound}
 use Rattle.device.specs.declared.Device.{Device}
-use Rattle.device.specs.Fields.{device, stateOf, zeros}
-use Rattle.device.specs.Device.{Made, Awaited, stateSize}
+use Rattle.device.specs.Fields.{device, stateOf, zeros, stateSize}
+use Rattle.device.specs.Device.{Made, Awaited}
 use Rattle.device.proofs.Device.Laws.{mir}
 
 pub may-detach : (d : Device) → Made d → Runs (d .counts) (d .clients) (d .originals) × (d .top ≤ places)

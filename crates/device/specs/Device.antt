@@ -29,7 +29,3 @@ Freshly from r d = FreshlyTold from r (stateOf d)
 -- when the host has to tick next, as the machine has it
 abbrev pub Awaited : Device → NextDeadline → Type 0
 Awaited d n = n ≡ nextDeadline (machineOf (stateOf d))
-
--- how many bytes a device has
-abbrev pub stateSize : ℕ
-stateSize = 32296
