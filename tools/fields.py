@@ -3,7 +3,9 @@
 In a template
   @each[ITEM]    stands for ITEM once for each field, in order: one line each where it is all of a line, else side by side
   @each:FUNCTION[ITEM]   the same for the fields that a function `crate::function` is lent: those that its parameters are named after
-                 ITEM has {name}; {type}, {zero}: the field's type and a value of it that is all zeros, in the file's language; {member}: the member of a C struct, with the comment of entries.txt
+  @rest:FUNCTION[ITEM]   the same for the other fields
+                 ITEM has {name}; {type}, {zero}: the field's type and a value of it that is all zeros, in the file's language; {member}: the member of a C struct, with the comment of entries.txt;
+                 {steps}: the steps that a proof's path has for the field, copied into a local and lent: two for an array, one for a number
   @binders       stands for the fields as arguments with their types, (ids .. : List ℕ) (top .. : ℕ) ..
   @size          stands for how many bytes the device has
 The first line of what is written says where it comes from. It is a part of tools/generate."""
@@ -30,7 +32,7 @@ def value(field, member, language):
         kind, zero = ('List ℕ', f'(replicate {first + "".join(w.title() for w in more)} 0)') if size else ('ℕ', '0')
     else:
         kind, zero = (f'[{element}; laws::{size}]', f'[0{element}; laws::{size}]') if size else (element, f'0{element}')
-    return {'name': field.name, 'type': kind, 'zero': zero, 'member': member}
+    return {'name': field.name, 'type': kind, 'zero': zero, 'member': member, 'steps': '.before .before' if size else '.before'}
 
 
 def lent(path, names):
@@ -45,13 +47,14 @@ def expanded(text, found, language):
     values = [value(f, m, language) for f, m in zip(found, members(found))]
     names = [f.name for f in found]
 
-    def items(path, item):
+    def items(word, path, item):
         some = lent(path, names) if path else names
-        return [re.sub(r'\{(name|type|zero|member)\}', lambda m: v[m.group(1)], item) for v in values if v['name'] in some]
+        some = [n for n in names if n not in some] if word == 'rest' else some
+        return [re.sub(r'\{(name|type|zero|member|steps)\}', lambda m: v[m.group(1)], item) for v in values if v['name'] in some]
 
-    each = r'@each(?::([\w:]+))?\[([^]\n]*)\]'
-    text = re.sub(f'^( *){each}$', lambda m: '\n'.join(m.group(1) + x for x in items(m.group(2), m.group(3))), text, flags=re.M)
-    text = re.sub(each, lambda m: ' '.join(items(m.group(1), m.group(2))), text)
+    each = r'@(each|rest)(?::([\w:]+))?\[([^]\n]*)\]'
+    text = re.sub(f'^( *){each}$', lambda m: '\n'.join(m.group(1) + x for x in items(*m.groups()[1:])), text, flags=re.M)
+    text = re.sub(each, lambda m: ' '.join(items(*m.groups())), text)
     groups = itertools.groupby(found, key=lambda f: 'List ℕ' if f.size else 'ℕ')
     text = text.replace('@binders', ' '.join(f'({" ".join(f.name for f in fs)} : {kind})' for kind, fs in groups))
     return text.replace('@size', str(sources.bytes_of('crates', found)))

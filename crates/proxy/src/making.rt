@@ -5,7 +5,7 @@ ghost use mathlib.Core.Bool.{true};
 ghost use Rattle.settings.specs.Grammar.{valid};
 ghost use Rattle.settings.specs.Values.{settings, valueOf};
 ghost use Rattle.proxy.specs.State.{kept, valueIn, lent, Settled};
-ghost use Rattle.proxy.specs.Calls.{Freshened};
+ghost use Rattle.proxy.specs.Calls.{Adopts, Freshened};
 
 // Puts a valid value, whose columns are lent, into the state's settings.
 fn adopt<'a, 'b>(
@@ -28,6 +28,52 @@ fn adopt<'a, 'b>(
     *join = from_join;
     *tagged = from_tags;
     values::tagwords::fill_words(from_tags, addr, width, sign, tags);
+}
+
+// Puts a value whose fields are lent into the state's settings. An invalid value is refusal 10, and the settings are then the usual ones.
+pub fn adopt_value<'a, 'b>(
+    timeout: &'a mut u32,
+    join: &'a mut u32,
+    tagged: &'a mut u32,
+    tags: &'a mut [u64; laws::MOST_TAGS],
+    from_timeout: &'b u32,
+    from_join: &'b u32,
+    from_tags: &'b u32,
+    addr: &'b [u16; laws::MOST_TAGS],
+    width: &'b [u16; laws::MOST_TAGS],
+    sign: &'b [u16; laws::MOST_TAGS],
+) -> Answer
+    ensures { λ r. ⌜ Adopts (settings (now («from_timeout» .entry)) (now («from_join» .entry)) (now («from_tags» .entry)) (now (addr .entry)) (now (width .entry)) (now (sign .entry))) r (kept (now (timeout .exit)) (now (join .exit)) (now (tagged .exit)) (now (tags .exit))) ⌝ }
+{
+    if values::is_valid(*from_timeout, *from_join, *from_tags, addr, width, sign) {
+        adopt(
+            timeout,
+            join,
+            tagged,
+            tags,
+            *from_timeout,
+            *from_join,
+            *from_tags,
+            addr,
+            width,
+            sign,
+        );
+        return Answer::Done;
+    }
+    // Timeout 3000, join 1 and no tags: of the columns nothing is listed.
+    adopt(
+        timeout,
+        join,
+        tagged,
+        tags,
+        laws::USUAL_TIMEOUT,
+        1,
+        0,
+        addr,
+        width,
+        sign,
+    );
+    Answer::Refused { number: 10 }
 }
 
 // Makes the lent state fresh, whatever it was, from a value whose fields are lent. An invalid value is refusal 10, and the state is then made from the usual one.
@@ -69,33 +115,16 @@ pub fn fresh<'a, 'b>(
     *cursor = 0;
     *attached = 0;
     *clock = 0;
-    if values::is_valid(*from_timeout, *from_join, *from_tags, addr, width, sign) {
-        adopt(
-            timeout,
-            join,
-            tagged,
-            tags,
-            *from_timeout,
-            *from_join,
-            *from_tags,
-            addr,
-            width,
-            sign,
-        );
-        return Answer::Done;
-    }
-    // Timeout 3000, join 1 and no tags: of the columns nothing is listed.
-    adopt(
+    adopt_value(
         timeout,
         join,
         tagged,
         tags,
-        laws::USUAL_TIMEOUT,
-        1,
-        0,
+        from_timeout,
+        from_join,
+        from_tags,
         addr,
         width,
         sign,
-    );
-    Answer::Refused { number: 10 }
+    )
 }

@@ -1,4 +1,4 @@
--- `replies::replied` meets its contract: what the core does over the columns that it is lent it does to the columns that have them.
+-- `replies::replied` meets its contract: what the core does over the columns that it is lent it does to the columns that have them. Written by tools/fields.py from Proof.antt.in.
 -- Assumes nothing.
 use Rattle.state.specs.Fields.{columned}
 use borrow.Author.Needs.{needs}
