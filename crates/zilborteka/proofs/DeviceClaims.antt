@@ -292,10 +292,10 @@ module _ (from : Settings) {r : Report} {d d′ : Device} (ls : List Line) (fres
       let w = claim.the-next-deadline-is-this v xs in (
         λ id x c u z. let y = claim.which-ids-are-live v xs id x c u .1 (rw (lived .told) at z) in rw (same, ← y .6) (w .first (y .0) (y .1) (y .2)),
         ⊎-elim
-        (λ e. inl (ap (λ (y : NextDeadline). y .time) same ∙ e))
-        (λ (y : (k : ℕ) × (e : Live What Note) × (at (m .book) k ≡ some e) × (e .deadline ≡ nextDeadline m .time)).
-        inr (y .1 .id, y .1 .what, y .1 .by, rw (lived .told, same, ← y .3) (lives-as v xs (y .0) (y .1) (y .2))))
-        (w .taken),
+            (λ e. inl (ap (λ (y : NextDeadline). y .time) same ∙ e))
+            (λ (y : (k : ℕ) × (e : Live What Note) × (at (m .book) k ≡ some e) × (e .deadline ≡ nextDeadline m .time)).
+            inr (y .1 .id, y .1 .what, y .1 .by, rw (lived .told, same, ← y .3) (lives-as v xs (y .0) (y .1) (y .2))))
+            (w .taken),
         ap (λ (y : NextDeadline). y .live) same ∙ w .many ∙ ap (λ (y : Machine). count (λ k. isLive (at (y .book) k)) places) (sym (lived .after)),
       )
 
