@@ -142,7 +142,7 @@ typedef struct {
     uint64_t time;
     uint32_t live;
 } zb_next;
-zb_next   zb_next_deadline(zb_state *st);
+zb_next   zb_next_deadline(const zb_state *st);
 
 zb_answer zb_split(const uint8_t *run, size_t run_len);
 

@@ -1,5 +1,6 @@
-// Which live read a request spoils once it is issued, by the words of both.
+// Which live read a request spoils once it is issued, by what it asks and the word of that.
 ghost use mathlib.Core.Path.{_≡_};
+ghost use Rattle.pdu.specs.Replies.{What};
 ghost use Rattle.pdu.specs.Words.{whatOf};
 ghost use Rattle.pdu.specs.Spoiling.{sameTable, overlap as overlapping, meets as meeting, spoils as spoiling};
 use crate::words::asked_in;
@@ -79,9 +80,9 @@ fn meets(asked: Asked, held: Asked) -> bool
     }
 }
 
-// Whether the request of `word` spoils the live request of `held`: the unit is equal, and it meets that.
-pub fn spoils(word: u64, held: u64) -> bool
-    ensures { λ r. ⌜ r ≡ spoiling (whatOf word) (whatOf held) ⌝ }
+// Whether a request to `unit` that asks `asked` spoils the live request of `held`: the unit is equal, and it meets that.
+pub fn spoils(unit: u8, asked: Asked, held: u64) -> bool
+    ensures { λ r. ⌜ ((w : What) → w .unit ≡ unit → w .asked ≡ asked → r ≡ spoiling w (whatOf held)) ⌝ }
 {
-    (unit_in(word) == unit_in(held)) & meets(asked_in(word), asked_in(held))
+    (unit == unit_in(held)) & meets(asked, asked_in(held))
 }

@@ -1,18 +1,24 @@
--- A device that these calls made has what the cores of detach and of the next deadline ask for; and a device of all zeros is such a device, with nobody attached.
+-- A device that these calls made has what the cores of detach and of the next deadline ask for, and what the latter finds in its columns is the machine's; and a device of all zeros is such a device, with nobody attached.
 -- Assumes nothing.
 use prog.Memory.{size}
 use Prim.Native.Nat.{ℕ, _≤_}
-use mathlib.Core.Path.{_≡_, refl, ap}
+use mathlib.Core.Path.{_≡_, refl, ap, _∙_}
 use mathlib.Core.Bool.{false}
+use lib.ListN.{getD}
 use Rattle.laws.specs.Numbers.{places}
 use Rattle.laws.specs.Bits.{has}
+use Rattle.laws.specs.Search.{least, count}
+use Rattle.machine.specs.Waiting.{noDeadline}
+use Rattle.machine.specs.declared.NextDeadline.{NextDeadline}
 use Rattle.table.specs.Changes.{Runs}
+use Rattle.table.specs.Places.{isTaken}
 use Rattle.table.proofs.EntryLaws.{runs-of}
-use Rattle.proxy.specs.State.{State}
+use Rattle.table.proofs.FindLaws.{next-time, next-live}
+use Rattle.proxy.specs.State.{State, valueIn}
 use Rattle.proxy.proofs.MakingLaws.{zeros-sound}
 use Rattle.device.specs.declared.Device.{Device}
-use Rattle.device.specs.Fields.{device, stateOf, zeros}
-use Rattle.device.specs.Device.{Made, stateSize}
+use Rattle.device.specs.Fields.{device, stateOf, zeros, stateSize}
+use Rattle.device.specs.Device.{Made, Awaited}
 use Rattle.device.proofs.Device.Laws.{mir}
 
 pub may-detach : (d : Device) → Made d → Runs (d .counts) (d .clients) (d .originals) × (d .top ≤ places)
@@ -20,6 +26,15 @@ may-detach d made = (runs-of (stateOf d .table) (made .table), made .table .with
 
 pub may-await : (d : Device) → Made d → d .top ≤ places
 may-await d made = made .table .within
+
+-- The least deadline of the live places, and how many they are, are when the host has to tick next.
+pub awaited : (d : Device) → Made d → {n : NextDeadline}
+    → (n .time ≡ least (isTaken (d .ids)) (λ k. getD (d .deadlines) k 0) noDeadline (d .top)) × (n .live ≡ count (isTaken (d .ids)) (d .top))
+    → Awaited d n
+awaited d made found =
+    let s = stateOf d in
+    let v = valueIn (s .settings) in
+    rw (found .0 ∙ next-time v _ (s .cursor) (s .clock) (made .table) (s .attached), found .1 ∙ next-live v _ (s .cursor) (s .clock) (made .table) (s .attached))
 
 -- A host that forgets to make its device fresh has a sound one, to which nobody is attached.
 pub zeros-made : Made zeros × ((client : ℕ) → has (zeros .attached) client ≡ false)

@@ -1,12 +1,2 @@
 pub mod DeviceLaws
-pub mod Fields
-pub mod EntryFresh
-pub mod EntryAttach
-pub mod EntryDetach
-pub mod EntryRequest
-pub mod EntryReply
-pub mod EntryTick
-pub mod EntryLinkLost
-pub mod EntryNextDeadline
-pub mod SettingsFields
-pub mod EntryWrite
+pub mod written

@@ -1,13 +1,15 @@
 -- What every device has that these calls made, and what an entry point does to it.
 -- Assumes nothing.
 use Prim.Native.Nat.{ℕ}
+use mathlib.Core.Path.{_≡_}
 use mathlib.Core.List.{List}
 use Rattle.settings.specs.declared.Settings.{Settings}
 use Rattle.machine.specs.Calls.{Call}
 use Rattle.machine.specs.declared.Report.{Report}
 use Rattle.machine.specs.declared.NextDeadline.{NextDeadline}
-use Rattle.proxy.specs.State.{Sounds}
-use Rattle.proxy.specs.Calls.{Told, FreshlyTold, Awaits}
+use Rattle.machine.specs.Waiting.{nextDeadline}
+use Rattle.proxy.specs.State.{machineOf, Sounds}
+use Rattle.proxy.specs.Calls.{Told, FreshlyTold}
 use Rattle.device.specs.declared.Device.{Device}
 use Rattle.device.specs.Fields.{stateOf}
 
@@ -24,10 +26,6 @@ Served d x r d′ w l = Told (stateOf d) x r (stateOf d′) w l
 abbrev pub Freshly : Settings → Report → Device → Type 0
 Freshly from r d = FreshlyTold from r (stateOf d)
 
--- when the host has to tick next, as the machine has it; the device stays
-abbrev pub Awaited : Device → NextDeadline → Device → Type 0
-Awaited d n d′ = Awaits (stateOf d) n (stateOf d′)
-
--- how many bytes a device has
-abbrev pub stateSize : ℕ
-stateSize = 32296
+-- when the host has to tick next, as the machine has it
+abbrev pub Awaited : Device → NextDeadline → Type 0
+Awaited d n = n ≡ nextDeadline (machineOf (stateOf d))

@@ -1,4 +1,4 @@
--- A device of its fields, the state that they are, and the device that is all zeros. Written by tools/fields.py from Fields.antt.in.
+-- A device of its fields, the state that they are, the device that is all zeros, and how many bytes a device has. Written by tools/fields.py from Fields.antt.in.
 -- Assumes nothing.
 use Prim.Native.Nat.{ℕ}
 use mathlib.Core.List.{List}
@@ -35,3 +35,7 @@ stateOf d = lent (d .ids) (d .asked) (d .callers) (d .deadlines) (d .counts) (d 
 -- the device that is all zeros
 abbrev pub zeros : Device
 zeros = device (replicate places 0) (replicate places 0) (replicate places 0) (replicate places 0) (replicate places 0) (replicate partyPlaces 0) (replicate partyPlaces 0) 0 0 0 0 0 0 0 (replicate mostTags 0)
+
+-- how many bytes a device has
+abbrev pub stateSize : ℕ
+stateSize = 32296

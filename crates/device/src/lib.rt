@@ -1,6 +1,6 @@
 // The device that a host lends, and how the fields of a device are lent to a core. Written by tools/fields.py from lib.rt.in.
 ghost use mathlib.Core.Path.{_≡_};
-ghost use Rattle.device.specs.Device.{stateSize};
+ghost use Rattle.device.specs.Fields.{stateSize};
 
 // The device's state, changed in place: C's struct zb_state.
 #[repr(C)]
@@ -22,8 +22,7 @@ pub struct Device {
     pub tags: [u64; laws::MOST_TAGS],
 }
 
-// The fields' sizes in order, each at a multiple of its element's: 1024 + 2048 + 256 + 2048 + 256 + 8192 + 16384 bytes of columns, then at 30208
-// top, cursor and 2 unused bytes, attached, 4 unused, clock at 30224, timeout, join, tagged, 4 unused, and 2048 bytes of tags at 30248.
+// The fields lie in their order, each at a multiple of its element's size.
 const STATE_SIZE: usize = 32296;
 
 // How many bytes a device has.

@@ -1,4 +1,5 @@
 // Searches over the places: they stop at the last live place.
+use machine::NextDeadline;
 use pdu::ProxyId;
 ghost use mathlib.Core.Path.{_≡_};
 ghost use Prim.Native.Nat.{ℕ, _+_, _<_, _≤_};
@@ -39,7 +40,7 @@ fn deadline_at(ids: &[u32; laws::PLACES], deadlines: &[u64; laws::PLACES], k: us
 }
 
 // The least deadline of the live places, and NO_DEADLINE where none is live.
-pub fn least_deadline(ids: &[u32; laws::PLACES], deadlines: &[u64; laws::PLACES], top: usize) -> u64
+fn least_deadline(ids: &[u32; laws::PLACES], deadlines: &[u64; laws::PLACES], top: usize) -> u64
     requires { ⌜ top ≤ places ⌝ }
     ensures { λ r. ⌜ r ≡ least (isTaken (now (ids .entry))) (λ k. getD (now (deadlines .entry)) k 0) noDeadline top ⌝ }
 {
@@ -56,7 +57,7 @@ pub fn least_deadline(ids: &[u32; laws::PLACES], deadlines: &[u64; laws::PLACES]
 }
 
 // How many places are live.
-pub fn count_live(ids: &[u32; laws::PLACES], top: usize) -> u32
+fn count_live(ids: &[u32; laws::PLACES], top: usize) -> u32
     requires { ⌜ top ≤ places ⌝ }
     ensures { λ r. ⌜ r ≡ count (isTaken (now (ids .entry))) top ⌝ }
 {
@@ -69,6 +70,21 @@ pub fn count_live(ids: &[u32; laws::PLACES], top: usize) -> u32
         k += 1;
     }
     live
+}
+
+// When the host has to tick next: the least deadline of the live places, and how many they are.
+pub fn next_deadline<'a>(
+    ids: &'a [u32; laws::PLACES],
+    deadlines: &'a [u64; laws::PLACES],
+    top: &'a u32,
+) -> NextDeadline
+    requires { ⌜ now top ≤ places ⌝ }
+    ensures { λ r. ⌜ (r .time ≡ least (isTaken (now (ids .entry))) (λ k. getD (now (deadlines .entry)) k 0) noDeadline (now (top .entry))) × (r .live ≡ count (isTaken (now (ids .entry))) (now (top .entry))) ⌝ }
+{
+    let end = *top as usize;
+    let time = least_deadline(ids, deadlines, end);
+    let live = count_live(ids, end);
+    NextDeadline { time, live }
 }
 
 fn is_due(ids: &[u32; laws::PLACES], deadlines: &[u64; laws::PLACES], time: u64, k: usize) -> bool

@@ -28,12 +28,18 @@ shortList l = ltb (length l) listBuffer
 abbrev pub aboveLast : ℕ → Bool
 aboveLast c = leb clients c
 
+abbrev pub isStrangeTo : (attached c : ℕ) → Bool
+isStrangeTo attached c = aboveLast c || not (has attached c)
+
 abbrev pub isStranger : Machine → ℕ → Bool
-isStranger m c = aboveLast c || not (has (m .attached) c)
+isStranger m c = isStrangeTo (m .attached) c
 
 -- 3: time above 2^63 − 1, or below the state's clock
+abbrev pub isUntimelyAt : (clock t : ℕ) → Bool
+isUntimelyAt clock t = ltb latestTime t || ltb t clock
+
 abbrev pub isUntimely : Machine → ℕ → Bool
-isUntimely m t = ltb latestTime t || ltb t (m .book .clock)
+isUntimely m t = isUntimelyAt (m .book .clock) t
 
 -- 7: the reply's id is not live; 8: it is live but the reply does not answer that request
 abbrev pub isDead : Option (Live What Note) → Bool

@@ -2,30 +2,27 @@
 -- Assumes nothing.
 use Prim.Native.Nat.{ℕ, _≤_, _<_, _^_}
 use mathlib.Core.Path.{_≡_, refl, ap, sym, _∙_}
-use mathlib.Core.Logic.{⊎-elim}
-use mathlib.Core.Bool.{true, false, not, _||_}
+use mathlib.Core.Bool.{true, false, not}
 use mathlib.Core.Option.{none}
 use mathlib.Core.List.{List, []}
 use native.Mathlib.Omega.{arith}
 use lib.ListN.{replicate, length-replicate}
 use lib.Pow.{pow-pos}
-use lib.Dec.{leb}
 use borrow.Author.Tests.{le-leb, lt-leb, leb-false}
 use Rattle.laws.specs.Numbers.{clients, places}
 use Rattle.laws.specs.Bits.{has, with, without}
 use Rattle.laws.proofs.BitLaws.{with-low, without-low}
-use Rattle.laws.proofs.Choice.{true-or, lt-or, or-left}
+use Rattle.laws.proofs.Choice.{or-left}
 use Rattle.laws.proofs.ListLaws.{tab-ext, tab-repeat, getD-repeat}
 use Rattle.settings.specs.Grammar.{Value}
 use Rattle.book.specs.Book.{book, apply}
 use Rattle.book.specs.Book.Move.{wipe}
-use Rattle.machine.specs.Machine.{Live-book, machine, rules}
-use Rattle.machine.specs.Calls.{Outcome, done, outOf, listOf}
+use Rattle.machine.specs.Machine.{machine, rules}
+use Rattle.machine.specs.Calls.{done, outOf, listOf}
 use Rattle.machine.specs.Calls.Call.{attach, detach, linkLost}
-use Rattle.machine.specs.Refusals.{rows, lowest, refusal, isStranger}
+use Rattle.machine.specs.Refusals.{rows, lowest, refusal, isStrangeTo, isStranger}
 use Rattle.machine.specs.Numbers.{numbers}
 use Rattle.machine.specs.Outcomes.{granted, outcome}
-use Rattle.machine.specs.declared.Answer.{Answer}
 use Rattle.machine.specs.declared.Answer.the-variants.{Refused, Done as Finished, Lost}
 use Rattle.machine.proofs.OutcomeLaws.{granted-is, refused-is}
 use Rattle.table.specs.Columns.{Columns, columns, entryAt, tableOf, bookOf, Sound}
@@ -37,45 +34,27 @@ use Rattle.proxy.specs.Calls.{Does}
 use Rattle.proxy.proofs.StateLaws.{still-sound}
 
 -- who is no stranger has a client's number
-pub no-stranger : (set client : ℕ) → (leb clients client || not (has set client)) ≡ false → client < clients
+pub no-stranger : (set client : ℕ) → isStrangeTo set client ≡ false → client < clients
 no-stranger set client t = leb-false clients client (or-left _ (not (has set client)) t)
 
-module _ (b : Live-book) (set client : ℕ) where
+module _ (s : State) (sounds : Sounds s) where
   -- Attach above the last client is refusal 2.
-  pub attach-above : clients ≤ client → done (Refused 2) (machine b set) [] [] ≡ outcome (machine b set) (attach client)
+  pub attach-above : (client : ℕ) → clients ≤ client → Does s (attach client) (Refused 2) s [] []
   unfolding rows lowest outOf listOf
-  attach-above h = refused-is (machine b set) (attach client) 2 (rw (le-leb clients client h)) (λ z. omega arith)
+  attach-above client h = (refused-is (machineOf s) (attach client) 2 (rw (le-leb clients client h)) (λ z. omega arith), sounds, λ h. refl)
 
   -- Attach of an attached client is refusal 9.
-  pub attach-again : client < clients → has set client ≡ true → done (Refused 9) (machine b set) [] [] ≡ outcome (machine b set) (attach client)
+  pub attach-again : (client : ℕ) → client < clients → has (s .attached) client ≡ true → Does s (attach client) (Refused 9) s [] []
   unfolding rows lowest outOf listOf
-  attach-again h t = refused-is (machine b set) (attach client) 9 (rw (lt-leb clients client h) (rw t refl)) (λ z. omega arith)
+  attach-again client h t = (refused-is (machineOf s) (attach client) 9 (rw (lt-leb clients client h) (rw t refl)) (λ z. omega arith), sounds, λ h. refl)
 
   -- Attach of another puts it into the set.
-  pub attach-new : client < clients → has set client ≡ false → done Finished (machine b (with set client)) [] [] ≡ outcome (machine b set) (attach client)
-  unfolding rows lowest granted
-  attach-new h t = sym (granted-is (machine b set) (attach client) (rw (lt-leb clients client h) (rw t refl)))
-
-  -- and what attach leaves is a set of clients
-  attached-low : set < 2 ^ clients → outcome (machine b set) (attach client) .after .attached < 2 ^ clients
-  attached-low low =
-      ⊎-elim
-      (λ (h : client < clients). ⊎-elim
-      (λ t. rw (← attach-again h t) low)
-      (λ t. rw (← attach-new h t) (with-low clients set client low h))
-      (true-or (has set client)))
-      (λ (h : clients ≤ client). rw (← attach-above h) low)
-      (lt-or client clients)
-
-module _ (s : State) (sounds : Sounds s) where
-  -- Attach on any book is attach on this state, keeps it sound, and leaves it where it is refused.
-  pub attach-does : (client set : ℕ) (answer : Answer) → ((b : Live-book) → done answer (machine b set) [] [] ≡ outcome (machine b (s .attached)) (attach client))
-      → ((numbers answer .refusal ≡ 0 → ⊥) → set ≡ s .attached)
-      → Does s (attach client) answer (lentSet s set) [] []
-  attach-does client set answer e stays = (
-    e (machineOf s .book),
-    still-sound s sounds (sounds .table) (rw (ap (λ (d : Outcome). d .after .attached) (e (machineOf s .book))) (attached-low (machineOf s .book) (s .attached) client (sounds .attached))),
-    λ h. ap (lentSet s) (stays h),
+  pub attach-new : (client : ℕ) → client < clients → has (s .attached) client ≡ false → Does s (attach client) Finished (lentSet s (with (s .attached) client)) [] []
+  unfolding rows lowest granted numbers
+  attach-new client h t = (
+    sym (granted-is (machineOf s) (attach client) (rw (lt-leb clients client h) (rw t refl))),
+    still-sound s sounds (sounds .table) (with-low clients (s .attached) client (sounds .attached) h),
+    λ h. absurd (h refl),
   )
 
   -- Detach of a stranger is refusal 2.

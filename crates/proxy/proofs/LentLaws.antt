@@ -4,7 +4,7 @@ use Prim.Native.Nat.{ℕ}
 use mathlib.Core.Path.{_≡_, refl}
 use mathlib.Core.List.{List}
 use Rattle.table.specs.Columns.{Columns}
-use Rattle.proxy.specs.State.{State, lentSet, lentParties, lentIds, lentDeadlines, lentTable}
+use Rattle.proxy.specs.State.{Kept, State, lentSet, lentParties, lentIds, lentTable, lentKept}
 
 module _ (s : State) where
   -- its table as it is
@@ -20,11 +20,11 @@ module _ (s : State) where
   pub ids-own : lentIds s (own .ids) (own .top) (s .attached) ≡ s
   ids-own = refl
 
-  pub deadlines-own : lentDeadlines s (own .ids) (own .deadlines) (own .top) ≡ s
-  deadlines-own = refl
-
   pub table-own : lentTable s (own .ids) (own .asked) (own .callers) (own .deadlines) (own .counts) (own .clients) (own .originals) (own .top) (s .clock) ≡ s
   table-own = refl
+
+  pub kept-own : let k = s .settings in lentKept s (own .ids) (own .asked) (own .callers) (own .deadlines) (own .counts) (own .clients) (own .originals) (own .top) (s .clock) (k .timeout) (k .join) (k .tagged) (k .tags) ≡ s
+  kept-own = refl
 
   module _ (top attached : ℕ) where
     pub set-lent : lentSet s attached .attached ≡ attached
@@ -37,9 +37,11 @@ module _ (s : State) where
     pub ids-lent : (ids : List ℕ) → let l = lentIds s ids top attached in (l .table .ids ≡ ids) × (l .table .top ≡ top) × (l .attached ≡ attached)
     ids-lent ids = (refl, refl, refl)
 
-    pub deadlines-lent : (ids deadlines : List ℕ) → let l = lentDeadlines s ids deadlines top in (l .table .ids ≡ ids) × (l .table .deadlines ≡ deadlines) × (l .table .top ≡ top)
-    deadlines-lent ids deadlines = (refl, refl, refl)
-
   pub table-lent : (c : Columns) (clock : ℕ)
       → let l = lentTable s (c .ids) (c .asked) (c .callers) (c .deadlines) (c .counts) (c .clients) (c .originals) (c .top) clock in (l .table ≡ c) × (l .clock ≡ clock)
   table-lent c clock = (refl, refl)
+
+  pub kept-lent : (c : Columns) (clock : ℕ) (k : Kept)
+      → let l = lentKept s (c .ids) (c .asked) (c .callers) (c .deadlines) (c .counts) (c .clients) (c .originals) (c .top) clock (k .timeout) (k .join) (k .tagged) (k .tags) in
+      (l .table ≡ c) × (l .clock ≡ clock) × (l .settings ≡ k)
+  kept-lent c clock k = (refl, refl, refl)

@@ -31,6 +31,7 @@ use Rattle.table.proofs.EntryLaws.{blank-table}
 use Rattle.table.proofs.ChangeLaws.{clear-sound}
 use Rattle.proxy.specs.State.{State, Kept, kept, valueIn, state, machineOf, Settled, Sounds}
 use Rattle.proxy.specs.Gates.{adopted, makingAnswer}
+use Rattle.proxy.specs.Calls.{Adopts, Freshened}
 
 -- the usual value is valid
 pub usual-valid : valid usual ≡ true
@@ -90,13 +91,16 @@ usual-settings addr width sign = refl
 zeroed-sound : (c : Columns) (k : Kept) → c ≡ blank → Settled k → Sounds (state c 0 0 0 k)
 zeroed-sound c k e q = record { table = clear-sound c e; cursor = omega arith; attached = pow-pos clients; settings = q }
 
+-- What keeps the value that is adopted adopts it, beside the answer.
+pub takes : (from : Settings) {w : Value} {answer : Answer} {k : Kept} → (makingAnswer (valueOf from) ≡ answer) × (adopted (valueOf from) ≡ w) → Keeps k w → Adopts from answer k
+takes from a q = (sym (a .0), q .0 ∙ sym (a .1), q .1)
+
 -- Columns of zeros with what was adopted are the fresh state, beside the answer.
-pub made-fresh : (from w : Value) (answer : Answer) (c : Columns) (k : Kept) → (makingAnswer from ≡ answer) × (adopted from ≡ w) → c ≡ blank → Keeps k w
-    → (answer ≡ makingAnswer from) × (machineOf (state c 0 0 0 k) ≡ made (adopted from)) × Sounds (state c 0 0 0 k)
-made-fresh from w answer c k a e q = (
-  sym (a .0),
-  ap (λ v. machine (book v (tableOf c) 0 0) 0) (q .0 ∙ sym (a .1)) ∙ ap (λ l. machine (book (adopted from) l 0 0) 0) (ap tableOf e ∙ blank-table),
-  zeroed-sound c k e (q .1),
+pub made-fresh : (from : Settings) (answer : Answer) (c : Columns) (k : Kept) → c ≡ blank → Adopts from answer k → Freshened from answer (state c 0 0 0 k)
+made-fresh from answer c k e a = (
+  a .0,
+  ap (λ v. machine (book v (tableOf c) 0 0) 0) (a .1) ∙ ap (λ l. machine (book (adopted (valueOf from)) l 0 0) 0) (ap tableOf e ∙ blank-table),
+  zeroed-sound c k e (a .2),
 )
 
 -- the state that is all zeros

@@ -10,11 +10,9 @@ use Rattle.machine.specs.Machine.{made}
 use Rattle.machine.specs.Calls.{Call, done}
 use Rattle.machine.specs.Numbers.{numbers, reported, numbered}
 use Rattle.machine.specs.Outcomes.{outcome}
-use Rattle.machine.specs.Waiting.{nextDeadline}
 use Rattle.machine.specs.declared.Answer.{Answer}
 use Rattle.machine.specs.declared.Report.{Report}
-use Rattle.machine.specs.declared.NextDeadline.{NextDeadline}
-use Rattle.proxy.specs.State.{State, machineOf, Sounds}
+use Rattle.proxy.specs.State.{Kept, State, valueIn, machineOf, Settled, Sounds}
 use Rattle.proxy.specs.Gates.{adopted, makingAnswer}
 
 -- a refusal leaves every column and every number as it was, also where the machine would not show it
@@ -29,6 +27,10 @@ Does s x answer s′ w l = (done answer (machineOf s′) w l ≡ outcome (machin
 abbrev pub Told : State → Call → Report → State → (written listed : List ℕ) → Type 0
 Told s x r s′ w l = (reported r (machineOf s′) w l ≡ numbered (outcome (machineOf s) x)) × Sounds s′ × ((r .refusal ≡ 0 → ⊥) → s′ ≡ s)
 
+-- what is kept of a value: itself, or the usual one beside refusal 10
+abbrev pub Adopts : Settings → Answer → Kept → Type 0
+Adopts from answer k = (answer ≡ makingAnswer (valueOf from)) × (valueIn k ≡ adopted (valueOf from)) × Settled k
+
 -- a fresh state: the machine that document 01 makes from the value, or from the usual one beside refusal 10
 abbrev pub Freshened : Settings → Answer → State → Type 0
 Freshened from answer s = (answer ≡ makingAnswer (valueOf from)) × (machineOf s ≡ made (adopted (valueOf from))) × Sounds s
@@ -36,7 +38,3 @@ Freshened from answer s = (answer ≡ makingAnswer (valueOf from)) × (machineOf
 -- the same with the report for a C host in place of the answer
 abbrev pub FreshlyTold : Settings → Report → State → Type 0
 FreshlyTold from r s = (r ≡ numbers (makingAnswer (valueOf from))) × (machineOf s ≡ made (adopted (valueOf from))) × Sounds s
-
--- when the host has to tick next, as the machine has it; the state stays
-abbrev pub Awaits : State → NextDeadline → State → Type 0
-Awaits s n s′ = (n ≡ nextDeadline (machineOf s)) × (s′ ≡ s)

@@ -1,15 +1,14 @@
 -- The refusals that are told before a frame is looked into, and the settings and the answer of a fresh state.
 -- Assumes nothing.
 use Prim.Native.Nat.{ℕ}
-use mathlib.Core.Bool.{cond, not, _||_}
+use mathlib.Core.Bool.{cond, _||_}
 use mathlib.Core.List.{List, [], _∷_}
-use lib.Dec.{ltb, leb}
-use Rattle.laws.specs.Numbers.{clients, latestTime, frameBuffer, listBuffer}
-use Rattle.laws.specs.Bits.{has}
+use lib.Dec.{ltb}
+use Rattle.laws.specs.Numbers.{frameBuffer, listBuffer}
 use Rattle.wire.specs.Frame.{misframed}
 use Rattle.settings.specs.Grammar.{Value, valid}
 use Rattle.settings.specs.Values.{usual}
-use Rattle.machine.specs.Refusals.{row, lowest}
+use Rattle.machine.specs.Refusals.{row, lowest, isStrangeTo, isUntimelyAt}
 use Rattle.machine.specs.declared.Answer.{Answer}
 use Rattle.machine.specs.declared.Answer.the-variants.{Refused, Done}
 
@@ -18,19 +17,19 @@ unfoldable pub requestGate : (out client attached time clock : ℕ) → List ℕ
 requestGate out client attached time clock f =
     lowest
     (row 1 (ltb out frameBuffer)
-    ∷ row 2 (leb clients client || not (has attached client))
-    ∷ row 3 (ltb latestTime time || ltb time clock)
+    ∷ row 2 (isStrangeTo attached client)
+    ∷ row 3 (isUntimelyAt clock time)
     ∷ row 4 (misframed f)
     ∷ [])
 
 -- 1 and 3 of a tick: the buffers' lengths, the time, the clock
 unfoldable pub tickGate : (out list time clock : ℕ) → ℕ
-tickGate out list time clock = lowest (row 1 (ltb out frameBuffer || ltb list listBuffer) ∷ row 3 (ltb latestTime time || ltb time clock) ∷ [])
+tickGate out list time clock = lowest (row 1 (ltb out frameBuffer || ltb list listBuffer) ∷ row 3 (isUntimelyAt clock time) ∷ [])
 
 -- 1, 3 and 4 of a reply
 unfoldable pub replyGate : (out list time clock : ℕ) → List ℕ → ℕ
 replyGate out list time clock f =
-    lowest (row 1 (ltb out frameBuffer || ltb list listBuffer) ∷ row 3 (ltb latestTime time || ltb time clock) ∷ row 4 (misframed f) ∷ [])
+    lowest (row 1 (ltb out frameBuffer || ltb list listBuffer) ∷ row 3 (isUntimelyAt clock time) ∷ row 4 (misframed f) ∷ [])
 
 -- a fresh state is made from a valid value, and else from timeout 3000, join 1 and no tags
 unfoldable pub adopted : Value → Value

@@ -43,7 +43,7 @@ lent ids asked callers deadlines counts clients originals top cursor attached cl
 abbrev pub seated : State → Columns → (attached clock : ℕ) → State
 seated s c a t = state c (s .cursor) a t (s .settings)
 
--- the state that some lent fields are, beside what else the state s has: the set alone; the parties; the ids; the ids and the deadlines; the table and the clock
+-- the state that some lent fields are, beside what else the state s has: the set alone; the parties; the ids; the table and the clock; these and the settings
 abbrev pub lentSet : State → (attached : ℕ) → State
 lentSet s a = seated s (s .table) a (s .clock)
 
@@ -57,13 +57,12 @@ lentIds s ids top a =
     let c = s .table in
     seated s (columns ids (c .asked) (c .callers) (c .deadlines) (c .counts) (c .clients) (c .originals) top) a (s .clock)
 
-abbrev pub lentDeadlines : State → (ids deadlines : List ℕ) (top : ℕ) → State
-lentDeadlines s ids deadlines top =
-    let c = s .table in
-    seated s (columns ids (c .asked) (c .callers) deadlines (c .counts) (c .clients) (c .originals) top) (s .attached) (s .clock)
-
 abbrev pub lentTable : State → (ids asked callers deadlines counts clients originals : List ℕ) (top clock : ℕ) → State
 lentTable s ids asked callers deadlines counts clients originals top clock = seated s (columns ids asked callers deadlines counts clients originals top) (s .attached) clock
+
+abbrev pub lentKept : State → (ids asked callers deadlines counts clients originals : List ℕ) (top clock timeout join tagged : ℕ) (tags : List ℕ) → State
+lentKept s ids asked callers deadlines counts clients originals top clock timeout join tagged tags =
+    state (columns ids asked callers deadlines counts clients originals top) (s .cursor) (s .attached) clock (kept timeout join tagged tags)
 
 -- the machine that it is
 abbrev pub machineOf : State → Machine

@@ -3,17 +3,12 @@ use machine::Answer;
 ghost use mathlib.Core.Path.{_≡_};
 ghost use mathlib.Core.List.{[]};
 ghost use Prim.Native.Nat.{_<_, _≤_};
-ghost use mathlib.Core.Bool.{not, _||_};
-ghost use lib.Dec.{leb};
 ghost use Rattle.laws.specs.Numbers.{clients as clientCount, places};
 ghost use Rattle.laws.specs.Bits.{has};
-ghost use Rattle.machine.specs.Machine.{Live-book, machine};
-ghost use Rattle.machine.specs.Calls.{done};
 ghost use Rattle.machine.specs.Calls.Call.{attach as attaches, detach as detaches, linkLost};
-ghost use Rattle.machine.specs.Numbers.{numbers};
-ghost use Rattle.machine.specs.Outcomes.{outcome};
+ghost use Rattle.machine.specs.Refusals.{isStrangeTo};
 ghost use Rattle.table.specs.Changes.{Runs};
-ghost use Rattle.proxy.specs.State.{State, lentParties, lentIds, Sounds};
+ghost use Rattle.proxy.specs.State.{State, lentSet, lentParties, lentIds, Sounds};
 ghost use Rattle.proxy.specs.Calls.{Does};
 
 // Whether a client is in a set.
@@ -26,7 +21,7 @@ pub fn is_member(set: u32, client: u32) -> bool
 
 // Whether a client number is above the last, or not attached: refusal 2.
 pub fn is_stranger(attached: u32, client: u32) -> bool
-    ensures { λ r. ⌜ r ≡ (leb clientCount client || not (has attached client)) ⌝ }
+    ensures { λ r. ⌜ r ≡ isStrangeTo attached client ⌝ }
 {
     if client < laws::CLIENTS {
         !is_member(attached, client)
@@ -35,10 +30,9 @@ pub fn is_stranger(attached: u32, client: u32) -> bool
     }
 }
 
-// Attaches a client: refusal 2 above 31, refusal 9 where it is attached. Whatever the book is, only the set changes.
+// Attaches a client: refusal 2 above 31, refusal 9 where it is attached. Whatever the rest of the state is, it stays.
 pub fn attach(attached: &mut u32, client: u32) -> Answer
-    ensures { λ r. ⌜ ((b : Live-book) → done r (machine b (now (attached .exit))) [] [] ≡ outcome (machine b (now (attached .entry))) (attaches client)) ⌝ }
-    ensures { λ r. ⌜ ((numbers r .refusal ≡ 0 → ⊥) → now (attached .exit) ≡ now (attached .entry)) ⌝ }
+    ensures { λ r. ⌜ ((s : State) → Sounds (lentSet s (now (attached .entry))) → Does (lentSet s (now (attached .entry))) (attaches client) r (lentSet s (now (attached .exit))) [] []) ⌝ }
 {
     if laws::CLIENTS <= client {
         return Answer::Refused { number: 2 };
@@ -59,8 +53,7 @@ pub fn detach<'a>(
     attached: &'a mut u32,
     client: u32,
 ) -> Answer
-    requires { ⌜ Runs (now counts) (now clients) (now originals) ⌝ }
-    requires { ⌜ now top ≤ places ⌝ }
+    requires { ⌜ Runs (now counts) (now clients) (now originals) × (now top ≤ places) ⌝ }
     ensures { λ r. ⌜ ((s : State) → Sounds (lentParties s (now (counts .entry)) (now (clients .entry)) (now (originals .entry)) (now (top .entry)) (now (attached .entry)))
         → Does (lentParties s (now (counts .entry)) (now (clients .entry)) (now (originals .entry)) (now (top .entry)) (now (attached .entry))) (detaches client) r (lentParties s (now (counts .exit)) (now (clients .exit)) (now (originals .exit)) (now (top .exit)) (now (attached .exit))) [] []) ⌝ }
 {

@@ -5,7 +5,7 @@ ghost use mathlib.Core.Bool.{true};
 ghost use Rattle.settings.specs.Grammar.{valid};
 ghost use Rattle.settings.specs.Values.{settings, valueOf};
 ghost use Rattle.proxy.specs.State.{kept, valueIn, lent, Settled};
-ghost use Rattle.proxy.specs.Calls.{Freshened};
+ghost use Rattle.proxy.specs.Calls.{Adopts, Freshened};
 
 // Puts a valid value, whose columns are lent, into the state's settings.
 fn adopt<'a, 'b>(
@@ -30,54 +30,30 @@ fn adopt<'a, 'b>(
     values::tagwords::fill_words(from_tags, addr, width, sign, tags);
 }
 
-// Makes the lent state fresh, whatever it was, from a value whose columns are lent. An invalid value is refusal 10, and the state is then made from the usual one.
-pub fn fresh<'a, 'b>(
-    ids: &'a mut [u32; laws::PLACES],
-    asked: &'a mut [u64; laws::PLACES],
-    callers: &'a mut [u8; laws::PLACES],
-    deadlines: &'a mut [u64; laws::PLACES],
-    counts: &'a mut [u8; laws::PLACES],
-    clients: &'a mut [u8; laws::PARTY_PLACES],
-    originals: &'a mut [u16; laws::PARTY_PLACES],
-    top: &'a mut u32,
-    cursor: &'a mut u16,
-    attached: &'a mut u32,
-    clock: &'a mut u64,
+// Puts a value whose fields are lent into the state's settings. An invalid value is refusal 10, and the settings are then the usual ones.
+pub fn adopt_value<'a, 'b>(
     timeout: &'a mut u32,
     join: &'a mut u32,
     tagged: &'a mut u32,
     tags: &'a mut [u64; laws::MOST_TAGS],
-    from_timeout: u32,
-    from_join: u32,
-    from_tags: u32,
+    from_timeout: &'b u32,
+    from_join: &'b u32,
+    from_tags: &'b u32,
     addr: &'b [u16; laws::MOST_TAGS],
     width: &'b [u16; laws::MOST_TAGS],
     sign: &'b [u16; laws::MOST_TAGS],
 ) -> Answer
-    ensures { λ r. ⌜ Freshened (settings «from_timeout» «from_join» «from_tags» (now (addr .entry)) (now (width .entry)) (now (sign .entry))) r (lent (now (ids .exit)) (now (asked .exit)) (now (callers .exit)) (now (deadlines .exit)) (now (counts .exit)) (now (clients .exit)) (now (originals .exit)) (now (top .exit)) (now (cursor .exit)) (now (attached .exit)) (now (clock .exit)) (now (timeout .exit)) (now (join .exit)) (now (tagged .exit)) (now (tags .exit))) ⌝ }
+    ensures { λ r. ⌜ Adopts (settings (now («from_timeout» .entry)) (now («from_join» .entry)) (now («from_tags» .entry)) (now (addr .entry)) (now (width .entry)) (now (sign .entry))) r (kept (now (timeout .exit)) (now (join .exit)) (now (tagged .exit)) (now (tags .exit))) ⌝ }
 {
-    moves::changing::clear(
-        ids,
-        asked,
-        callers,
-        deadlines,
-        counts,
-        clients,
-        originals,
-        top,
-    );
-    *cursor = 0;
-    *attached = 0;
-    *clock = 0;
-    if values::is_valid(from_timeout, from_join, from_tags, addr, width, sign) {
+    if values::is_valid(*from_timeout, *from_join, *from_tags, addr, width, sign) {
         adopt(
             timeout,
             join,
             tagged,
             tags,
-            from_timeout,
-            from_join,
-            from_tags,
+            *from_timeout,
+            *from_join,
+            *from_tags,
             addr,
             width,
             sign,
@@ -98,4 +74,57 @@ pub fn fresh<'a, 'b>(
         sign,
     );
     Answer::Refused { number: 10 }
+}
+
+// Makes the lent state fresh, whatever it was, from a value whose fields are lent. An invalid value is refusal 10, and the state is then made from the usual one.
+pub fn fresh<'a, 'b>(
+    ids: &'a mut [u32; laws::PLACES],
+    asked: &'a mut [u64; laws::PLACES],
+    callers: &'a mut [u8; laws::PLACES],
+    deadlines: &'a mut [u64; laws::PLACES],
+    counts: &'a mut [u8; laws::PLACES],
+    clients: &'a mut [u8; laws::PARTY_PLACES],
+    originals: &'a mut [u16; laws::PARTY_PLACES],
+    top: &'a mut u32,
+    cursor: &'a mut u16,
+    attached: &'a mut u32,
+    clock: &'a mut u64,
+    timeout: &'a mut u32,
+    join: &'a mut u32,
+    tagged: &'a mut u32,
+    tags: &'a mut [u64; laws::MOST_TAGS],
+    from_timeout: &'b u32,
+    from_join: &'b u32,
+    from_tags: &'b u32,
+    addr: &'b [u16; laws::MOST_TAGS],
+    width: &'b [u16; laws::MOST_TAGS],
+    sign: &'b [u16; laws::MOST_TAGS],
+) -> Answer
+    ensures { λ r. ⌜ Freshened (settings (now («from_timeout» .entry)) (now («from_join» .entry)) (now («from_tags» .entry)) (now (addr .entry)) (now (width .entry)) (now (sign .entry))) r (lent (now (ids .exit)) (now (asked .exit)) (now (callers .exit)) (now (deadlines .exit)) (now (counts .exit)) (now (clients .exit)) (now (originals .exit)) (now (top .exit)) (now (cursor .exit)) (now (attached .exit)) (now (clock .exit)) (now (timeout .exit)) (now (join .exit)) (now (tagged .exit)) (now (tags .exit))) ⌝ }
+{
+    moves::changing::clear(
+        ids,
+        asked,
+        callers,
+        deadlines,
+        counts,
+        clients,
+        originals,
+        top,
+    );
+    *cursor = 0;
+    *attached = 0;
+    *clock = 0;
+    adopt_value(
+        timeout,
+        join,
+        tagged,
+        tags,
+        from_timeout,
+        from_join,
+        from_tags,
+        addr,
+        width,
+        sign,
+    )
 }

@@ -23,8 +23,6 @@ fn replied(c: Columns, time: u64, frame: &[u8], out: &mut [u8], list: &mut [u16]
     let mut clients = c.clients;
     let mut originals = c.originals;
     let mut top = c.top;
-    let mut cursor = c.cursor;
-    let mut attached = c.attached;
     let mut clock = c.clock;
     let mut timeout = c.timeout;
     let mut join = c.join;
@@ -39,8 +37,6 @@ fn replied(c: Columns, time: u64, frame: &[u8], out: &mut [u8], list: &mut [u16]
         &mut clients,
         &mut originals,
         &mut top,
-        &mut cursor,
-        &mut attached,
         &mut clock,
         &mut timeout,
         &mut join,
@@ -51,24 +47,24 @@ fn replied(c: Columns, time: u64, frame: &[u8], out: &mut [u8], list: &mut [u16]
         out,
         list,
     );
-    let columns = Columns {
-        ids,
-        asked,
-        callers,
-        deadlines,
-        counts,
-        clients,
-        originals,
-        top,
-        cursor,
-        attached,
-        clock,
-        timeout,
-        join,
-        tagged,
-        tags,
-    };
-    Called { columns, answer }
+    let mut after = c;
+    after.ids = ids;
+    after.asked = asked;
+    after.callers = callers;
+    after.deadlines = deadlines;
+    after.counts = counts;
+    after.clients = clients;
+    after.originals = originals;
+    after.top = top;
+    after.clock = clock;
+    after.timeout = timeout;
+    after.join = join;
+    after.tagged = tagged;
+    after.tags = tags;
+    Called {
+        columns: after,
+        answer,
+    }
 }
 
 // The controller's reply.

@@ -15,13 +15,13 @@ use Rattle.wire.specs.Frame.{misframed}
 use Rattle.wire.proofs.FrameLaws.{Framed, framed}
 use Rattle.machine.specs.Machine.{Machine}
 use Rattle.machine.specs.Calls.Call.{reply, tick}
-use Rattle.machine.specs.Refusals.{Row, row, rows, lowest, refusal, isDead, isMismatched, entryFor}
+use Rattle.machine.specs.Refusals.{Row, row, rows, lowest, refusal, isUntimelyAt, isDead, isMismatched, entryFor}
 use Rattle.machine.proofs.LowestLaws.{none-applies, Splits, split-none, split-more}
 use Rattle.proxy.specs.Gates.{replyGate, tickGate}
 
 -- the rows of a tick's gate
 abbrev early : (out list time clock : ℕ) → List Row
-early out list time clock = row 1 (ltb out frameBuffer || ltb list listBuffer) ∷ row 3 (ltb latestTime time || ltb time clock) ∷ []
+early out list time clock = row 1 (ltb out frameBuffer || ltb list listBuffer) ∷ row 3 (isUntimelyAt clock time) ∷ []
 
 split-early : (out list time clock : ℕ) → Splits (early out list time clock)
 split-early out list time clock = split-more 1 _ _ (λ z. omega arith) (split-more 3 _ [] (λ z. omega arith) split-none)
@@ -75,7 +75,7 @@ pub tick-timely : (out list time clock : ℕ) → tickGate out list time clock �
 unfolding tickGate
 tick-timely out list time clock z =
     let a = none-applies (ltb out frameBuffer || ltb list listBuffer) 1 _ (λ y. omega arith) z in
-    let b = none-applies (ltb latestTime time || ltb time clock) 3 _ (λ y. omega arith) (a .1) in
+    let b = none-applies (isUntimelyAt clock time) 3 _ (λ y. omega arith) (a .1) in
     record {
       frames = ltb-false out frameBuffer (or-left (ltb out frameBuffer) (ltb list listBuffer) (a .0));
       pairs = ltb-false list listBuffer (or-right (ltb out frameBuffer) (ltb list listBuffer) (a .0));

@@ -70,7 +70,7 @@ module _ (s : State) (d : Sounds s) (t : ℕ) (f o l : List ℕ) (gate : replyGa
 
   module _ (lives : k ≡ places → ⊥) where
     -- the entry there
-    pub living : Living (s .table) k
+    living : Living (s .table) k
     living = holder-lives (s .table) (d .table) (idOf f) k found lives
 
     stands : at (machineOf s .book) k ≡ some (held (s .table) k)

@@ -10,7 +10,7 @@ ghost use Rattle.rewrite.specs.Frames.{returned, under};
 ghost use Rattle.rewrite.specs.Lent.{tagsOf, TagWords, Framed};
 ghost use Rattle.machine.specs.Calls.Call.{reply as replyCall, tick as tickCall};
 ghost use Rattle.table.specs.Columns.{columns, Sound};
-ghost use Rattle.proxy.specs.State.{State, lent, lentTable, Sounds};
+ghost use Rattle.proxy.specs.State.{State, kept, lentTable, lentKept, Settled, Sounds};
 ghost use Rattle.proxy.specs.Calls.{Does};
 ghost use Rattle.proxy.specs.Gates.{replyGate, tickGate};
 
@@ -21,7 +21,7 @@ fn tick_refusal(out: usize, list: usize, time: u64, clock: u64) -> u32
     if (out < laws::FRAME_BUFFER) | (list < laws::LIST_BUFFER) {
         return 1;
     }
-    if (laws::LATEST_TIME < time) | (time < clock) {
+    if proxy::is_untimely(clock, time) {
         return 3;
     }
     0
@@ -81,8 +81,6 @@ pub fn reply<'a>(
     clients: &'a mut [u8; laws::PARTY_PLACES],
     originals: &'a mut [u16; laws::PARTY_PLACES],
     top: &'a mut u32,
-    cursor: &'a mut u16,
-    attached: &'a mut u32,
     clock: &'a mut u64,
     timeout: &'a mut u32,
     join: &'a mut u32,
@@ -93,9 +91,10 @@ pub fn reply<'a>(
     out: &mut [u8],
     list: &mut [u16],
 ) -> Answer
-    requires { ⌜ Sounds (lent (now ids) (now asked) (now callers) (now deadlines) (now counts) (now clients) (now originals) (now top) (now cursor) (now attached) (now clock) (now timeout) (now join) (now tagged) (now tags)) ⌝ }
-    ensures { λ r. ⌜ Does (lent (now (ids .entry)) (now (asked .entry)) (now (callers .entry)) (now (deadlines .entry)) (now (counts .entry)) (now (clients .entry)) (now (originals .entry)) (now (top .entry)) (now (cursor .entry)) (now (attached .entry)) (now (clock .entry)) (now (timeout .entry)) (now (join .entry)) (now (tagged .entry)) (now (tags .entry))) (replyCall time (now (frame .entry)) (now (out .entry)) (now (list .entry))) r
-        (lent (now (ids .exit)) (now (asked .exit)) (now (callers .exit)) (now (deadlines .exit)) (now (counts .exit)) (now (clients .exit)) (now (originals .exit)) (now (top .exit)) (now (cursor .exit)) (now (attached .exit)) (now (clock .exit)) (now (timeout .exit)) (now (join .exit)) (now (tagged .exit)) (now (tags .exit))) (now (out .exit)) (now (list .exit)) ⌝ }
+    requires { ⌜ Sound (columns (now ids) (now asked) (now callers) (now deadlines) (now counts) (now clients) (now originals) (now top)) × Settled (kept (now timeout) (now join) (now tagged) (now tags)) ⌝ }
+    ensures { λ r. ⌜ ((s : State) → Sounds (lentKept s (now (ids .entry)) (now (asked .entry)) (now (callers .entry)) (now (deadlines .entry)) (now (counts .entry)) (now (clients .entry)) (now (originals .entry)) (now (top .entry)) (now (clock .entry)) (now (timeout .entry)) (now (join .entry)) (now (tagged .entry)) (now (tags .entry)))
+        → Does (lentKept s (now (ids .entry)) (now (asked .entry)) (now (callers .entry)) (now (deadlines .entry)) (now (counts .entry)) (now (clients .entry)) (now (originals .entry)) (now (top .entry)) (now (clock .entry)) (now (timeout .entry)) (now (join .entry)) (now (tagged .entry)) (now (tags .entry))) (replyCall time (now (frame .entry)) (now (out .entry)) (now (list .entry))) r
+        (lentKept s (now (ids .exit)) (now (asked .exit)) (now (callers .exit)) (now (deadlines .exit)) (now (counts .exit)) (now (clients .exit)) (now (originals .exit)) (now (top .exit)) (now (clock .exit)) (now (timeout .exit)) (now (join .exit)) (now (tagged .exit)) (now (tags .exit))) (now (out .exit)) (now (list .exit))) ⌝ }
 {
     let refused = reply_refusal(out.len(), list.len(), time, *clock, frame);
     if refused != 0 {

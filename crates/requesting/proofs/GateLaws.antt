@@ -2,12 +2,12 @@
 -- Assumes nothing.
 use Prim.Native.Nat.{ℕ, _≤_, _<_}
 use mathlib.Core.Path.{_≡_, sym, _∙_}
-use mathlib.Core.Bool.{true, false, not, _||_}
+use mathlib.Core.Bool.{true, false, not}
 use mathlib.Core.List.{List, [], _∷_}
 use native.Mathlib.Omega.{arith}
 use lib.ListN.{length}
 use lib.Dec.{ltb, leb}
-use borrow.Author.Tests.{ne-eqb, leb-false, ltb-false, lt-ltb, le-ltb, le-leb, lt-leb}
+use borrow.Author.Tests.{ne-eqb, leb-false, ltb-false, lt-ltb, le-ltb}
 use Rattle.laws.specs.Numbers.{clients, latestTime, leastFrame, mostFrame, frameBuffer}
 use Rattle.laws.specs.Bits.{has}
 use Rattle.laws.proofs.Choice.{or-left, or-right}
@@ -19,7 +19,7 @@ use Rattle.pdu.specs.declared.Checked.the-variants.{BadFunction, BadLength, Leg
 use Rattle.pdu.proofs.RequestLaws.{Tested, check-tests}
 use Rattle.machine.specs.Machine.{Machine}
 use Rattle.machine.specs.Calls.Call.{request}
-use Rattle.machine.specs.Refusals.{row, rows, lowest, refusal, shortFrame, isStranger, isUntimely}
+use Rattle.machine.specs.Refusals.{row, rows, lowest, refusal, shortFrame, isStrangeTo, isStranger, isUntimelyAt, isUntimely}
 use Rattle.machine.proofs.LowestLaws.{applies, passes, none-left, none-applies, split-none, split-more}
 use Rattle.proxy.specs.Gates.{requestGate}
 use Rattle.requesting.specs.Parts.{Admitted}
@@ -31,29 +31,24 @@ module _ (out client attached time clock : ℕ) (f : List ℕ) where
   gate-short h = applies 1 _ (lt-ltb out frameBuffer h)
 
   module _ (roomy : frameBuffer ≤ out) where
-    pub gate-above : clients ≤ client → 2 ≡ requestGate out client attached time clock f
+    pub gate-stranger : isStrangeTo attached client ≡ true → 2 ≡ requestGate out client attached time clock f
     unfolding requestGate
-    gate-above h = passes 1 _ (le-ltb out frameBuffer roomy) (applies 2 _ (rw (le-leb clients client h)))
+    gate-stranger h = passes 1 _ (le-ltb out frameBuffer roomy) (applies 2 _ h)
 
-    module _ (low : client < clients) where
-      pub gate-stranger : has attached client ≡ false → 2 ≡ requestGate out client attached time clock f
+    module _ (known : isStrangeTo attached client ≡ false) where
+      past-client : {n : ℕ} → n ≡ lowest (row 3 (isUntimelyAt clock time) ∷ row 4 (misframed f) ∷ []) → n ≡ requestGate out client attached time clock f
       unfolding requestGate
-      gate-stranger h = passes 1 _ (le-ltb out frameBuffer roomy) (applies 2 _ (rw (lt-leb clients client low, h)))
+      past-client e = passes 1 _ (le-ltb out frameBuffer roomy) (passes 2 _ known e)
 
-      module _ (member : has attached client ≡ true) where
-        past-client : {n : ℕ} → n ≡ lowest (row 3 (ltb latestTime time || ltb time clock) ∷ row 4 (misframed f) ∷ []) → n ≡ requestGate out client attached time clock f
-        unfolding requestGate
-        past-client e = passes 1 _ (le-ltb out frameBuffer roomy) (passes 2 _ (rw (lt-leb clients client low, member)) e)
+      pub gate-untimely : isUntimelyAt clock time ≡ true → 3 ≡ requestGate out client attached time clock f
+      gate-untimely h = past-client (applies 3 _ h)
 
-        pub gate-untimely : (ltb latestTime time || ltb time clock) ≡ true → 3 ≡ requestGate out client attached time clock f
-        gate-untimely h = past-client (applies 3 _ h)
+      module _ (timely : isUntimelyAt clock time ≡ false) where
+        pub gate-misframed : misframed f ≡ true → 4 ≡ requestGate out client attached time clock f
+        gate-misframed h = past-client (passes 3 _ timely (applies 4 _ h))
 
-        module _ (timely : (ltb latestTime time || ltb time clock) ≡ false) where
-          pub gate-misframed : misframed f ≡ true → 4 ≡ requestGate out client attached time clock f
-          gate-misframed h = past-client (passes 3 _ timely (applies 4 _ h))
-
-          pub gate-open : misframed f ≡ false → 0 ≡ requestGate out client attached time clock f
-          gate-open h = past-client (passes 3 _ timely (passes 4 [] h none-left))
+        pub gate-open : misframed f ≡ false → 0 ≡ requestGate out client attached time clock f
+        gate-open h = past-client (passes 3 _ timely (passes 4 [] h none-left))
 
 -- no refusal from 1 to 4 applies
 pub record Open (m : Machine) (c t : ℕ) (f o : List ℕ) : Type 0 where

@@ -16,7 +16,7 @@ use Rattle.laws.specs.Circle.{turn}
 use Rattle.laws.proofs.Choice.{and-left, and-right}
 use Rattle.laws.proofs.SearchLaws.{best-in, best-some}
 use Rattle.laws.proofs.CircleLaws.{turn-low}
-use Rattle.wire.specs.Frame.{idOf}
+use Rattle.wire.specs.Frame.{idOf, unitOf}
 use Rattle.settings.specs.Grammar.{Value}
 use Rattle.pdu.specs.Requests.{checkedOf}
 use Rattle.pdu.specs.Replies.{What}
@@ -47,9 +47,16 @@ use Rattle.proxy.specs.State.{Kept, state, valueIn, machineOf}
 use Rattle.requesting.specs.Parts.{Asks, Came}
 use Rattle.requesting.proofs.StepLaws.{was-joined, was-issued, was-full, issue-made}
 
--- What a legal request asks may stand in a live entry, and comes back from its word.
+-- What a legal request asks may stand in a live entry, and comes back from its word,
+asked-back : {f : List ℕ} {n : ℕ} → Asks f n → whatOf n ≡ wanted f
+asked-back {f} h = ap whatOf (h .same) ∙ word-back (wanted f) (h .proper)
+
 pub word-stands : {f : List ℕ} {n : ℕ} → Asks f n → Proper (whatOf n) × (wordOf (whatOf n) ≡ n)
-word-stands {f} h = rw (h .same) (rw (word-back (wanted f) (h .proper)) (h .proper, refl))
+word-stands h = rw (asked-back h) (h .proper, sym (h .same))
+
+-- with the frame's unit and what the check found.
+pub asked-so : {f : List ℕ} {n unit : ℕ} {a : Asked} → Asks f n → checkedOf f ≡ Legal a → unit ≡ unitOf f → (whatOf n .unit ≡ unit) × (whatOf n .asked ≡ a)
+asked-so {f} {n} {unit} {a} h legal e = (ap (λ (w : What). w .unit) (asked-back h) ∙ sym e, ap (λ (w : What). w .asked) (asked-back h) ∙ sym (legal-passed f a legal .asks))
 
 -- A request may join its like by its own settings and what it asks.
 pub may-join-own : (k : Kept) (f : List ℕ) {a : Asked} {joining : Bool} → checkedOf f ≡ Legal a
@@ -143,13 +150,12 @@ pub issued-there : (k : Kept) (c : Columns) (client : ℕ) (o : List ℕ) (id : 
     → Came (Issued id (length f) p v) k t c′ x′ o′ (λ m. issuedTo m client f o) c x
 unfolding valueIn
 issued-there k c client o id {x} {t} {word} {place} {original} {x′} {p} {v} {f} {o′} {c′} {what} s w legal sound ei li ex eo ep et sent =
-    let back : whatOf word ≡ wanted f = ap whatOf (w .same) ∙ word-back (wanted f) (w .proper) in
     record {
       outcome =
           λ a. rw ex
           (issue-made (machineOf (state c x a t k)) client f o (id .0) place what p v o′ _ (ei ∙ free-id (valueIn k) c x t s) (ep ∙ free-place (valueIn k) c x t s)
           (legal-passed f what legal .asks) sent
-          (issue-is (valueIn k) x t c s c′ place (id .0) word (t + k .timeout) client original et ∙ rw (back, eo)));
+          (issue-is (valueIn k) x t c s c′ place (id .0) word (t + k .timeout) client original et ∙ rw (asked-back w, eo)));
       table = sound;
       cursor = λ q. rw ex (turn-low ids (id .0 + 1) (omega arith));
     }

@@ -34,13 +34,10 @@ fn gate(out: usize, client: u32, attached: u32, time: u64, clock: u64, frame: &[
     if out < laws::FRAME_BUFFER {
         return 1;
     }
-    if laws::CLIENTS <= client {
+    if proxy::attaching::is_stranger(attached, client) {
         return 2;
     }
-    if !proxy::attaching::is_member(attached, client) {
-        return 2;
-    }
-    if (laws::LATEST_TIME < time) | (time < clock) {
+    if proxy::is_untimely(clock, time) {
         return 3;
     }
     if wire::frames::is_misframed(frame) {
@@ -167,7 +164,8 @@ fn issue_request<'a>(
         client,
         original,
     );
-    moves::closing::close(ids, asked, *top as usize, word);
+    let unit = wire::unit_of(frame);
+    moves::closing::close(ids, asked, *top as usize, unit, what);
     let next = id.next();
     *cursor = next.0;
     let raw = payloads::forward(out, frame, id, what, tags, tagged as usize);

@@ -17,44 +17,33 @@ pub struct Stepped {
     pub answer: Answer,
 }
 
-// The columns that the core makes fresh, and its answer.
+// Columns of a fresh state: zeros, and what is adopted of the value; and the answer.
 fn freshened(from: Settings) -> Called
     ensures { λ r. ⌜ Freshened from (r .answer) (columned (r .columns)) ⌝ }
 {
-    let mut ids = [0u32; laws::PLACES];
-    let mut asked = [0u64; laws::PLACES];
-    let mut callers = [0u8; laws::PLACES];
-    let mut deadlines = [0u64; laws::PLACES];
-    let mut counts = [0u8; laws::PLACES];
-    let mut clients = [0u8; laws::PARTY_PLACES];
-    let mut originals = [0u16; laws::PARTY_PLACES];
-    let mut top = 0u32;
-    let mut cursor = 0u16;
-    let mut attached = 0u32;
-    let mut clock = 0u64;
+    let ids = [0u32; laws::PLACES];
+    let asked = [0u64; laws::PLACES];
+    let callers = [0u8; laws::PLACES];
+    let deadlines = [0u64; laws::PLACES];
+    let counts = [0u8; laws::PLACES];
+    let clients = [0u8; laws::PARTY_PLACES];
+    let originals = [0u16; laws::PARTY_PLACES];
+    let top = 0u32;
+    let cursor = 0u16;
+    let attached = 0u32;
+    let clock = 0u64;
     let mut timeout = 0u32;
     let mut join = 0u32;
     let mut tagged = 0u32;
     let mut tags = [0u64; laws::MOST_TAGS];
-    let answer = proxy::making::fresh(
-        &mut ids,
-        &mut asked,
-        &mut callers,
-        &mut deadlines,
-        &mut counts,
-        &mut clients,
-        &mut originals,
-        &mut top,
-        &mut cursor,
-        &mut attached,
-        &mut clock,
+    let answer = proxy::making::adopt_value(
         &mut timeout,
         &mut join,
         &mut tagged,
         &mut tags,
-        from.timeout,
-        from.join,
-        from.tags,
+        &from.timeout,
+        &from.join,
+        &from.tags,
         &from.addr,
         &from.width,
         &from.sign,

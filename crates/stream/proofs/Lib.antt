@@ -3,6 +3,4 @@ pub mod CuttingLaws
 pub mod CallLaws
 pub mod OfferLaws
 pub mod FieldLaws
-pub mod Fields
-pub mod EntryReset
-pub mod EntryTake
+pub mod written

@@ -10,6 +10,7 @@ use native.Mathlib.Omega.{arith}
 use lib.ListN.{length, getD, take}
 use Rattle.laws.specs.Numbers.{ids, places, distance, latestTime}
 use Rattle.laws.specs.Lists.{lastGiven, lastOf}
+use Rattle.laws.specs.Search.{count}
 use Rattle.laws.specs.Bits.{has}
 use Rattle.laws.specs.Bytes.{over}
 use Rattle.wire.specs.Frame.{idOf, laid}
@@ -29,13 +30,13 @@ use Rattle.pdu.specs.declared.Asked.the-variants.{Read}
 use Rattle.rewrite.specs.Registers.{registersAt}
 use Rattle.rewrite.specs.Rewriting.{ownIn}
 use Rattle.rewrite.specs.Plain.{Whole, OfBits}
-use Rattle.book.specs.Book.{Party, Event}
+use Rattle.book.specs.Book.{Party, Live, Event, at}
 use Rattle.book.specs.Book.Event.{issued}
 use Rattle.book.specs.Ledger.{Ticket, Apart, Differing, Anew, partiesOf}
 use Rattle.book.specs.Traced.{touches, issuedId, behind, Outstanding}
-use Rattle.book.specs.Desk.{AllLive}
+use Rattle.book.specs.Desk.{AllLive, isLive}
 use Rattle.book.specs.Machine.{history}
-use Rattle.machine.specs.Machine.{Machine, rules, settings}
+use Rattle.machine.specs.Machine.{Machine, Note, rules, settings}
 use Rattle.machine.specs.Calls.{Call, Outcome, done, outOf, listOf, timeOf}
 use Rattle.machine.specs.Calls.Call.{attach, detach, request, reply, tick, linkLost}
 use Rattle.machine.specs.Refusals.{refusal}
@@ -274,18 +275,38 @@ module _ (from : Settings) {r : Report} {d d′ : Device} (ls : List Line) (fres
       let told : (q : Report → ℕ) → _ = λ q. ap (λ (y : Seen). q (y .report)) shown ∙ ap (λ (y : Answer). q (numbers y)) (r .1) in
       (ap (λ (y : Seen). y .frame) shown ∙ r .0, told (λ y. y .partial), told (λ y. y .value))
 
-  -- When to tick (ours): a look at the next deadline leaves every field of the device as it was;
-  pub a-look-changes-nothing : {n : NextDeadline} {e : Device} → Awaited d′ n e → e ≡ d′
-  a-look-changes-nothing a = same-device _ _ (a .1)
+  -- what a look at the next deadline tells is the machine's
+  awaits : {n : NextDeadline} → Awaited d′ n → n ≡ nextDeadline (afterCalls v xs)
+  unfolding machineIn
+  awaits a = a ∙ ap nextDeadline (lived .after)
 
-  -- and of a tick that comes next and is not refused, one before the time that it named reports that nothing is due, and one at or after it ends an entry.
-  pub when-the-next-tick-ends-one : {n : NextDeadline} {e : Device} → Awaited d′ n e → (t : ℕ) (o l : List ℕ) {saw : Seen} {d″ : Device} → Called d′ (tick t o l) saw d″ → saw .report .refusal ≡ 0
+  -- When to tick (ours): a look at the next deadline changes nothing, the device is lent by `&`. Both its numbers, by the host's own lines: no outstanding request is due before that time,
+  -- it is the deadline of an outstanding one or 2^64 − 1, and so many places are live.
+  pub the-next-deadline-is-this : {n : NextDeadline} → Awaited d′ n
+      → ((id : ℕ) (w : What) (c u : ℕ) → Outstanding (toldIn (inForce from) ls) id w c u → n .time ≤ u)
+      × ((n .time ≡ 18446744073709551615) ⊎ ((id : ℕ) × (w : What) × (c : ℕ) × Outstanding (toldIn (inForce from) ls) id w c (n .time)))
+      × (n .live ≡ count (λ k. isLive (at (machineIn d′ .book) k)) places)
+  the-next-deadline-is-this {n} a =
+      let m = afterCalls v xs in
+      let same = awaits a in
+      let w = claim.the-next-deadline-is-this v xs in (
+        λ id x c u z. let y = claim.which-ids-are-live v xs id x c u .1 (rw (lived .told) at z) in rw (same, ← y .6) (w .first (y .0) (y .1) (y .2)),
+        ⊎-elim
+            (λ e. inl (ap (λ (y : NextDeadline). y .time) same ∙ e))
+            (λ (y : (k : ℕ) × (e : Live What Note) × (at (m .book) k ≡ some e) × (e .deadline ≡ nextDeadline m .time)).
+            inr (y .1 .id, y .1 .what, y .1 .by, rw (lived .told, same, ← y .3) (lives-as v xs (y .0) (y .1) (y .2))))
+            (w .taken),
+        ap (λ (y : NextDeadline). y .live) same ∙ w .many ∙ ap (λ (y : Machine). count (λ k. isLive (at (y .book) k)) places) (sym (lived .after)),
+      )
+
+  -- Of a tick that comes next and is not refused, one before the time that it named reports that nothing is due, and one at or after it ends an entry.
+  pub when-the-next-tick-ends-one : {n : NextDeadline} → Awaited d′ n → (t : ℕ) (o l : List ℕ) {saw : Seen} {d″ : Device} → Called d′ (tick t o l) saw d″ → saw .report .refusal ≡ 0
       → (t < n .time → saw .report .outcome ≡ isNothingDue) × (n .time ≤ t → saw .report .outcome ≡ isTimedOut)
-  unfolding numbers machineIn
+  unfolding numbers
   when-the-next-tick-ends-one {n} a t o l s z =
       let x = tick t o l in
       let w = claim.when-the-next-tick-ends-one v xs t o l (passes x s z) in
-      let same : n ≡ nextDeadline (afterCalls v xs) = a .0 ∙ ap nextDeadline (lived .after) in
+      let same = awaits a in
       let told : (b : Answer) → outcome (afterCalls v xs) x .says ≡ b → _ = λ b q. ap (λ (y : Seen). y .report .outcome) (sees x s) ∙ ap (λ (y : Answer). numbers y .outcome) q in
       (λ early. told answer.NothingDue (w .0 (rw same at early)), λ late. let y = w .1 (rw same at late) in told (answer.TimedOut (y .0) (y .1)) (y .2))
 

@@ -17,8 +17,8 @@ use Rattle.device.specs.declared.Device.{Device}
 use Rattle.reports.specs.declared.SettingsRead.{SettingsRead}
 use Rattle.machine.specs.Numbers.{Reported}
 use Rattle.reports.specs.Reports.{TextSeen, textSeen, splitTold, readTold, writeTold}
-use Rattle.device.specs.Fields.{stateOf}
-use Rattle.device.specs.Device.{Served, Freshly, Awaited, stateSize}
+use Rattle.device.specs.Fields.{stateOf, stateSize}
+use Rattle.device.specs.Device.{Served, Freshly, Awaited}
 use Rattle.device.proofs.DeviceLaws.{same-device}
 use Rattle.machine.specs.Numbers.{isDone}
 use Rattle.reports.specs.Reports.{isFrame, isMore}
@@ -40,9 +40,9 @@ one-outcome d x s t =
 pub one-fresh : (from : Settings) {r q : Report} {e f : Device} → Freshly from r e → Freshly from q f → (r ≡ q) × (machineOf (stateOf e) ≡ machineOf (stateOf f))
 one-fresh from s t = (s .0 ∙ sym (t .0), s .1 ∙ sym (t .1))
 
--- A look at the next deadline: from one device, one answer; and only one device afterwards: the one that was lent.
-pub one-look : (d : Device) {n k : NextDeadline} {e f : Device} → Awaited d n e → Awaited d k f → (n ≡ k) × (e ≡ d) × (f ≡ d)
-one-look d s t = (s .0 ∙ sym (t .0), same-device _ d (s .1), same-device _ d (t .1))
+-- A look at the next deadline: of one device, one answer. The device is lent to be read alone.
+pub one-look : (d : Device) {n k : NextDeadline} → Awaited d n → Awaited d k → n ≡ k
+one-look d s t = s ∙ sym t
 
 -- The size of a device: one number.
 pub one-size : {r q : ℕ} → r ≡ stateSize → q ≡ stateSize → r ≡ q

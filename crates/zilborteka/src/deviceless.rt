@@ -9,7 +9,7 @@ ghost use Rattle.settings.specs.Grammar.{readText};
 ghost use Rattle.settings.specs.Values.{valueOf};
 ghost use Rattle.settingstext.specs.TextWritten.{writtenTo};
 ghost use Rattle.reports.specs.Reports.{splitTold, readTold, textSeen, writeTold};
-ghost use Rattle.device.specs.Device.{stateSize};
+ghost use Rattle.device.specs.Fields.{stateSize};
 
 // Splits a run: the first frame's length, more needed, or refusal 4.
 #[no_mangle]

@@ -15,7 +15,7 @@ ghost use Rattle.device.specs.Device.{Made, Served, Freshly, Awaited};
 pub extern "C" fn zb_fresh(st: &mut Device, from: &Settings) -> Report
     ensures { λ r. ⌜ Freshly (now (from .entry)) r (now (st .exit)) ⌝ }
 {
-    cores::fresh(
+    reports::report_of(proxy::making::fresh(
         &mut st.ids,
         &mut st.asked,
         &mut st.callers,
@@ -37,7 +37,7 @@ pub extern "C" fn zb_fresh(st: &mut Device, from: &Settings) -> Report
         &from.addr,
         &from.width,
         &from.sign,
-    )
+    ))
 }
 
 // Attaches a client.
@@ -46,7 +46,7 @@ pub extern "C" fn zb_attach(st: &mut Device, client: u32) -> Report
     requires { ⌜ Made (now st) ⌝ }
     ensures { λ r. ⌜ Served (now (st .entry)) (attaches client) r (now (st .exit)) [] [] ⌝ }
 {
-    cores::attach(&mut st.attached, client)
+    reports::report_of(proxy::attaching::attach(&mut st.attached, client))
 }
 
 // Detaches a client, and strikes its parties out.
@@ -55,14 +55,14 @@ pub extern "C" fn zb_detach(st: &mut Device, client: u32) -> Report
     requires { ⌜ Made (now st) ⌝ }
     ensures { λ r. ⌜ Served (now (st .entry)) (detaches client) r (now (st .exit)) [] [] ⌝ }
 {
-    cores::detach(
+    reports::report_of(proxy::attaching::detach(
         &mut st.counts,
         &mut st.clients,
         &mut st.originals,
         &mut st.top,
         &mut st.attached,
         client,
-    )
+    ))
 }
 
 // A client's request.
@@ -77,7 +77,7 @@ pub extern "C" fn zb_request(
     requires { ⌜ Made (now st) ⌝ }
     ensures { λ r. ⌜ Served (now (st .entry)) (asks client time (now (frame .entry)) (now (out .entry))) r (now (st .exit)) (now (out .exit)) [] ⌝ }
 {
-    cores::request(
+    reports::report_of(requesting::request(
         &mut st.ids,
         &mut st.asked,
         &mut st.callers,
@@ -97,7 +97,7 @@ pub extern "C" fn zb_request(
         time,
         frame,
         out,
-    )
+    ))
 }
 
 // The controller's reply.
@@ -112,7 +112,7 @@ pub extern "C" fn zb_reply(
     requires { ⌜ Made (now st) ⌝ }
     ensures { λ r. ⌜ Served (now (st .entry)) (replies time (now (frame .entry)) (now (out .entry)) (now (list .entry))) r (now (st .exit)) (now (out .exit)) (now (list .exit)) ⌝ }
 {
-    answering::reply(
+    reports::report_of(replying::reply(
         &mut st.ids,
         &mut st.asked,
         &mut st.callers,
@@ -121,8 +121,6 @@ pub extern "C" fn zb_reply(
         &mut st.clients,
         &mut st.originals,
         &mut st.top,
-        &mut st.cursor,
-        &mut st.attached,
         &mut st.clock,
         &mut st.timeout,
         &mut st.join,
@@ -132,7 +130,7 @@ pub extern "C" fn zb_reply(
         frame,
         out,
         list,
-    )
+    ))
 }
 
 // Time goes on.
@@ -141,7 +139,7 @@ pub extern "C" fn zb_tick(st: &mut Device, time: u64, out: &mut [u8], list: &mut
     requires { ⌜ Made (now st) ⌝ }
     ensures { λ r. ⌜ Served (now (st .entry)) (ticks time (now (out .entry)) (now (list .entry))) r (now (st .exit)) (now (out .exit)) (now (list .exit)) ⌝ }
 {
-    answering::tick(
+    reports::report_of(replying::tick(
         &mut st.ids,
         &mut st.asked,
         &mut st.callers,
@@ -154,7 +152,7 @@ pub extern "C" fn zb_tick(st: &mut Device, time: u64, out: &mut [u8], list: &mut
         time,
         out,
         list,
-    )
+    ))
 }
 
 // The link is lost.
@@ -163,14 +161,14 @@ pub extern "C" fn zb_link_lost(st: &mut Device) -> Report
     requires { ⌜ Made (now st) ⌝ }
     ensures { λ r. ⌜ Served (now (st .entry)) (linkLost) r (now (st .exit)) [] [] ⌝ }
 {
-    cores::link_lost(&mut st.ids, &mut st.top, &mut st.attached)
+    reports::report_of(proxy::attaching::link_lost(&mut st.ids, &mut st.top, &mut st.attached))
 }
 
 // How many requests are live, and the earliest deadline of them: a host sleeps until then.
 #[no_mangle]
-pub extern "C" fn zb_next_deadline(st: &mut Device) -> NextDeadline
+pub extern "C" fn zb_next_deadline(st: &Device) -> NextDeadline
     requires { ⌜ Made (now st) ⌝ }
-    ensures { λ r. ⌜ Awaited (now (st .entry)) r (now (st .exit)) ⌝ }
+    ensures { λ r. ⌜ Awaited (now (st .entry)) r ⌝ }
 {
-    cores::next_deadline(&mut st.ids, &mut st.deadlines, &mut st.top)
+    finding::next_deadline(&st.ids, &st.deadlines, &st.top)
 }

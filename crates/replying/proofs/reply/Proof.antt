@@ -12,23 +12,30 @@ use Rattle.wire.specs.Frame.{idOf}
 use Rattle.wire.proofs.FrameLaws.{Framed}
 use Rattle.pdu.specs.Replies.{answering}
 use Rattle.machine.specs.Numbers.{numbers}
+use Rattle.table.specs.Columns.{Columns, columns}
 use Rattle.table.specs.Places.{holds}
 use Rattle.table.proofs.EntryLaws.{held}
-use Rattle.proxy.specs.State.{State, lent, machineOf}
+use Rattle.proxy.specs.State.{State, Kept, kept, state, machineOf}
 use Rattle.proxy.specs.Gates.{replyGate}
 use Rattle.replying.proofs.GateLaws.{Timely, reply-timely}
 use Rattle.proxy.proofs.StateLaws.{tag-words}
-use Rattle.replying.proofs.EndLaws.{Living, has-id, may-end, asks-proper, ended-sound}
-use Rattle.replying.proofs.ReplyLaws.{was-refused, was-unknown, living, was-mismatched, was-answered}
+use Rattle.replying.proofs.EndLaws.{Living, holder-lives, has-id, may-end, asks-proper, ended-sound}
+use Rattle.replying.proofs.ReplyLaws.{was-refused, was-unknown, was-mismatched, was-answered}
 use borrow.Author.Needs.{needs}
 use Rattle.replying.proofs.reply.Statement.{statement}
 use Rattle.replying.proofs.reply.Tie as tie
 
--- the state as it came
-abbrev came : tie.Start → State
-came s =
+-- the table and the settings as they came, and a state that has them
+abbrev table : tie.Start → Columns
+table s =
     let a = s .args in
-    lent (now (a .ids)) (now (a .asked)) (now (a .callers)) (now (a .deadlines)) (now (a .counts)) (now (a .clients)) (now (a .originals)) (now (a .top)) (now (a .cursor)) (now (a .attached)) (now (a .clock)) (now (a .timeout)) (now (a .join)) (now (a .tagged)) (now (a .tags))
+    columns (now (a .ids)) (now (a .asked)) (now (a .callers)) (now (a .deadlines)) (now (a .counts)) (now (a .clients)) (now (a .originals)) (now (a .top))
+
+abbrev settings : tie.Start → Kept
+settings s = let a = s .args in kept (now (a .timeout)) (now (a .join)) (now (a .tagged)) (now (a .tags))
+
+abbrev came : tie.Start → State → State
+came s whole = state (table s) (whole .cursor) (whole .attached) (now (s .args .clock)) (settings s)
 
 -- the gate let it pass
 gate : (c : tie.Else1)
@@ -47,35 +54,33 @@ found : (c : tie.After-find)
 found c = rw (c .before .proxy-of .ensures) at (c .find .ensures)
 
 lives : (c : tie.Else2)
-    → Living (came (c .before .before .before .before .before .before .before .before .before .before .before) .table) (c .before .find .result)
+    → Living (table (c .before .before .before .before .before .before .before .before .before .before .before)) (c .before .find .result)
 lives c =
     let s = c .before .before .before .before .before .before .before .before .before .before .before in
-    let a = s .args in
-    living (came s) (s .pre) (a .time) (now (a .frame)) (now (a .out)) (now (a .list))
-    (gate (c .before .before .before .before .before)) (c .before .find .result) (found (c .before)) (c .if2 .left)
+    holder-lives (table s) (s .pre .0) (idOf (now (s .args .frame))) (c .before .find .result) (found (c .before)) (c .if2 .left)
 
 -- the reply answers what was asked there
 answered-by : (c : tie.Else3)
-    → answering (held (came (c .before .before .before .before .before .before .before .before .before .before .before .before .before .before) .table) (c .before .before .before .before .find .result) .what) (now (c .before .before .before .before .before .before .before .before .before .before .before .before .before .before .args .frame)) ≡ true
+    → answering (held (table (c .before .before .before .before .before .before .before .before .before .before .before .before .before .before)) (c .before .before .before .before .find .result) .what) (now (c .before .before .before .before .before .before .before .before .before .before .before .before .before .before .args .frame)) ≡ true
 answered-by c = sym (c .before .answers-word .ensures) ∙ not-false _ (c .if3 .left)
 
 returns : tie.Need-returns
-returns c =
+returns c whole sounds =
     let s = c .before .before .before .before .before .before in
     let a = s .args in (
-      was-refused (machineOf (came s)) (a .time) (now (a .frame)) (now (a .out)) (now (a .list))
+      was-refused (machineOf (came s whole)) (a .time) (now (a .frame)) (now (a .out)) (now (a .list))
           (c .before .reply-refusal .result) (c .before .reply-refusal .ensures) (c .if1 .taken),
-      s .pre,
+      sounds,
       λ h. refl,
     )
 
 returns-2 : tie.Need-returns-2
-returns-2 c =
+returns-2 c whole sounds =
     let s = c .before .before .before .before .before .before .before .before .before .before .before in
     let a = s .args in (
-      was-unknown (came s) (s .pre) (a .time) (now (a .frame)) (now (a .out)) (now (a .list))
+      was-unknown (came s whole) sounds (a .time) (now (a .frame)) (now (a .out)) (now (a .list))
           (gate (c .before .before .before .before .before)) (c .before .find .result) (found (c .before)) (c .if2 .taken),
-      s .pre,
+      sounds,
       λ h. refl,
     )
 
@@ -86,13 +91,13 @@ element-copy-out-word : tie.Need-element-copy-out-word
 element-copy-out-word c = lives c .low
 
 returns-3 : tie.Need-returns-3
-returns-3 c =
+returns-3 c whole sounds =
     let e = c .before .before .before in
     let s = e .before .before .before .before .before .before .before .before .before .before .before in
     let a = s .args in (
-      was-mismatched (came s) (s .pre) (a .time) (now (a .frame)) (now (a .out)) (now (a .list))
+      was-mismatched (came s whole) sounds (a .time) (now (a .frame)) (now (a .out)) (now (a .list))
           (gate (e .before .before .before .before .before)) (e .before .find .result) (found (e .before)) (e .if2 .left) (sym (c .before .answers-word .ensures) ∙ not-true _ (c .if3 .taken)),
-      s .pre,
+      sounds,
       λ h. refl,
     )
 
@@ -100,14 +105,14 @@ id-at-requires : tie.Need-id-at-requires
 id-at-requires c κs =
     let e = c .before .before .before .before in
     let s = e .before .before .before .before .before .before .before .before .before .before .before in
-    has-id (came s .table) (s .pre .table) (e .before .find .result) (lives e)
+    has-id (table s) (s .pre .0) (e .before .find .result) (lives e)
 
 end-at-requires : tie.Need-end-at-requires
 end-at-requires c κs =
     let e = c .before .before .before .before .before .before .before .before .before .before .before in
     let s = e .before .before .before .before .before .before .before .before .before .before .before in
     let a = s .args in
-    may-end (came s .table) (s .pre .table) (e .before .find .result) (lives e) (length (now (a .list))) (timely (e .before .before .before .before .before) .0 .pairs)
+    may-end (table s) (s .pre .0) (e .before .find .result) (lives e) (length (now (a .list))) (timely (e .before .before .before .before .before) .0 .pairs)
 
 write-reply-requires : tie.Need-write-reply-requires
 write-reply-requires c κs =
@@ -116,7 +121,7 @@ write-reply-requires c κs =
     let s = e .before .before .before .before .before .before .before .before .before .before .before in
     let p = timely (e .before .before .before .before .before) in (
       record { least = p .1 .least; fits = omega (arith, p .1 .most, p .0 .frames) },
-      ((asks-proper (came s .table) (s .pre .table) (e .before .find .result) (lives e), answered-by g), tag-words (came s .settings) (s .pre .settings)),
+      ((asks-proper (table s) (s .pre .0) (e .before .find .result) (lives e), answered-by g), tag-words (settings s) (s .pre .1)),
     )
 
 cast-length : tie.Need-cast-length
@@ -124,7 +129,7 @@ cast-length c = omega (arith, timely (c .before .before .before .before .before 
 
 returns-4 : tie.Need-returns-4
 unfolding numbers
-returns-4 c =
+returns-4 c whole sounds =
     let g = c .before .before .before .before .before .before .before .before .before .before .before .before .before .before .before .before .before in
     let e = g .before .before .before in
     let s = e .before .before .before .before .before .before .before .before .before .before .before in
@@ -132,11 +137,11 @@ returns-4 c =
     let w = c .before .before .write-reply in
     let p = c .before .before .before .before .before .before .before .before .end-at in
     let i = c .before .before .before .before .before .before .before .before .before .before .before .before .before .before .before .id-at in (
-      was-answered (came s) (s .pre) (a .time) (now (a .frame)) (now (a .out)) (now (a .list))
+      was-answered (came s whole) sounds (a .time) (now (a .frame)) (now (a .out)) (now (a .list))
           (gate (e .before .before .before .before .before)) (e .before .find .result) (found (e .before)) (e .if2 .left) (answered-by g)
           (i .result) (p .result) (w .result .partial) (w .result .value) _ _ _ _
           (i .ensures) (p .ensures .0) (p .ensures .1) (w .ensures),
-      ended-sound (came s) (s .pre) (e .before .find .result) (lives e) (a .time) _ _ (p .ensures .1),
+      ended-sound (came s whole) sounds (e .before .find .result) (lives e) (a .time) _ _ (p .ensures .1),
       λ h. absurd (h refl),
     )
 

@@ -1,7 +1,9 @@
 -- `replying::tick_refusal` meets its contract, by the tests that led to each return.
 -- Assumes nothing.
+use mathlib.Core.Path.{sym, _∙_}
 use Rattle.proxy.specs.Gates.{tickGate}
 use Rattle.machine.specs.Refusals.{lowest}
+use borrow.Author.Needs.{needs}
 use Rattle.replying.proofs.tick_refusal.Statement.{statement}
 use Rattle.replying.proofs.tick_refusal.Tie as tie
 
@@ -11,11 +13,11 @@ returns c = rw (c .if1 .taken)
 
 returns-2 : tie.Need-returns-2
 unfolding tickGate lowest
-returns-2 c = rw (c .before .if1 .left) (rw (c .if2 .taken))
+returns-2 c = rw (c .before .before .if1 .left) (rw (sym (c .before .is-untimely .ensures) ∙ c .if2 .taken))
 
 returns-3 : tie.Need-returns-3
 unfolding tickGate lowest
-returns-3 c = rw (c .before .if1 .left) (rw (c .if2 .left))
+returns-3 c = rw (c .before .before .if1 .left) (rw (sym (c .before .is-untimely .ensures) ∙ c .if2 .left))
 
 pub tick-refusal-spec : {M : Type 1} → statement M
-tick-refusal-spec = tie.close (tie.spec returns returns-2 returns-3)
+tick-refusal-spec = tie.close (tie.spec returns (λ c κs. search needs) returns-2 returns-3)

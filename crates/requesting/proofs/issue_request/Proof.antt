@@ -6,7 +6,7 @@ use native.Mathlib.Omega.{arith}
 use denote.Ref.{now}
 use Rattle.table.specs.Columns.{Columns, columns}
 use Rattle.proxy.specs.State.{kept}
-use Rattle.requesting.proofs.SeatLaws.{word-stands, carries, free-here, issued-there}
+use Rattle.requesting.proofs.SeatLaws.{word-stands, asked-so, carries, free-here, issued-there}
 use borrow.Author.Needs.{needs}
 use Rattle.requesting.proofs.issue_request.Statement.{statement}
 use Rattle.requesting.proofs.issue_request.Tie as tie
@@ -25,22 +25,24 @@ issue-requires c κs =
 
 forward-requires : tie.Need-forward-requires
 forward-requires c κs =
-    let s = c .before .before .before .before .before .before .before .before .before .before .before .before .before .before .before .before .before .before .before .before .before .before in
+    let s = c .before .before .before .before .before .before .before .before .before .before .before .before .before .before .before .before .before .before .before .before .before .before .before in
     let admitted = s .pre .1 .1 .0 in
     (record { least = admitted .least; fits = omega (arith, admitted .most, admitted .roomy) }, (carries (now (s .args .frame)) (admitted .legal) (s .pre .1 .1 .1 .0 .proper), s .pre .1 .0))
 
 cast-length : tie.Need-cast-length
-cast-length c = omega (arith, c .before .before .before .before .before .before .before .before .before .before .before .before .before .before .before .before .before .before .before .before .before .before .before .before .before .pre .1 .1 .0 .most)
+cast-length c = omega (arith, c .before .before .before .before .before .before .before .before .before .before .before .before .before .before .before .before .before .before .before .before .before .before .before .before .before .before .pre .1 .1 .0 .most)
 
 returns : tie.Need-returns
 returns c =
     let sent = c .before .before in
     let closed = sent .before .before .before in
-    let stored = closed .before .before .before .before in
+    let unit = closed .before .before .before .before in
+    let stored = unit .before in
     let named = stored .before .before .before .before .before .before .before .before .before in
     let found = named .before in
     let s = found .before .before .before .before .before .before in
-    let after = closed .close .ensures _ _ _ _ _ (stored .issue .ensures .1) in
+    let asked = asked-so (s .pre .1 .1 .1 .0) (s .pre .1 .1 .0 .legal) (unit .unit-of .ensures) in
+    let after = closed .close .ensures (s .args .word) (asked .0) (asked .1) _ _ _ _ _ (stored .issue .ensures .1) in
     λ join. issued-there (kept (s .args .timeout) join (s .args .tagged) (now (s .args .tags))) (came s) (s .args .client) (now (s .args .out)) (found .free-id .result)
     (s .pre .0) (s .pre .1 .1 .1 .0) (s .pre .1 .1 .0 .legal) (after .1) (found .free-id .ensures) (omega (arith, found .free-id .ok)) (sent .before .before .next .ensures)
     (named .original-of .ensures) (s .pre .1 .1 .1 .1 .0) (after .0 ∙ ap (map _) (stored .issue .ensures .0)) (sent .forward .ensures)
@@ -48,5 +50,5 @@ returns c =
 pub issue-request-spec : {M : Type 1} → statement M
 issue-request-spec =
     tie.close
-    (tie.spec (λ c κs. search needs) (λ c. search needs) (λ c κs. search needs) issue-requires (λ c κs. search needs) (λ c κs. search needs) forward-requires
+    (tie.spec (λ c κs. search needs) (λ c. search needs) (λ c κs. search needs) issue-requires (λ c κs. search needs) (λ c κs. search needs) (λ c κs. search needs) forward-requires
     cast-length (λ c. search needs) returns)

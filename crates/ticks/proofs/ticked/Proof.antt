@@ -1,4 +1,4 @@
--- `ticks::ticked` meets its contract: what the core does over the table and the clock it does to the columns that have them.
+-- `ticks::ticked` meets its contract: what the core does over the table and the clock it does to the columns that have them. Written by tools/fields.py from Proof.antt.in.
 -- Assumes nothing.
 use Rattle.state.specs.Fields.{columned}
 use borrow.Author.Needs.{needs}

@@ -1,16 +1,21 @@
 -- `zilborteka::zb_request` meets its contract: its core does, at the fields that it lends (`EntryRequest.antt`). Written by tools/gen.py.
 -- Assumes nothing.
-use mathlib.Core.List.{[]}
 use contract.Running.{givenOf, tables, tablesOf}
 use denote.Triple.Spec.{tripleOf}
 use denote.Triple.Table.{entered, cited}
-use Rattle.device.specs.declared.Device.{Device}
+use mathlib.Core.List.{[]}
 use Rattle.machine.specs.Calls.Call.{request as asks}
-use Rattle.device.specs.Fields.{device}
 use Rattle.device.specs.Device.{Made, Served}
-use Rattle.device.proofs.EntryRequest.{Core, entry-meets, Rel, CoreRel, Pre, CorePre}
-use Rattle.cores.proofs.request.Symbol as g
-use Rattle.cores.proofs.request.Met as g-thm
+use Rattle.proxy.specs.State.{lent, Sounds}
+use Rattle.proxy.specs.Calls.{Does}
+use mathlib.Core.Path.{_≡_}
+use Rattle.machine.specs.Numbers.{numbers}
+use Rattle.proxy.proofs.ToldLaws.{as-told}
+use Rattle.device.proofs.written.EntryRequest.{Core, entry-meets, Rel, CoreRel, Pre, CorePre, TellerRel, Teller}
+use Rattle.requesting.proofs.request.Symbol as g
+use Rattle.requesting.proofs.request.Met as g-thm
+use Rattle.reports.proofs.report_of.Symbol as k
+use Rattle.reports.proofs.report_of.Met as k-thm
 use Rattle.zilborteka.proofs.zb_request.Key.{name as #f}
 use Rattle.zilborteka.proofs.zb_request as f
 use Rattle.zilborteka.proofs.zb_request.Statement as stated
@@ -18,24 +23,25 @@ use Rattle.zilborteka.proofs.zb_request.Code as code
 
 -- what the entry point ensures and requires, and its core
 abbrev R : Rel
-R = λ d client time frame out r d′ out′. Served d (asks client time frame out) r d′ out′ []
-
-abbrev Before : Device → Type 0
-Before = λ d. Made d
+R = λ st client time frame out r st′ out′. Served st (asks client time frame out) r st′ out′ []
 
 abbrev Pe : Pre
-Pe = λ h p0 p1 p2 p3. Before h
+Pe = λ st client time frame out. Made st
 
 abbrev Pc : CorePre
-Pc = λ a0 a1 a2 a3 a4 a5 a6 a7 a8 a9 a10 a11 a12 a13 a14 p0 p1 p2 p3. Before (device a0 a1 a2 a3 a4 a5 a6 a7 a8 a9 a10 a11 a12 a13 a14)
+Pc = λ ids asked callers deadlines counts clients originals top cursor attached clock timeout join tagged tags client time frame out. Sounds (lent ids asked callers deadlines counts clients originals top cursor attached clock timeout join tagged tags)
 
 abbrev Rc : CoreRel
-Rc = λ a0 a1 a2 a3 a4 a5 a6 a7 a8 a9 a10 a11 a12 a13 a14 p0 p1 p2 p3 r w0 w1 w2 w3 w4 w5 w6 w7 w8 w9 w10 w11 w12 w13 w14 z3. R (device a0 a1 a2 a3 a4 a5 a6 a7 a8 a9 a10 a11 a12 a13 a14) p0 p1 p2 p3 r (device w0 w1 w2 w3 w4 w5 w6 w7 w8 w9 w10 w11 w12 w13 w14) z3
+Rc = λ ids asked callers deadlines counts clients originals top cursor attached clock timeout join tagged tags client time frame out r ids′ asked′ callers′ deadlines′ counts′ clients′ originals′ top′ cursor′ attached′ clock′ timeout′ join′ tagged′ tags′ out′. Does (lent ids asked callers deadlines counts clients originals top cursor attached clock timeout join tagged tags) (asks client time frame out) r (lent ids′ asked′ callers′ deadlines′ counts′ clients′ originals′ top′ cursor′ attached′ clock′ timeout′ join′ tagged′ tags′) out′ []
+
+abbrev Rk : TellerRel
+Rk = λ a r. r ≡ numbers a
 
 pub zb-request-spec : {M : Type 1} → stated.statement M
 unfolding code.routine tablesOf
 zb-request-spec 𝓤 H 𝓜 𝓖 𝓡 =
     entered 𝓤 H (tripleOf 𝓤 H (𝓖 .A) f.signature (f.spec 𝓤 H (𝓖 .A) (𝓜 .mem) (𝓡 .run)))
     (tables 𝓤 H 𝓜 𝓡 code.env .C) (tables 𝓤 H 𝓜 𝓡 code.env .Λ) #f code.function (code.unfolded 𝓤 H 𝓜 𝓡)
-    (entry-meets 𝓤 H (𝓖 .A) (givenOf 𝓤 H 𝓜 𝓖) g.name R Pe Rc Pc (λ h p0 p1 p2 p3 r w0 w1 w2 w3 w4 w5 w6 w7 w8 w9 w10 w11 w12 w13 w14 z3 ok e. e) (λ _ _ _ _ _ ok. ok) (tablesOf 𝓤 H 𝓜 (tables 𝓤 H 𝓜 𝓡 code.env))
-    (cited 𝓤 H (Core 𝓤 Rc Pc H (𝓖 .A)) 𝓜 𝓡 code.env g.name g.routine code.calls-cores·request (g-thm.met 𝓤 H 𝓜 𝓖 𝓡)))
+    (entry-meets 𝓤 H (𝓖 .A) (givenOf 𝓤 H 𝓜 𝓖) g.name k.name R Pe Rc Pc Rk (λ _ _ _ _ _ _ _ _ _ _ _ _ _ _ _ _ _ _ _ _ _ _ ok told _ tells. as-told _ _ _ _ _ _ _ tells told) (λ _ _ _ _ _ ok. ok) (tablesOf 𝓤 H 𝓜 (tables 𝓤 H 𝓜 𝓡 code.env))
+    (cited 𝓤 H (Core 𝓤 Rc Pc H (𝓖 .A)) 𝓜 𝓡 code.env g.name g.routine code.calls-requesting·request (g-thm.met 𝓤 H 𝓜 𝓖 𝓡))
+    (cited 𝓤 H (Teller 𝓤 Rk H (𝓖 .A)) 𝓜 𝓡 code.env k.name k.routine code.calls-reports·report-of (k-thm.met 𝓤 H 𝓜 𝓖 𝓡)))

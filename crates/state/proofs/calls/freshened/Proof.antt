@@ -1,11 +1,15 @@
--- `state::calls::freshened` meets its contract: what the core makes of the columns is handed on.
+-- `state::calls::freshened` meets its contract: columns of zeros with what was adopted are the fresh state.
 -- Assumes nothing.
+use mathlib.Core.Path.{refl}
+use Rattle.table.specs.Changes.{blank}
+use Rattle.proxy.proofs.MakingLaws.{made-fresh}
 use borrow.Author.Needs.{needs}
 use Rattle.state.proofs.calls.freshened.Statement.{statement}
 use Rattle.state.proofs.calls.freshened.Tie as tie
 
 returns : tie.Need-returns
-returns c = c .fresh .ensures
+unfolding blank
+returns c = made-fresh _ _ _ _ refl (c .adopt-value .ensures)
 
 pub freshened-spec : {M : Type 1} → statement M
 freshened-spec = tie.close (tie.spec (λ c κs. search needs) returns)

@@ -1,11 +1,10 @@
--- `zilborteka::streams::zb_stream_reset` meets its contract: its core does, at the fields that it lends (`EntryReset.antt`). Written by tools/gen.py.
+-- `zilborteka::streams::zb_stream_reset` meets its contract: its core does, at the fields that it lends (`EntryStreamReset.antt`). Written by tools/gen.py.
 -- Assumes nothing.
-use mathlib.Core.List.{[]}
 use contract.Running.{givenOf, tables, tablesOf}
 use denote.Triple.Spec.{tripleOf}
 use denote.Triple.Table.{entered, cited}
-use Rattle.stream.specs.Lent.{inlet, Resets}
-use Rattle.stream.proofs.EntryReset.{Core, entry-meets, Rel, CoreRel}
+use Rattle.stream.specs.Lent.{Resets, inlet}
+use Rattle.stream.proofs.written.EntryStreamReset.{Core, entry-meets, Rel, CoreRel}
 use Rattle.stream.proofs.reset.Symbol as g
 use Rattle.stream.proofs.reset.Met as g-thm
 use Rattle.zilborteka.proofs.streams.zb_stream_reset.Key.{name as #f}
@@ -15,15 +14,15 @@ use Rattle.zilborteka.proofs.streams.zb_stream_reset.Code as code
 
 -- what the entry point ensures and requires, and its core
 abbrev R : Rel
-R = λ i r i′. Resets r i′
+R = λ st r st′. Resets r st′
 
 abbrev Rc : CoreRel
-Rc = λ a0 a1 a2 r w0 w1 w2. R (inlet a0 a1 a2) r (inlet w0 w1 w2)
+Rc = λ bytes count mark r bytes′ count′ mark′. Resets r (inlet bytes′ count′ mark′)
 
 pub zb-stream-reset-spec : {M : Type 1} → stated.statement M
 unfolding code.routine tablesOf
 zb-stream-reset-spec 𝓤 H 𝓜 𝓖 𝓡 =
     entered 𝓤 H (tripleOf 𝓤 H (𝓖 .A) f.signature (f.spec 𝓤 H (𝓖 .A) (𝓜 .mem) (𝓡 .run)))
     (tables 𝓤 H 𝓜 𝓡 code.env .C) (tables 𝓤 H 𝓜 𝓡 code.env .Λ) #f code.function (code.unfolded 𝓤 H 𝓜 𝓡)
-    (entry-meets 𝓤 H (𝓖 .A) (givenOf 𝓤 H 𝓜 𝓖) g.name R Rc (λ h r w0 w1 w2 e. e) (tablesOf 𝓤 H 𝓜 (tables 𝓤 H 𝓜 𝓡 code.env))
+    (entry-meets 𝓤 H (𝓖 .A) (givenOf 𝓤 H 𝓜 𝓖) g.name R Rc (λ _ _ _ _ _ told. told) (tablesOf 𝓤 H 𝓜 (tables 𝓤 H 𝓜 𝓡 code.env))
     (cited 𝓤 H (Core 𝓤 Rc H (𝓖 .A)) 𝓜 𝓡 code.env g.name g.routine code.calls-stream·reset (g-thm.met 𝓤 H 𝓜 𝓖 𝓡)))

@@ -1,12 +1,10 @@
--- `zilborteka::streams::zb_stream_take` meets its contract: its core does, at the fields that it lends (`EntryTake.antt`). Written by tools/gen.py.
+-- `zilborteka::streams::zb_stream_take` meets its contract: its core does, at the fields that it lends (`EntryStreamTake.antt`). Written by tools/gen.py.
 -- Assumes nothing.
-use mathlib.Core.List.{[]}
 use contract.Running.{givenOf, tables, tablesOf}
 use denote.Triple.Spec.{tripleOf}
 use denote.Triple.Table.{entered, cited}
-use Rattle.stream.specs.declared.Inlet.{Inlet}
-use Rattle.stream.specs.Lent.{inlet, Made, Takes}
-use Rattle.stream.proofs.EntryTake.{Core, entry-meets, Rel, CoreRel, Pre, CorePre}
+use Rattle.stream.specs.Lent.{Made, Takes, inlet}
+use Rattle.stream.proofs.written.EntryStreamTake.{Core, entry-meets, Rel, CoreRel, Pre, CorePre}
 use Rattle.stream.proofs.take_piece.Symbol as g
 use Rattle.stream.proofs.take_piece.Met as g-thm
 use Rattle.zilborteka.proofs.streams.zb_stream_take.Key.{name as #f}
@@ -16,24 +14,21 @@ use Rattle.zilborteka.proofs.streams.zb_stream_take.Code as code
 
 -- what the entry point ensures and requires, and its core
 abbrev R : Rel
-R = λ i piece out r i′ out′. Takes i piece out r i′ out′
-
-abbrev Before : Inlet → Type 0
-Before = λ i. Made i
+R = λ st piece out r st′ out′. Takes st piece out r st′ out′
 
 abbrev Pe : Pre
-Pe = λ h p0 p1. Before h
+Pe = λ st piece out. Made st
 
 abbrev Pc : CorePre
-Pc = λ a0 a1 a2 p0 p1. Before (inlet a0 a1 a2)
+Pc = λ bytes count mark piece out. Made (inlet bytes count mark)
 
 abbrev Rc : CoreRel
-Rc = λ a0 a1 a2 p0 p1 r w0 w1 w2 z1. R (inlet a0 a1 a2) p0 p1 r (inlet w0 w1 w2) z1
+Rc = λ bytes count mark piece out r bytes′ count′ mark′ out′. Takes (inlet bytes count mark) piece out r (inlet bytes′ count′ mark′) out′
 
 pub zb-stream-take-spec : {M : Type 1} → stated.statement M
 unfolding code.routine tablesOf
 zb-stream-take-spec 𝓤 H 𝓜 𝓖 𝓡 =
     entered 𝓤 H (tripleOf 𝓤 H (𝓖 .A) f.signature (f.spec 𝓤 H (𝓖 .A) (𝓜 .mem) (𝓡 .run)))
     (tables 𝓤 H 𝓜 𝓡 code.env .C) (tables 𝓤 H 𝓜 𝓡 code.env .Λ) #f code.function (code.unfolded 𝓤 H 𝓜 𝓡)
-    (entry-meets 𝓤 H (𝓖 .A) (givenOf 𝓤 H 𝓜 𝓖) g.name R Pe Rc Pc (λ h p0 p1 r w0 w1 w2 z1 ok e. e) (λ _ _ _ ok. ok) (tablesOf 𝓤 H 𝓜 (tables 𝓤 H 𝓜 𝓡 code.env))
+    (entry-meets 𝓤 H (𝓖 .A) (givenOf 𝓤 H 𝓜 𝓖) g.name R Pe Rc Pc (λ _ _ _ _ _ _ _ _ ok told. told) (λ _ _ _ ok. ok) (tablesOf 𝓤 H 𝓜 (tables 𝓤 H 𝓜 𝓡 code.env))
     (cited 𝓤 H (Core 𝓤 Rc Pc H (𝓖 .A)) 𝓜 𝓡 code.env g.name g.routine code.calls-stream·take-piece (g-thm.met 𝓤 H 𝓜 𝓖 𝓡)))
