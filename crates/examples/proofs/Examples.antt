@@ -17,6 +17,7 @@ use Rattle.settings.specs.TagWords.{kindOf}
 use Rattle.pdu.specs.Requests.{classOf, badFunction, badLength, badValue, badAddress, askedBy, faultOf}
 use Rattle.pdu.specs.Replies.{shaped, answering}
 use Rattle.pdu.specs.Spoiling.{sameTable, meets, spoils}
+use Rattle.pdu.specs.Reads.{sameRead, equalReads}
 use Rattle.rewrite.specs.Registers.{registersAt, laidAt}
 use Rattle.rewrite.specs.Rewriting.{turned, verdict, laidBy, rewrittenFrom, partials, values, rewriting}
 use Rattle.rewrite.specs.Frames.{forwarded, reencoded, returnedBy, returned}
@@ -25,7 +26,7 @@ use Rattle.machine.specs.Machine.{Machine, made}
 use Rattle.machine.specs.Calls.{Call, Outcome, outOf, listOf}
 use Rattle.machine.specs.Calls.Call.{attach, request, reply, tick}
 use Rattle.machine.specs.Refusals.{rows, lowest}
-use Rattle.machine.specs.Requests.{sameRead, alike, joins, closing, exhausted, excepted, joinedTo, issuedTo, served, admitted}
+use Rattle.machine.specs.Requests.{alike, joins, closing, exhausted, excepted, joinedTo, issuedTo, served, admitted}
 use Rattle.machine.specs.Replies.{answeredTo, answered, expiredTo, ticked}
 use Rattle.machine.specs.Outcomes.{granted, outcome}
 use Rattle.machine.specs.declared.Answer.{Answer}
@@ -81,7 +82,7 @@ whole e =
 
 -- what it comes to by the definitions, all of which are computed with where this one is
 unfoldable pub shown : Example → Given
-unfolding played outcome granted rows lowest admitted served exhausted excepted joinedTo issuedTo sameTable meets spoils sameRead alike joins closing answered answeredTo ticked expiredTo outOf listOf
+unfolding played outcome granted rows lowest admitted served exhausted excepted joinedTo issuedTo sameTable meets spoils sameRead equalReads alike joins closing answered answeredTo ticked expiredTo outOf listOf
     forwarded reencoded returned returnedBy rewriting partials values rewrittenFrom laidBy verdict turned registersAt laidAt filter tab best first with
     digits value below packed unpacked decimal encodedDigits decodedDigits registers encoded decoded wordsOf numberOf kindOf
     classOf badFunction badLength badValue badAddress askedBy faultOf shaped answering misframed exception liveIn flatMap

@@ -1,9 +1,9 @@
 -- What a request joins: nothing but what it asks itself and is not closed, and only a read with joining on; and what that is in plain numbers and bytes.
 -- Assumes nothing.
 use Prim.Native.Nat.{ℕ, _<_}
-use mathlib.Core.Path.{_≡_, refl, ap, sym, _∙_}
+use mathlib.Core.Path.{_≡_, ap, sym, _∙_}
 use mathlib.Core.Logic.{⊎-elim, _⊎_, inl, inr, _↔_}
-use mathlib.Core.Bool.{Bool, true, false, cond, not, _&&_, _||_, false≢true, true≢false, and-true, and-false}
+use mathlib.Core.Bool.{Bool, true, false, cond, not, _||_, true≢false, and-true, and-false}
 use mathlib.Core.List.{List}
 use lib.ListN.{length, getD}
 use lib.Dec.{eqb}
@@ -13,47 +13,21 @@ use Rattle.laws.proofs.Choice.{true-or, and-left, and-right, never}
 use Rattle.laws.proofs.TestLaws.{holds-eq, holds-not, holds-and, holds-or}
 use Rattle.settings.specs.Grammar.{Value}
 use Rattle.pdu.specs.Replies.{What, what}
-use Rattle.pdu.specs.Spoiling.{sameTable}
-use Rattle.pdu.proofs.SpoilingLaws.{same-table}
+use Rattle.pdu.specs.Reads.{equalReads}
+use Rattle.pdu.proofs.ReadLaws.{equal-exact, equal-self, equal-other}
 use Rattle.pdu.specs.declared.Table.{Table}
 use Rattle.pdu.specs.declared.Table.the-variants.{Bits, Registers}
-use Rattle.pdu.specs.declared.Asked.{Asked}
 use Rattle.pdu.specs.declared.Asked.the-variants.{Read, SingleWrite, MultipleWrite, Other}
 use Rattle.book.specs.Book.{Live}
 use Rattle.book.specs.Desk.{Open}
 use Rattle.machine.specs.Machine.{Machine, Note, rules, settings, clocked}
-use Rattle.machine.specs.Requests.{wanted, sameRead, alike, joins}
+use Rattle.machine.specs.Requests.{wanted, alike, joins}
 use Rattle.machine.specs.Spelled.{spelled, asking}
 use Rattle.machine.proofs.SpelledLaws.{asked-spelled, wanted-spelled, kept-as-asked}
 
-whats : {i j f g : ℕ} {a b : Asked} → i ≡ j → f ≡ g → a ≡ b → what i f a ≡ what j g b
-whats p q r = rw (p, q, r)
-
-what-same : (w u : What) → w .unit ≡ u .unit → w .function ≡ u .function → w .asked ≡ u .asked → w ≡ u
-what-same w u p q r = whats p q r
-
-same-read : (a b : Asked) → sameRead a b ≡ true → a ≡ b
-unfolding sameRead
-same-read (Read t s q) (Read r u p) e =
-    let x = holds-and (sameTable t r) _ (same-table t r) (holds-and (eqb s u) (eqb q p) (holds-eq s u) (holds-eq q p)) .0 e in
-    rw (x .0, x .1 .0, x .1 .1)
-same-read (Read t s q) (SingleWrite r a v) e = absurd (false≢true e)
-same-read (Read t s q) (MultipleWrite r u p) e = absurd (false≢true e)
-same-read (Read t s q) Other e = absurd (false≢true e)
-same-read (SingleWrite t a v) b e = absurd (false≢true e)
-same-read (MultipleWrite t s q) b e = absurd (false≢true e)
-same-read Other b e = absurd (false≢true e)
-
 alike-exact : (v : Value) (w u : What) → alike v w u ≡ true → w ≡ u
 unfolding alike
-alike-exact v w u t =
-    let on = eqb (v .join) 1 in
-    let units = eqb (w .unit) (u .unit) in
-    let functions = eqb (w .function) (u .function) in
-    let reads = sameRead (w .asked) (u .asked) in
-    let t₁ = and-right on (units && (functions && reads)) t in
-    let t₂ = and-right units (functions && reads) t₁ in
-    what-same w u (eqb-true _ _ (and-left units (functions && reads) t₁)) (eqb-true _ _ (and-left functions reads t₂)) (same-read _ _ (and-right functions reads t₂))
+alike-exact v w u t = equal-exact w u (and-right (eqb (v .join) 1) (equalReads w u) t)
 
 -- A request joins nothing but what is not closed and asks what it asks itself.
 joins-both : (v : Value) (w u : What) (n : Note) → (joins v w u n ≡ true) ↔ ((n .closed ≡ false) × (alike v w u ≡ true))
@@ -77,21 +51,13 @@ joins-none v w u n off = simp (alike-none v w u off, and-false)
 
 -- A read may join its like when joining is on.
 pub joins-read : (v : Value) (w : What) (t : Table) (s q : ℕ) → w .asked ≡ Read t s q → alike v w w ≡ eqb (v .join) 1
-unfolding alike sameRead
-joins-read v w t s q e =
-    rw (e, eq-eqb (w .unit) (w .unit) refl, eq-eqb (w .function) (w .function) refl, same-table t t .1 refl, eq-eqb s s refl, eq-eqb q q refl) (and-true (eqb (v .join) 1))
-
-reads-other : (a b : Asked) → ((t : Table) (s q : ℕ) → a ≡ Read t s q → ⊥) → sameRead a b ≡ false
-unfolding sameRead
-reads-other (Read t s q) b other = absurd (other t s q refl)
-reads-other (SingleWrite t a v) b other = refl
-reads-other (MultipleWrite t s q) b other = refl
-reads-other Other b other = refl
+unfolding alike
+joins-read v w t s q e = rw (equal-self w t s q e) (and-true (eqb (v .join) 1))
 
 -- What is no read joins nothing.
 pub joins-other : (v : Value) (w u : What) → ((t : Table) (s q : ℕ) → w .asked ≡ Read t s q → ⊥) → alike v w u ≡ false
 unfolding alike
-joins-other v w u other = simp (reads-other (w .asked) (u .asked) other, and-false)
+joins-other v w u other = simp (equal-other w u other, and-false)
 
 -- the entry may be joined by the request f at the time t: joining is on, f is a read (01 to 04), the entry is not closed, asks what f asks, has room for one more party, and is due
 -- later; when an entry is closed is said of the history in ClosedLaws

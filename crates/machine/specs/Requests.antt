@@ -1,7 +1,7 @@
 -- A request that was not refused: the exceptions 03 and 02, joining, issuing, and exception 04, in document 01's order.
 -- Assumes nothing.
 use Prim.Native.Nat.{ℕ, _+_}
-use mathlib.Core.Bool.{Bool, false, cond, not, _&&_, _||_}
+use mathlib.Core.Bool.{Bool, cond, not, _&&_, _||_}
 use mathlib.Core.Option.{Option, some, none}
 use mathlib.Core.List.{List, []}
 use lib.ListN.{length}
@@ -12,9 +12,8 @@ use Rattle.wire.specs.Frame.{idOf, unitOf, functionOf, laid, exception}
 use Rattle.settings.specs.Grammar.{Value}
 use Rattle.pdu.specs.Requests.{askedOf, faultOf}
 use Rattle.pdu.specs.Replies.{What, what}
-use Rattle.pdu.specs.Spoiling.{sameTable, spoils}
-use Rattle.pdu.specs.declared.Asked.{Asked}
-use Rattle.pdu.specs.declared.Asked.the-variants.{Read, SingleWrite, MultipleWrite, Other}
+use Rattle.pdu.specs.Spoiling.{spoils}
+use Rattle.pdu.specs.Reads.{equalReads}
 use Rattle.rewrite.specs.Frames.{forwarded}
 use Rattle.book.specs.Book.{Party, Live, at}
 use Rattle.book.specs.Book.Move.{join, issue, mark}
@@ -30,18 +29,9 @@ wanted f = what (unitOf f) (functionOf f) (askedOf f)
 abbrev pub partyOf : ℕ → List ℕ → Party
 partyOf c f = record { client = c; original = idOf f }
 
--- 01 to 04, when joining is on: equal unit, function, start and quantity; equal functions have the same table
-unfoldable pub sameRead : Asked → Asked → Bool
-sameRead (Read t s q) (Read r u p) = sameTable t r && (eqb s u && eqb q p)
-sameRead (Read t s q) (SingleWrite r a v) = false
-sameRead (Read t s q) (MultipleWrite r u p) = false
-sameRead (Read t s q) Other = false
-sameRead (SingleWrite t a v) x = false
-sameRead (MultipleWrite t s q) x = false
-sameRead Other x = false
-
+-- 01 to 04, when joining is on: equal unit, function, start and quantity
 unfoldable pub alike : Value → What → What → Bool
-alike s w v = eqb (s .join) 1 && (eqb (w .unit) (v .unit) && (eqb (w .function) (v .function) && sameRead (w .asked) (v .asked)))
+alike s w v = eqb (s .join) 1 && equalReads w v
 
 -- and it is not closed
 unfoldable pub joins : Value → What → What → Note → Bool

@@ -2,3 +2,4 @@ pub mod RequestLaws
 pub mod ReplyLaws
 pub mod WordLaws
 pub mod SpoilingLaws
+pub mod ReadLaws

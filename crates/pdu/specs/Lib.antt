@@ -2,3 +2,4 @@ pub mod Requests
 pub mod Replies
 pub mod Words
 pub mod Spoiling
+pub mod Reads

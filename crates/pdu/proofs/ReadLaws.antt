@@ -1,0 +1,61 @@
+-- Equal reads ask the same, a read is equal to itself, and what is no read is equal to nothing.
+-- Assumes nothing.
+use Prim.Native.Nat.{ℕ}
+use mathlib.Core.Path.{_≡_, refl}
+use mathlib.Core.Bool.{true, false, _&&_, false≢true, and-false}
+use lib.Dec.{eqb}
+use borrow.Author.Tests.{eq-eqb, eqb-true}
+use Rattle.laws.proofs.Choice.{and-left, and-right}
+use Rattle.laws.proofs.TestLaws.{holds-eq, holds-and}
+use Rattle.pdu.specs.Replies.{What, what}
+use Rattle.pdu.specs.Spoiling.{sameTable}
+use Rattle.pdu.specs.Reads.{sameRead, equalReads}
+use Rattle.pdu.specs.declared.Table.{Table}
+use Rattle.pdu.specs.declared.Asked.{Asked}
+use Rattle.pdu.specs.declared.Asked.the-variants.{Read, SingleWrite, MultipleWrite, Other}
+use Rattle.pdu.proofs.SpoilingLaws.{same-table}
+
+whats : {i j f g : ℕ} {a b : Asked} → i ≡ j → f ≡ g → a ≡ b → what i f a ≡ what j g b
+whats p q r = rw (p, q, r)
+
+what-same : (w u : What) → w .unit ≡ u .unit → w .function ≡ u .function → w .asked ≡ u .asked → w ≡ u
+what-same w u p q r = whats p q r
+
+same-read : (a b : Asked) → sameRead a b ≡ true → a ≡ b
+unfolding sameRead
+same-read (Read t s q) (Read r u p) e =
+    let x = holds-and (sameTable t r) _ (same-table t r) (holds-and (eqb s u) (eqb q p) (holds-eq s u) (holds-eq q p)) .0 e in
+    rw (x .0, x .1 .0, x .1 .1)
+same-read (Read t s q) (SingleWrite r a v) e = absurd (false≢true e)
+same-read (Read t s q) (MultipleWrite r u p) e = absurd (false≢true e)
+same-read (Read t s q) Other e = absurd (false≢true e)
+same-read (SingleWrite t a v) b e = absurd (false≢true e)
+same-read (MultipleWrite t s q) b e = absurd (false≢true e)
+same-read Other b e = absurd (false≢true e)
+
+-- Equal reads ask the same.
+pub equal-exact : (w u : What) → equalReads w u ≡ true → w ≡ u
+unfolding equalReads
+equal-exact w u t =
+    let units = eqb (w .unit) (u .unit) in
+    let functions = eqb (w .function) (u .function) in
+    let reads = sameRead (w .asked) (u .asked) in
+    let s = and-right units (functions && reads) t in
+    what-same w u (eqb-true _ _ (and-left units (functions && reads) t)) (eqb-true _ _ (and-left functions reads s)) (same-read _ _ (and-right functions reads s))
+
+-- A read is equal to itself.
+pub equal-self : (w : What) (t : Table) (s q : ℕ) → w .asked ≡ Read t s q → equalReads w w ≡ true
+unfolding equalReads sameRead
+equal-self w t s q e = rw (e, eq-eqb (w .unit) (w .unit) refl, eq-eqb (w .function) (w .function) refl, same-table t t .1 refl, eq-eqb s s refl, eq-eqb q q refl)
+
+reads-other : (a b : Asked) → ((t : Table) (s q : ℕ) → a ≡ Read t s q → ⊥) → sameRead a b ≡ false
+unfolding sameRead
+reads-other (Read t s q) b other = absurd (other t s q refl)
+reads-other (SingleWrite t a v) b other = refl
+reads-other (MultipleWrite t s q) b other = refl
+reads-other Other b other = refl
+
+-- What is no read is equal to nothing.
+pub equal-other : (w u : What) → ((t : Table) (s q : ℕ) → w .asked ≡ Read t s q → ⊥) → equalReads w u ≡ false
+unfolding equalReads
+equal-other w u other = simp (reads-other (w .asked) (u .asked) other, and-false)
