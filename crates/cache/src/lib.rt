@@ -1,0 +1,1 @@
+// The cache of replies to reads: definitions and laws alone.
