@@ -1,1 +1,2 @@
 pub mod Cache
+pub mod Plain
