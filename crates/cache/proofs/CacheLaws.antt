@@ -25,13 +25,14 @@ use Rattle.cache.specs.Plain.{Sorted, Keyed, Fresh, Spare, Takes, own, s
 
 -- WHAT STANDS IN A PLACE
 
+-- what has a key is a reply to that
+has-keyed : (w : What) (o : Option Cached) → hasKey w o ≡ true → Keyed w o
+has-keyed w none t = absurd (false≢true t)
+has-keyed w (some x) t = (x, refl, sym (equal-exact w (x .what) t))
+
 -- It has the key of a read exactly if it is a reply to that.
 pub key-exactly : (w : What) → equalReads w w ≡ true → (o : Option Cached) → (hasKey w o ≡ true) ↔ Keyed w o
-key-exactly w self none = (λ t. absurd (false≢true t), λ h. absurd (Option·none-ne-some (h .0) (h .1)))
-key-exactly w self (some x) = (
-  λ t. (x, refl, sym (equal-exact w (x .what) t)),
-  λ h. rw (Option·some-injective x (h .0) (h .1), h .2) self,
-)
+key-exactly w self o = (has-keyed w o, λ h. rw (h .1, h .2) self)
 
 -- It is fresh exactly if less than its life has gone by since it was filled.
 pub fresh-exactly : (now : ℕ) (o : Option Cached) → (isFresh now o ≡ true) ↔ Fresh now o
@@ -238,6 +239,28 @@ no-read-hits-nothing c now w other = best-nothing _ (λ i j. false) 64 64 (λ k 
     keyless : (o : Option Cached) → (hasKey w o && isFresh now o) ≡ false
     keyless none = refl
     keyless (some x) = rw (equal-other w (x .what) other)
+
+-- A request is hit at the place that has its key, if that is fresh, and nowhere else.
+pub hit-is-own : (c : Cache) → Sorted c → (now : ℕ) (w : What) → hitPlace now w c ≡ cond (ltb (ownPlace w c) 64 && isFresh now (inCache c (ownPlace w c))) (ownPlace w c) 64
+hit-is-own c s now w =
+    ⊎-elim
+    (λ (l : ownPlace w c < 64). rw (lt-ltb (ownPlace w c) 64 l) (found l (has-keyed w _ (best-some (λ k. hasKey w (inCache c k)) (λ i j. false) 64 l))))
+    (λ (l : 64 ≤ ownPlace w c). rw (le-ltb (ownPlace w c) 64 l)
+    (best-nothing _ (λ i j. false) 64 64 (λ k h. rw (best-none (λ k. hasKey w (inCache c k)) (λ i j. false) 64 l k h))))
+    (lt-or (ownPlace w c) 64)
+  where
+    found : ownPlace w c < 64 → Keyed w (inCache c (ownPlace w c)) → hitPlace now w c ≡ cond (isFresh now (inCache c (ownPlace w c))) (ownPlace w c) 64
+    found l h =
+        let self : equalReads w w ≡ true = rw (h .2) at (s .reads (ownPlace w c) (h .0) (h .1)) in
+        ⊎-elim
+        (λ (t : isFresh now (inCache c (ownPlace w c)) ≡ true). rw t
+        (hit-exactly c s now w self (ownPlace w c) l .1 (h .0, h .1, h .2, ltb-true _ _ (rw (h .1) at t))))
+        (λ (t : isFresh now (inCache c (ownPlace w c)) ≡ false). rw t
+        (hit-nowhere-exactly c s now w self .1 (λ k e b g q.
+        let m : k ≡ ownPlace w c = s .once k (ownPlace w c) e (h .0) g (h .1) (q ∙ sym (h .2)) in
+        let here : inCache c (ownPlace w c) ≡ some e = rw m at g in
+        ltb-false (now - e .filled) (e .life) (rw here at t))))
+        (true-or (isFresh now (inCache c (ownPlace w c))))
 
 -- AFTER A FILL AND AFTER A DROP
 

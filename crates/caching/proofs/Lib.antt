@@ -1,0 +1,5 @@
+pub mod KeptLaws
+pub mod DropLaws
+pub mod FillLaws
+pub mod ShowLaws
+pub mod PlainLaws
