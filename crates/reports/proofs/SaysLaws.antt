@@ -32,7 +32,7 @@ use Rattle.settingstext.specs.TextWritten.{writtenTo}
 use Rattle.machine.specs.Numbers.{ten}
 use Rattle.machine.specs.declared.Report.{Report}
 use Rattle.reports.specs.Plain.{protocolIn, lengthIn, WrongHeader, FrameFirst, SplitSays, textFor, WriteSays, ReadSays}
-use Rattle.reports.specs.Reports.{told, splitTold, readTold, TextSeen, textSeen, wroteTold, writeTold}
+use Rattle.reports.specs.Reports.{told, splitTold, readTold, TextSeen, wroteTold, SplitPromised, ReadPromised, WritePromised}
 use Rattle.reports.specs.declared.SettingsRead.{SettingsRead}
 
 -- A report that tells four numbers has these ten exactly if they are its four, and 0 behind them.
@@ -99,7 +99,7 @@ frame-exactly run = (
 )
 
 -- What splitting reports of any run.
-pub split-says : (run : List ℕ) {r : Report} → r ≡ splitTold (standingOf run) (length (firstFrame run)) → SplitSays run r
+pub split-says : (run : List ℕ) {r : Report} → SplitPromised run r → SplitSays run r
 split-says run e =
     let s = splits (standingOf run) (length (firstFrame run)) e in
     record {
@@ -117,7 +117,7 @@ data Writes (from : Settings) (b : List ℕ) (r : Report) (b′ : List ℕ) : Ty
   short : ValidSettings from → length b < length (textFor from) → r ≡ told 1 0 0 0 → b′ ≡ b → Writes from b r b′
   done : ValidSettings from → length (textFor from) ≤ length b → r ≡ told 0 0 1 (length (textFor from)) → b′ ≡ over (textFor from) b → Writes from b r b′
 
-writes : (from : Settings) (b : List ℕ) {r : Report} {b′ : List ℕ} → textSeen r b′ ≡ writeTold (writtenTo (valueOf from) b) → Writes from b r b′
+writes : (from : Settings) (b : List ℕ) {r : Report} {b′ : List ℕ} → WritePromised from b r b′ → Writes from b r b′
 unfolding writtenTo wroteTold
 writes from b e =
     let n = length (textFor from) in
@@ -164,7 +164,7 @@ write-case from b (done v l e q) =
     }
 
 -- What writing reports of any settings and buffer, and what it leaves in the buffer.
-pub write-says : (from : Settings) (b : List ℕ) {r : Report} {b′ : List ℕ} → textSeen r b′ ≡ writeTold (writtenTo (valueOf from) b) → WriteSays from b r b′
+pub write-says : (from : Settings) (b : List ℕ) {r : Report} {b′ : List ℕ} → WritePromised from b r b′ → WriteSays from b r b′
 write-says from b e = write-case from b (writes from b e)
 
 -- the text that was written, read
@@ -175,8 +175,8 @@ text-back from b (done v l e q) z =
     rw (e, q, take-append-seam (textFor from) (drop (length (textFor from)) b)) (read-back (valueOf from) (settings-valid-exactly from .1 v))
 
 -- What was written is read back: reading it is done, and gives the value.
-pub written-reads-back : (from : Settings) (b : List ℕ) {r : Report} {b′ : List ℕ} → textSeen r b′ ≡ writeTold (writtenTo (valueOf from) b) → r .refusal ≡ 0
-    → {q : SettingsRead} → q ≡ readTold (readText (take (r .length) b′)) → (q .answer ≡ ten 0 0 1 0 0 0 0 0 0 0) × (valueOf (q .settings) ≡ valueOf from)
+pub written-reads-back : (from : Settings) (b : List ℕ) {r : Report} {b′ : List ℕ} → WritePromised from b r b′ → r .refusal ≡ 0
+    → {q : SettingsRead} → ReadPromised (take (r .length) b′) q → (q .answer ≡ ten 0 0 1 0 0 0 0 0 0 0) × (valueOf (q .settings) ≡ valueOf from)
 unfolding readTold
 written-reads-back from b e z p =
     let same = p ∙ ap readTold (text-back from b (writes from b e) z) in
@@ -203,5 +203,5 @@ read-case t (wrong j) y {r} e =
     }
 
 -- What reading reports of any text, and what it gives.
-pub read-says : (t : List ℕ) {r : SettingsRead} → r ≡ readTold (readText t) → ReadSays t r
+pub read-says : (t : List ℕ) {r : SettingsRead} → ReadPromised t r → ReadSays t r
 read-says t e = read-case t (readText t) refl e

@@ -6,13 +6,9 @@ use settings::Settings;
 use settingstext::writing::Wrote;
 use wire::splitting::Split;
 ghost use mathlib.Core.Path.{_≡_};
-ghost use lib.ListN.{length};
-ghost use Rattle.wire.specs.Splitting.{standingOf, firstFrame};
-ghost use Rattle.settings.specs.Grammar.{readText};
-ghost use Rattle.settings.specs.Values.{settings, valueOf};
-ghost use Rattle.settingstext.specs.TextWritten.{writtenTo};
+ghost use Rattle.settings.specs.Values.{settings};
 ghost use Rattle.machine.specs.Numbers.{report, numbers};
-ghost use Rattle.reports.specs.Reports.{told, splitTold, lineTold, readTold, textSeen, writeTold};
+ghost use Rattle.reports.specs.Reports.{told, lineTold, SplitPromised, ReadPromised, WritePromised};
 
 // The outcomes' numbers: ZB_DONE to ZB_MORE. Reading and writing settings are done too.
 const DONE: u32 = 1;
@@ -132,7 +128,7 @@ pub struct SettingsRead {
 
 // Splits a run: the first frame's length, more needed, or refusal 4.
 pub fn split(run: &[u8]) -> Report
-    ensures { λ r. ⌜ r ≡ splitTold (standingOf (now (run .entry))) (length (firstFrame (now (run .entry)))) ⌝ }
+    ensures { λ r. ⌜ SplitPromised (now (run .entry)) r ⌝ }
 {
     match wire::splitting::standing(run) {
         Split::Frame => {
@@ -157,7 +153,7 @@ fn read_as(line: u32) -> Report
 
 // Reads a settings text: the value, or refusal 10 with the first wrong line and the usual value.
 pub fn read(text: &[u8]) -> SettingsRead
-    ensures { λ r. ⌜ r ≡ readTold (readText (now (text .entry))) ⌝ }
+    ensures { λ r. ⌜ ReadPromised (now (text .entry)) r ⌝ }
 {
     let read = settingstext::reading::read_text(text);
     let answer = read_as(read.line);
@@ -175,7 +171,7 @@ pub fn write<'a>(
     sign: &'a [u16; laws::MOST_TAGS],
     text: &mut [u8],
 ) -> Report
-    ensures { λ r. ⌜ textSeen r (now (text .exit)) ≡ writeTold (writtenTo (valueOf (settings (now (timeout .entry)) (now (join .entry)) (now (tags .entry)) (now (addr .entry)) (now (width .entry)) (now (sign .entry)))) (now (text .entry))) ⌝ }
+    ensures { λ r. ⌜ WritePromised (settings (now (timeout .entry)) (now (join .entry)) (now (tags .entry)) (now (addr .entry)) (now (width .entry)) (now (sign .entry))) (now (text .entry)) r (now (text .exit)) ⌝ }
 {
     match settingstext::writing::write_text(*timeout, *join, *tags, addr, width, sign, text) {
         Wrote::Text(size) => said(0, 0, DONE, size as u32),

@@ -1,4 +1,4 @@
--- Document 01 on the calls that need no device, and on making one: what a host sees of each, for any bytes, buffers and settings. The given equations are the promises of the exported functions.
+-- Document 01 on the calls that need no device, and on making one: what a host sees of each, for any bytes, buffers and settings. What is given of a call is the promise of its exported function.
 -- Assumes nothing.
 use Prim.Native.Nat.{ℕ, _+_, _≤_, _<_}
 use mathlib.Core.Path.{_≡_, ap, sym, _∙_}
@@ -8,18 +8,16 @@ use mathlib.Core.List.{List, [], _++_}
 use native.Mathlib.Omega.{arith}
 use lib.ListN.{length, take, drop, replicate}
 use Rattle.laws.proofs.Choice.{true-or}
-use Rattle.wire.specs.Splitting.{standingOf, firstFrame}
 use Rattle.settings.specs.declared.Settings.{Settings}
-use Rattle.settings.specs.Grammar.{valid, readText}
+use Rattle.settings.specs.Grammar.{valid}
 use Rattle.settings.specs.Plain.{ValidSettings, FirstWrong}
 use Rattle.settings.specs.Values.{valueOf}
 use Rattle.settings.proofs.ValidLaws.{settings-valid-exactly}
-use Rattle.settingstext.specs.TextWritten.{writtenTo}
 use Rattle.machine.specs.Machine.{made}
 use Rattle.machine.specs.Numbers.{ten, numbers}
 use Rattle.machine.specs.declared.Report.{Report}
 use Rattle.reports.specs.Plain.{lengthIn, WrongHeader, FrameFirst, textFor}
-use Rattle.reports.specs.Reports.{told, splitTold, readTold, textSeen, writeTold}
+use Rattle.reports.specs.Reports.{told, SplitPromised, ReadPromised, WritePromised}
 use Rattle.reports.specs.declared.SettingsRead.{SettingsRead}
 use Rattle.reports.proofs.SaysLaws as says
 use Rattle.proxy.proofs.MakingLaws.{adopts-valid, adopts-usual}
@@ -28,7 +26,7 @@ use Rattle.device.specs.Device.{Freshly}
 use Rattle.zilborteka.specs.Lives.{inForce, machineIn}
 
 -- A frame: "With fewer than 6 bytes: more needed. With 6 or more: refusal 4 if protocol is not 0 or length not 2 to 254; else the frame, or more needed."
-module _ (run : List ℕ) {r : Report} (promise : r ≡ splitTold (standingOf run) (length (firstFrame run))) where
+module _ (run : List ℕ) {r : Report} (promise : SplitPromised run r) where
   pub a-run-is-refused-exactly : (r ≡ ten 4 0 0 0 0 0 0 0 0 0) ↔ WrongHeader run
   a-run-is-refused-exactly = says.split-says run promise .refused
 
@@ -42,7 +40,7 @@ module _ (run : List ℕ) {r : Report} (promise : r ≡ splitTold (standingOf ru
   fewer-than-six-bytes-need-more h = a-run-needs-more-exactly .1 (λ w. omega arith, λ f. omega arith)
 
 -- Settings text, the writer, over a buffer b that is b′ afterwards.
-module _ (from : Settings) (b : List ℕ) {r : Report} {b′ : List ℕ} (promise : textSeen r b′ ≡ writeTold (writtenTo (valueOf from) b)) where
+module _ (from : Settings) (b : List ℕ) {r : Report} {b′ : List ℕ} (promise : WritePromised from b r b′) where
   -- "Writing from an invalid value is refusal 10 whatever the buffer's length, and writes nothing."
   pub an-invalid-value-is-refused-exactly : (r ≡ ten 10 0 0 0 0 0 0 0 0 0) ↔ (ValidSettings from → ⊥)
   an-invalid-value-is-refused-exactly = says.write-says from b promise .invalid
@@ -62,11 +60,11 @@ module _ (from : Settings) (b : List ℕ) {r : Report} {b′ : List ℕ} (promis
   a-written-text-stands-first = says.write-says from b promise .written
 
   -- "and reading it gives the value back".
-  pub a-written-text-is-read-back : r .refusal ≡ 0 → {q : SettingsRead} → q ≡ readTold (readText (take (r .length) b′)) → (q .answer ≡ ten 0 0 1 0 0 0 0 0 0 0) × (valueOf (q .settings) ≡ valueOf from)
+  pub a-written-text-is-read-back : r .refusal ≡ 0 → {q : SettingsRead} → ReadPromised (take (r .length) b′) q → (q .answer ≡ ten 0 0 1 0 0 0 0 0 0 0) × (valueOf (q .settings) ≡ valueOf from)
   a-written-text-is-read-back = says.written-reads-back from b promise
 
 -- Settings text, the reader.
-module _ (t : List ℕ) {r : SettingsRead} (promise : r ≡ readTold (readText t)) where
+module _ (t : List ℕ) {r : SettingsRead} (promise : ReadPromised t r) where
   -- Refusal 10: "settings text wrong, with its first wrong line's number".
   pub a-text-is-wrong-exactly : (k : ℕ) → (r .answer ≡ ten 10 k 0 0 0 0 0 0 0 0) ↔ FirstWrong t k
   a-text-is-wrong-exactly = says.read-says t promise .wrong

@@ -3,12 +3,7 @@
 use Prim.Native.Nat.{ℕ}
 use mathlib.Core.Path.{_≡_, refl, ap, sym, _∙_}
 use mathlib.Core.List.{List}
-use lib.ListN.{length}
-use Rattle.wire.specs.Splitting.{standingOf, firstFrame}
 use Rattle.settings.specs.declared.Settings.{Settings}
-use Rattle.settings.specs.Grammar.{readText}
-use Rattle.settings.specs.Values.{valueOf}
-use Rattle.settingstext.specs.TextWritten.{writtenTo}
 use Rattle.machine.specs.Calls.{Call}
 use Rattle.machine.specs.declared.Report.{Report}
 use Rattle.machine.specs.declared.NextDeadline.{NextDeadline}
@@ -16,7 +11,7 @@ use Rattle.proxy.specs.State.{machineOf}
 use Rattle.device.specs.declared.Device.{Device}
 use Rattle.reports.specs.declared.SettingsRead.{SettingsRead}
 use Rattle.machine.specs.Numbers.{Reported}
-use Rattle.reports.specs.Reports.{TextSeen, textSeen, splitTold, readTold, writeTold}
+use Rattle.reports.specs.Reports.{TextSeen, SplitPromised, ReadPromised, WritePromised}
 use Rattle.device.specs.Fields.{stateOf, stateSize}
 use Rattle.device.specs.Device.{Served, Freshly, Awaited}
 use Rattle.device.proofs.DeviceLaws.{same-device}
@@ -49,14 +44,13 @@ pub one-size : {r q : ℕ} → r ≡ stateSize → q ≡ stateSize → r ≡ q
 one-size s t = s ∙ sym t
 
 -- Split and reading: one report. Writing: one report and one content of the buffer.
-pub one-split : (run : List ℕ) {r q : Report} → r ≡ splitTold (standingOf run) (length (firstFrame run)) → q ≡ splitTold (standingOf run) (length (firstFrame run)) → r ≡ q
+pub one-split : (run : List ℕ) {r q : Report} → SplitPromised run r → SplitPromised run q → r ≡ q
 one-split run s t = s ∙ sym t
 
-pub one-read : (text : List ℕ) {r q : SettingsRead} → r ≡ readTold (readText text) → q ≡ readTold (readText text) → r ≡ q
+pub one-read : (text : List ℕ) {r q : SettingsRead} → ReadPromised text r → ReadPromised text q → r ≡ q
 one-read text s t = s ∙ sym t
 
-pub one-write : (from : Settings) (text : List ℕ) {r q : Report} {a b : List ℕ} → textSeen r a ≡ writeTold (writtenTo (valueOf from) text) → textSeen q b ≡ writeTold (writtenTo (valueOf from) text)
-    → (r ≡ q) × (a ≡ b)
+pub one-write : (from : Settings) (text : List ℕ) {r q : Report} {a b : List ℕ} → WritePromised from text r a → WritePromised from text q b → (r ≡ q) × (a ≡ b)
 one-write from text s t = let p = s ∙ sym t in (ap (λ (y : TextSeen). y .says) p, ap (λ (y : TextSeen). y .buffer) p)
 
 -- A stream: from one lent stream, one piece and one buffer have one answer, one stream afterwards and one content of the buffer; and a reset has one answer and one stream.

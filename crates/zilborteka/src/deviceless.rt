@@ -3,18 +3,13 @@ use machine::Report;
 use reports::SettingsRead;
 use settings::Settings;
 ghost use mathlib.Core.Path.{_≡_};
-ghost use lib.ListN.{length};
-ghost use Rattle.wire.specs.Splitting.{standingOf, firstFrame};
-ghost use Rattle.settings.specs.Grammar.{readText};
-ghost use Rattle.settings.specs.Values.{valueOf};
-ghost use Rattle.settingstext.specs.TextWritten.{writtenTo};
-ghost use Rattle.reports.specs.Reports.{splitTold, readTold, textSeen, writeTold};
+ghost use Rattle.reports.specs.Reports.{SplitPromised, ReadPromised, WritePromised};
 ghost use Rattle.device.specs.Fields.{stateSize};
 
 // Splits a run: the first frame's length, more needed, or refusal 4.
 #[no_mangle]
 pub extern "C" fn zb_split(run: &[u8]) -> Report
-    ensures { λ r. ⌜ r ≡ splitTold (standingOf (now (run .entry))) (length (firstFrame (now (run .entry)))) ⌝ }
+    ensures { λ r. ⌜ SplitPromised (now (run .entry)) r ⌝ }
 {
     reports::split(run)
 }
@@ -22,7 +17,7 @@ pub extern "C" fn zb_split(run: &[u8]) -> Report
 // Reads a settings text: the value, or refusal 10 with the first wrong line and the usual value.
 #[no_mangle]
 pub extern "C" fn zb_settings_read(text: &[u8]) -> SettingsRead
-    ensures { λ r. ⌜ r ≡ readTold (readText (now (text .entry))) ⌝ }
+    ensures { λ r. ⌜ ReadPromised (now (text .entry)) r ⌝ }
 {
     reports::read(text)
 }
@@ -30,7 +25,7 @@ pub extern "C" fn zb_settings_read(text: &[u8]) -> SettingsRead
 // Writes the text of a settings value that is lent: its length, refusal 10 for an invalid value, or refusal 1 for a short buffer.
 #[no_mangle]
 pub extern "C" fn zb_settings_write(from: &Settings, text: &mut [u8]) -> Report
-    ensures { λ r. ⌜ textSeen r (now (text .exit)) ≡ writeTold (writtenTo (valueOf (now (from .entry))) (now (text .entry))) ⌝ }
+    ensures { λ r. ⌜ WritePromised (now (from .entry)) (now (text .entry)) r (now (text .exit)) ⌝ }
 {
     reports::write(
         &from.timeout,

@@ -3,10 +3,8 @@
 use contract.Running.{givenOf, tables, tablesOf}
 use denote.Triple.Spec.{tripleOf}
 use denote.Triple.Table.{entered, cited}
-use mathlib.Core.Path.{_≡_}
-use Rattle.settings.specs.Values.{valueOf, settings}
-use Rattle.settingstext.specs.TextWritten.{writtenTo}
-use Rattle.reports.specs.Reports.{textSeen, writeTold}
+use Rattle.reports.specs.Reports.{WritePromised}
+use Rattle.settings.specs.Values.{settings}
 use Rattle.device.proofs.written.EntrySettingsWrite.{Core, entry-meets, Rel, CoreRel}
 use Rattle.reports.proofs.write.Symbol as g
 use Rattle.reports.proofs.write.Met as g-thm
@@ -17,10 +15,10 @@ use Rattle.zilborteka.proofs.deviceless.zb_settings_write.Code as code
 
 -- what the entry point ensures and requires, and its core
 abbrev R : Rel
-R = λ from text r text′. textSeen r text′ ≡ writeTold (writtenTo (valueOf from) text)
+R = λ from text r text′. WritePromised from text r text′
 
 abbrev Rc : CoreRel
-Rc = λ timeout join tags addr width sign text r text′. textSeen r text′ ≡ writeTold (writtenTo (valueOf (settings timeout join tags addr width sign)) text)
+Rc = λ timeout join tags addr width sign text r text′. WritePromised (settings timeout join tags addr width sign) text r text′
 
 pub zb-settings-write-spec : {M : Type 1} → stated.statement M
 unfolding code.routine tablesOf
