@@ -72,7 +72,7 @@ use Rattle.machine.proofs.AnswerLaws.{Answers, Expires, reply-answers, 
 use Rattle.machine.proofs.ReadBack.{comes-back}
 use Rattle.machine.proofs.EchoBack.{echo-comes-back, own-frame, sent-id}
 use Rattle.machine.proofs.TickLaws.{Lent, tickAt, ticksAt, ticking-ends}
-use Rattle.machine.proofs.WaitingLaws.{Waits, waits, next-tick}
+use Rattle.machine.proofs.WaitingLaws.{Waits, waits, outstanding-due, none-waits, next-tick}
 use Rattle.machine.proofs.FrameOfParty.{EachItsFrame, reply-frame, always-known, timeout-frame}
 use Rattle.machine.proofs.Histories.{product, afterCalls, toldBy, toldSince, ledgerOf, accounted}
 use Rattle.machine.proofs.ClosedLaws.{open-exactly, not-stale, not-stale-in-bytes, joins-exactly}
@@ -210,9 +210,16 @@ module _ (v : Value) (xs : List Call) where
       → outcome (afterCalls v xs) (tick t o l) .says ≡ answer.NothingDue
   nothing-due-is-said t o l h n = ap (λ (d : Outcome). d .says) (idle-is (afterCalls v xs) t o l good h n)
 
-  -- When to tick (ours): the time that `nextDeadline` names is the earliest deadline of the live requests, 2^64 − 1 where none is, and so many are live.
+  -- When to tick (ours): the time that `nextDeadline` names is the earliest deadline of the live requests, or 2^64 − 1, and so many are live.
   pub the-next-deadline-is-this : Waits (afterCalls v xs) (nextDeadline (afterCalls v xs))
   the-next-deadline-is-this = waits (afterCalls v xs) good
+
+  -- It is 2^64 − 1 exactly if nothing is live, under a timeout that a settings value may have: a deadline is then at most 2^63 − 1 + 60,000.
+  pub no-deadline-exactly : v .timeout ≤ 60000
+      → (nextDeadline (afterCalls v xs) .time ≡ 18446744073709551615) ↔ ((k : ℕ) (e : Live What Note) → at (afterCalls v xs .book) k ≡ some e → ⊥)
+  no-deadline-exactly most =
+      none-waits (afterCalls v xs) good
+      (λ k e h. let u = outstanding-due v xs (e .id) (e .what) (e .by) (e .deadline) (traced (product v) xs .lives _ _ _ _ .0 (k, e, h, refl, refl, refl, refl)) in omega arith)
 
   -- Of a tick that comes next and is not refused, one before that time says that nothing is due, and one at or after it ends an entry.
   pub when-the-next-tick-ends-one : (t : ℕ) (o l : List ℕ) → refusal (afterCalls v xs) (tick t o l) ≡ 0

@@ -1,20 +1,20 @@
 -- Demand 2's addition over calls: a controller that echoes the frame of a request 06 gives the client back the very frame that it wrote.
 -- Assumes nothing.
 use Prim.Native.Nat.{ℕ, _+_, _*_, _/_, _%_, _≤_, _<_}
-use mathlib.Core.Path.{_≡_, refl, ap, sym, _∙_}
+use mathlib.Core.Path.{_≡_, ap, sym, _∙_}
 use mathlib.Core.Logic.{inl}
-use mathlib.Core.Bool.{true, false}
+use mathlib.Core.Bool.{false}
 use mathlib.Core.List.{List, [], _∷_}
 use native.Mathlib.Omega.{arith}
 use lib.ListN.{length, getD, take}
 use lib.Seq.{getD-take}
 use Rattle.laws.specs.Bytes.{over, pairAt}
-use Rattle.wire.specs.Frame.{functionOf, idOf, laid}
+use Rattle.wire.specs.Frame.{idOf, laid}
 use Rattle.wire.proofs.FrameLaws.{length-laid}
 use Rattle.settings.specs.Grammar.{Tag}
 use Rattle.settings.specs.TagWords.{Ascending}
 use Rattle.pdu.specs.Requests.{classOf, askedBy, askedOf}
-use Rattle.pdu.specs.Replies.{What, excepts}
+use Rattle.pdu.specs.Replies.{excepts}
 use Rattle.pdu.specs.declared.Table.the-variants.{Registers}
 use Rattle.pdu.specs.declared.Asked.{Asked}
 use Rattle.pdu.specs.declared.Asked.the-variants.{SingleWrite}

@@ -1,11 +1,11 @@
--- What the next deadline is, in plain words, and what the next tick does before and after it.
+-- What the next deadline is, in plain words, when there is none, and what the next tick does before and after it.
 -- Assumes nothing.
-use Prim.Native.Nat.{ℕ, _≤_, _<_}
+use Prim.Native.Nat.{ℕ, _+_, _≤_, _<_}
 use mathlib.Core.Path.{_≡_, refl, ap, sym, _∙_}
-use mathlib.Core.Logic.{⊎-elim, _⊎_, inl, inr}
-use mathlib.Core.Bool.{Bool, true}
+use mathlib.Core.Logic.{⊎-elim, _⊎_, inl, inr, _↔_}
+use mathlib.Core.Bool.{Bool, true, false}
 use mathlib.Core.Option.{Option, some, none}
-use mathlib.Core.List.{List}
+use mathlib.Core.List.{List, List·Memᴰ·head, Memᴰ·append-right}
 use native.Mathlib.Omega.{arith}
 use lib.Dec.{ltb}
 use borrow.Author.Tests.{ltb-false}
@@ -13,20 +13,26 @@ use Rattle.laws.specs.Numbers.{places, latestTime}
 use Rattle.laws.specs.Search.{count}
 use Rattle.laws.proofs.LeastLaws.{least-low, least-taken}
 use Rattle.laws.proofs.Choice.{or-left}
+use Rattle.laws.proofs.LastLaws.{last-of-exactly}
+use Rattle.settings.specs.Grammar.{Value}
 use Rattle.pdu.specs.Replies.{What}
 use Rattle.pdu.specs.declared.ProxyId.{ProxyId}
-use Rattle.book.specs.Book.{Live, Good, at}
+use Rattle.book.specs.Book.{Party, Live, Good, at}
 use Rattle.book.specs.Desk.{isLive}
+use Rattle.book.specs.Traced.{touches, Outstanding}
 use Rattle.book.proofs.PlaceLaws.{at-low}
 use Rattle.machine.specs.Machine.{Machine, Note, rules}
-use Rattle.machine.specs.Calls.{Outcome}
-use Rattle.machine.specs.Calls.Call.{tick}
-use Rattle.machine.specs.Refusals.{rows, refusal, isUntimely}
+use Rattle.machine.specs.Calls.{Call, Outcome}
+use Rattle.machine.specs.Calls.Call.{request, tick}
+use Rattle.machine.specs.Refusals.{rows, refusal, isStranger, isUntimely}
 use Rattle.machine.specs.Outcomes.{outcome}
 use Rattle.machine.specs.Waiting.{noDeadline, deadlineOf, nextDeadline}
 use Rattle.machine.specs.declared.Answer.the-variants as answer
 use Rattle.machine.specs.declared.NextDeadline.{NextDeadline}
 use Rattle.machine.proofs.LowestLaws.{none-applies}
+use Rattle.machine.proofs.OutcomeLaws.{not-refused}
+use Rattle.machine.proofs.Histories.{toldBy}
+use Rattle.machine.proofs.StateLaws.{Origin, issue-origin}
 use Rattle.machine.proofs.AnswerLaws.{idle-is, idle-when, tick-expires}
 
 -- the numbers of a next deadline, in plain words
@@ -60,13 +66,44 @@ waits m g =
       many = refl;
     }
 
--- a tick that is not refused carries a time up to 2^63 − 1
+-- a tick and a request that are not refused carry a time up to 2^63 − 1
+time-most : (m : Machine) (t : ℕ) → isUntimely m t ≡ false → t ≤ latestTime
+time-most m t e = ltb-false latestTime t (or-left (ltb latestTime t) _ e)
+
 tick-time : (m : Machine) (t : ℕ) (o l : List ℕ) → refusal m (tick t o l) ≡ 0 → t ≤ latestTime
 unfolding rows
 tick-time m t o l h =
     let a = none-applies _ 1 _ (λ z. omega arith) h in
-    let b = none-applies (isUntimely m t) 3 _ (λ z. omega arith) (a .1) in
-    ltb-false latestTime t (or-left (ltb latestTime t) _ (b .0))
+    time-most m t (none-applies (isUntimely m t) 3 _ (λ z. omega arith) (a .1) .0)
+
+request-time : (m : Machine) (c t : ℕ) (f o : List ℕ) → refusal m (request c t f o) ≡ 0 → t ≤ latestTime
+unfolding rows
+request-time m c t f o h =
+    let a = none-applies _ 1 _ (λ z. omega arith) h in
+    let b = none-applies (isStranger m c) 2 _ (λ z. omega arith) (a .1) in
+    time-most m t (none-applies (isUntimely m t) 3 _ (λ z. omega arith) (b .1) .0)
+
+-- an issue is due at its request's time plus the timeout
+issue-due : {v : Value} {xs : List Call} {id : ℕ} {w : What} {u : ℕ} {p : Party} → Origin v xs id w u p → u ≤ latestTime + v .timeout
+issue-due g = let late = request-time _ (g .client) (g .time) (g .frame) (g .out) (not-refused _ _ _ refl (g .says .3)) in omega (arith, g .spells .2)
+
+-- After any calls an outstanding request is due at 2^63 − 1 plus the timeout or before.
+pub outstanding-due : (v : Value) (xs : List Call) (id : ℕ) (w : What) (c u : ℕ) → Outstanding (toldBy v xs) id w c u → u ≤ latestTime + v .timeout
+outstanding-due v xs id w c u o =
+    let i = last-of-exactly (touches id) (toldBy v xs) _ .0 (o .2) in
+    issue-due (issue-origin v xs id w u (o .0) (rw (i .2) (Memᴰ·append-right (i .0) (List·Memᴰ·head refl))))
+
+-- 2^64 − 1 is told exactly if nothing is live, where every deadline is below that.
+pub none-waits : (m : Machine) → Good rules (m .book) → ((k : ℕ) (e : Live What Note) → at (m .book) k ≡ some e → e .deadline < noDeadline)
+    → (nextDeadline m .time ≡ 18446744073709551615) ↔ ((k : ℕ) (e : Live What Note) → at (m .book) k ≡ some e → ⊥)
+none-waits m g below =
+    let w = waits m g in (
+      λ e k x h. let y = w .first k x h in let z = below k x h in omega arith,
+      λ n. ⊎-elim
+          (λ e. e)
+          (λ (y : (k : ℕ) × (e : Live What Note) × (at (m .book) k ≡ some e) × (e .deadline ≡ nextDeadline m .time)). absurd (n (y .0) (y .1) (y .2)))
+          (w .taken),
+    )
 
 -- Of a tick that comes next and is not refused: before the next deadline it says that nothing is due, and from then on it ends an entry.
 pub next-tick : (m : Machine) (t : ℕ) (o l : List ℕ) → Good rules (m .book) → refusal m (tick t o l) ≡ 0

@@ -27,7 +27,8 @@ use Rattle.settings.specs.declared.Settings.{Settings}
 use Rattle.settings.proofs.GrammarLaws.{read-back, read-valid}
 use Rattle.settings.proofs.ValueLaws.{value-back}
 use Rattle.settings.proofs.ValidLaws.{settings-valid-exactly}
-use Rattle.settings.proofs.FirstWrongLaws.{wrong-exactly}
+use Rattle.settings.proofs.ReadsLaws.{reads-to}
+use Rattle.settings.proofs.FirstWrongLaws.{wrong-exactly, lines-read, wrong-or-right}
 use Rattle.settingstext.specs.TextWritten.{writtenTo}
 use Rattle.machine.specs.Numbers.{ten}
 use Rattle.machine.specs.declared.Report.{Report}
@@ -188,10 +189,15 @@ unfolding readTold settingsOf
 read-case t (got v rest) y {r} e =
     let none : (k : ℕ) → FirstWrong t k → ⊥ = λ k f. let q = wrong-exactly t k .1 f in never (cc) in
     let answer : r .answer ≡ told 0 0 1 0 = ap (λ (x : SettingsRead). x .answer) e in
+    let checked : ValidSettings (settingsOf v) = settings-valid-exactly (settingsOf v) .0 (rw (value-back v) (read-valid t rest v y)) in
     record {
       wrong = λ k. Iff·trans (told-exactly 0 0 1 0 10 k 0 0 answer) (neither (λ x. omega arith) (none k));
       usual = λ k f. absurd (none k f);
-      right = λ h. (answer, rw e (settings-valid-exactly (settingsOf v) .0 (rw (value-back v) (read-valid t rest v y))));
+      right = λ ns c a.
+          let w = lines-read c a in
+          let same : w .0 ≡ v = cc (w .1) in
+          (answer, rw e checked, rw e (reads-to (checked .few) (rw same at (w .2))));
+      either = wrong-or-right t;
     }
 read-case t (wrong j) y {r} e =
     let answer : r .answer ≡ told 10 j 0 0 = ap (λ (x : SettingsRead). x .answer) e in
@@ -199,7 +205,8 @@ read-case t (wrong j) y {r} e =
       wrong = λ k. Iff·trans (told-exactly 10 j 0 0 10 k 0 0 answer)
           (λ x. let q = x .1 in wrong-exactly t k .0 (y ∙ ap wrong q), λ f. let q = wrong-exactly t k .1 f in (refl, cc, refl, refl));
       usual = λ k f. ap (λ (x : SettingsRead). x .settings) e;
-      right = λ h. absurd (h j (wrong-exactly t j .0 y));
+      right = λ ns c a. let q = lines-read c a .1 in never (cc);
+      either = wrong-or-right t;
     }
 
 -- What reading reports of any text, and what it gives.

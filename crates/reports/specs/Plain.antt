@@ -3,10 +3,10 @@
 use Prim.Native.Nat.{ℕ, _+_, _*_, _≤_, _<_}
 use mathlib.Core.Path.{_≡_}
 use mathlib.Core.Logic.{_↔_, _⊎_}
-use mathlib.Core.List.{List, _++_}
+use mathlib.Core.List.{List, [], _++_}
 use lib.ListN.{length, getD, drop, replicate}
 use Rattle.settings.specs.Grammar.{newest, textIn}
-use Rattle.settings.specs.Plain.{ValidSettings, FirstWrong}
+use Rattle.settings.specs.Plain.{ValidSettings, Lines, AllLines, ReadsTo, FirstWrong}
 use Rattle.settings.specs.Values.{valueOf}
 use Rattle.settings.specs.declared.Settings.{Settings}
 use Rattle.machine.specs.Numbers.{ten}
@@ -47,9 +47,11 @@ pub record WriteSays (from : Settings) (b : List ℕ) (r : Report) (b′ : List 
   pub untouched : (r .refusal ≡ 0 → ⊥) → b′ ≡ b
   pub written : r .refusal ≡ 0 → b′ ≡ textFor from ++ drop (length (textFor from)) b
 
--- zb_settings_read: refusal 10 with the first wrong line, beside timeout 3000, join 1 and no tags; or ZB_DONE
+-- zb_settings_read: refusal 10 with the first wrong line, beside timeout 3000, join 1 and no tags; or, of a text that is right lines, all of them, and nothing besides, ZB_DONE with the
+-- valid settings that the lines' numbers tell. Every text is one of the two.
 pub record ReadSays (t : List ℕ) (r : SettingsRead) : Type 0 where
   pub wrong : (k : ℕ) → (r .answer ≡ ten 10 k 0 0 0 0 0 0 0 0) ↔ FirstWrong t k
   pub usual : (k : ℕ) → FirstWrong t k
       → r .settings ≡ record { timeout = 3000; join = 1; tags = 0; addr = replicate 256 0; width = replicate 256 0; sign = replicate 256 0 }
-  pub right : ((k : ℕ) → FirstWrong t k → ⊥) → (r .answer ≡ ten 0 0 1 0 0 0 0 0 0 0) × ValidSettings (r .settings)
+  pub right : (ns : List ℕ) → Lines [] t ns [] → AllLines ns → (r .answer ≡ ten 0 0 1 0 0 0 0 0 0 0) × ValidSettings (r .settings) × ReadsTo ns (r .settings)
+  pub either : ((k : ℕ) × FirstWrong t k) ⊎ ((ns : List ℕ) × Lines [] t ns [] × AllLines ns)

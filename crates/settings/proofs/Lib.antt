@@ -8,4 +8,5 @@ pub mod ValidLaws
 pub mod TagLaws
 pub mod PlainLines
 pub mod PlaceLaws
+pub mod ReadsLaws
 pub mod FirstWrongLaws

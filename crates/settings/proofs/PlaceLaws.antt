@@ -193,9 +193,11 @@ module _ (v t j m : ℕ) where
     ),
   )
 
-  -- behind its last line the tag is the one before the next
-  abbrev pub Done : ℕ → List ℕ → List ℕ → Type 0
-  Done i above own = (start : List ℕ) × (above ≡ all start) × Begun (suc i) own start
+  -- behind its last line the tag's numbers stand behind those of the tags before it, and it is the one before the next
+  pub record Done (i : ℕ) (start above own : List ℕ) : Type 0 where
+    pub whole : above ≡ all (start ++ own)
+    pub count : length own ≡ v + 1
+    pub begun : Begun (suc i) own (start ++ own)
 
   tag-end : {i : ℕ} {prior start own : List ℕ} → 1 ≤ v → Begun i prior start → length own ≡ v + 1 → Told own → Begun (suc i) own (start ++ own)
   tag-end {i} {prior} {start} {own} u b c w =
@@ -206,8 +208,8 @@ module _ (v t j m : ℕ) where
       }
 
   tag-row : 1 ≤ v → (k s i : ℕ) (ls : List Line) (prior start own : List ℕ) → Steps s ls → k + s ≡ v + 1 → k ≤ length ls → i < m → Begun i prior start → length own ≡ s → Told own
-      → Row (Done i) (take k ls) (all (start ++ own)) prior own
-  tag-row u zero s i ls prior start own f e z l b c w = (start ++ own, refl, tag-end u b (omega arith) w)
+      → Row (Done i start) (take k ls) (all (start ++ own)) prior own
+  tag-row u zero s i ls prior start own f e z l b c w = record { whole = refl; count = omega arith; begun = tag-end u b (omega arith) w }
   tag-row u (suc k) s i [] prior start own f e z l b c w = absurd (omega arith)
   tag-row u (suc k) s i (x ∷ ls) prior start own f e z l b c w =
       let p : Inside i s prior start own = record { within = l; line = omega arith; begun = b; count = c; told = w } in
@@ -219,7 +221,7 @@ module _ (v t j m : ℕ) where
       )
 
   -- the next tag's lines
-  pub tag-lines : (i : ℕ) (prior start : List ℕ) → 1 ≤ v → v < length tagLines → i < m → Begun i prior start → Row (Done i) (take (suc v) tagLines) (all start) prior []
+  pub tag-lines : (i : ℕ) (prior start : List ℕ) → 1 ≤ v → v < length tagLines → i < m → Begun i prior start → Row (Done i start) (take (suc v) tagLines) (all start) prior []
   tag-lines i prior start u most l b =
-      subst (λ ms. Row (Done i) (take (suc v) tagLines) (all ms) prior []) (append-nil start)
+      subst (λ ms. Row (Done i start) (take (suc v) tagLines) (all ms) prior []) (append-nil start)
       (tag-row u (suc v) 0 i tagLines prior start [] (tag-steps most) (omega arith) (omega arith) l b refl (λ z. absurd (omega arith)))

@@ -1,6 +1,6 @@
 -- Tag words: a word gives its tag back, the tags of a valid value ascend, and what a valid value's numbers are bounded by.
 -- Assumes nothing.
-use Prim.Native.Nat.{ℕ, zero, suc, _+_, _*_, _/_, _%_, _^_, _≤_, _<_}
+use Prim.Native.Nat.{ℕ, zero, suc, _+_, _*_, _/_, _%_, _≤_, _<_}
 use mathlib.Core.Path.{_≡_, refl, ap, sym, _∙_}
 use mathlib.Core.Logic.{⊎-elim, _⊎_, inl, inr}
 use mathlib.Core.Bool.{true, cond, _&&_}
@@ -66,11 +66,6 @@ word-back t l w =
     let a : (t .address + addresses * kindNumber (kindOf t)) % addresses ≡ t .address = omega arith in
     let k : (t .address + addresses * kindNumber (kindOf t)) / addresses ≡ kindNumber (kindOf t) = omega arith in
     rw (a, k, mod-eq-of-lt n, kind-back (kindOf t)) (tag-back t w)
-
--- words are below 2 ^ 24, so that the upper 40 bits are free
-pub word-low : (t : Tag) → t .address < addresses → wordOf t < 2 ^ 24
-unfolding wordOf
-word-low t l = let n = kind-low (kindOf t) in omega arith
 
 -- the kind of a word's tag is that of the number above the address
 pub kind-of-word : (word : ℕ) → kindOf (tagOf word) ≡ kindFrom (word / addresses % 256)

@@ -9,7 +9,7 @@ use mathlib.Core.List.{List, [], _∷_, _++_, map}
 use native.Mathlib.Nat.{add-zero}
 use native.Mathlib.Numerals.{add-one}
 use native.Mathlib.Omega.{arith}
-use lib.ListN.{length, getD, List·getD-eq-default}
+use lib.ListN.{length, getD, length-append, length-map, length-replicate, List·getD-eq-default}
 use lib.Dec.{eqb, leb, leb·zero}
 use borrow.Author.Tests.{leb-true, eqb-true, eq-eqb, ne-eqb, lt-ltb}
 use Rattle.laws.specs.Numbers.{mostTags, addresses}
@@ -17,7 +17,7 @@ use Rattle.laws.specs.Lists.{tab}
 use Rattle.laws.proofs.Choice.{eq-or, and-left, and-right}
 use Rattle.laws.proofs.ListLaws.{tab-ext, tab-more, length-tab, tab-getD, getD-map, getD-zeros}
 use Rattle.settings.specs.declared.Settings.{Settings}
-use Rattle.settings.specs.Grammar.{Tag, Value, Line, newest, tagNumbers, lastRegister, ascends, rightTimeout, rightJoin, rightTags, rightWidth, rightSign, allRight, tagsRight, validIn, valid}
+use Rattle.settings.specs.Grammar.{Tag, Value, newest, tagNumbers, lastRegister, ascends, rightTimeout, rightJoin, rightTags, rightWidth, rightSign, allRight, tagsRight, validIn, valid}
 use Rattle.settings.specs.Values.{valueOf, settingsOf, padded, sameTags, same}
 use Rattle.settings.proofs.Settings.Laws.{mir}
 
@@ -34,7 +34,7 @@ value-ext v w t j s =
     ∙ ap (λ (x : ℕ). record { timeout = w .timeout; join = x; tags = v .tags }) j
     ∙ ap (λ (x : List Tag). record { timeout = w .timeout; join = w .join; tags = x }) s
 
-abbrev blank : Tag
+abbrev pub blank : Tag
 blank = record { address = 0; width = 0; sign = 0 }
 
 -- the tag at a place of the boundary's struct
@@ -225,17 +225,25 @@ same-is-equal v w = (equal, λ e. rw e (rw (eq-eqb (w .timeout) (w .timeout) ref
         let s = tags-equal (v .tags) (w .tags) (and-right (eqb (v .join) (w .join)) _ r) in
         value-ext v w t j s
 
+-- a column of the boundary's struct of a value: 256 places, of the tags in their order, and 0 behind them
+module _ (field : Tag → ℕ) (ts : List Tag) where
+  pub column-at : (k : ℕ) → k < length ts → getD (padded (map field ts)) k 0 ≡ field (getD ts k blank)
+  column-at k h = getD-zeros (mostTags - length (map field ts)) (map field ts) k ∙ getD-map field ts k blank 0 h
+
+  pub column-unused : (k : ℕ) → length ts ≤ k → getD (padded (map field ts)) k 0 ≡ 0
+  column-unused k h = getD-zeros (mostTags - length (map field ts)) (map field ts) k ∙ List·getD-eq-default (map field ts) 0 (rw (length-map ts field) h)
+
+  pub column-places : length ts ≤ mostTags → length (padded (map field ts)) ≡ mostTags
+  column-places h = simp (length-append, length-replicate, length-map) (omega arith)
+
 -- the boundary's struct of a value has that value
 pub value-back : (v : Value) → valueOf (settingsOf v) ≡ v
 unfolding valueOf settingsOf
 value-back v =
     value-ext (valueOf (settingsOf v)) v refl refl
     (tab-ext (length (v .tags)) (tagAt (settingsOf v)) (λ k. getD (v .tags) k blank)
-    (λ k h. tag-ext (tagAt (settingsOf v) k) (getD (v .tags) k blank) (of (λ t. t .address) k h) (of (λ t. t .width) k h) (of (λ t. t .sign) k h))
+    (λ k h. tag-ext (tagAt (settingsOf v) k) (getD (v .tags) k blank) (column-at (λ t. t .address) (v .tags) k h) (column-at (λ t. t .width) (v .tags) k h) (column-at (λ t. t .sign) (v .tags) k h))
     ∙ tab-getD blank (v .tags) (length (v .tags)) refl)
-  where
-    of : (field : Tag → ℕ) (k : ℕ) → k < length (v .tags) → getD (padded (map field (v .tags))) k 0 ≡ field (getD (v .tags) k blank)
-    of field k h = getD-zeros (mostTags - length (map field (v .tags))) (map field (v .tags)) k ∙ getD-map field (v .tags) k blank 0 h
 
 -- The boundary's struct has the size in memory that the header says of zb_settings.
 pub settings-size : size mir ≡ 1548

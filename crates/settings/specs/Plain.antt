@@ -1,4 +1,4 @@
--- The plain words of the theorems on settings: which values are valid, in numbers; and which line of a text is the first wrong one, without the reader.
+-- The plain words of the theorems on settings: which values are valid, in numbers; which line of a text is the first wrong one, and which value right lines tell, without the reader.
 -- Assumes nothing.
 use Prim.Native.Nat.{ℕ, _+_, _*_, _≤_, _<_}
 use mathlib.Core.Path.{_≡_}
@@ -82,6 +82,29 @@ pub data Lines : (above text ns rest : List ℕ) → Type 0 where
 -- these are all the lines that a text has
 abbrev pub AllLines : List ℕ → Type 0
 AllLines ns = (4 ≤ length ns) × (length ns ≡ 4 + getD ns 3 0 * linesOfTag ns)
+
+-- the value that lines with these numbers tell: line 2 its timeout, line 3 join, line 4 how many tags, and behind them a tag's address, its width and from version 2 on its sign, which is 0
+-- in version 1
+pub record Reads (ns : List ℕ) (v : Value) : Type 0 where
+  pub timeout : v .timeout ≡ getD ns 1 0
+  pub join : v .join ≡ getD ns 2 0
+  pub many : length (v .tags) ≡ getD ns 3 0
+  pub address : (i : ℕ) (d : Tag) → i < getD ns 3 0 → getD (v .tags) i d .address ≡ getD ns (4 + i * linesOfTag ns) 0
+  pub width : (i : ℕ) (d : Tag) → i < getD ns 3 0 → getD (v .tags) i d .width ≡ getD ns (4 + i * linesOfTag ns + 1) 0
+  pub unsigned : getD ns 0 0 ≡ 1 → (i : ℕ) (d : Tag) → i < getD ns 3 0 → getD (v .tags) i d .sign ≡ 0
+  pub signed : 2 ≤ getD ns 0 0 → (i : ℕ) (d : Tag) → i < getD ns 3 0 → getD (v .tags) i d .sign ≡ getD ns (4 + i * linesOfTag ns + 2) 0
+
+-- the same of the struct that a host gets, zb_settings, whole: it has 256 places for each number of a tag, and 0 in those that no tag uses
+pub record ReadsTo (ns : List ℕ) (s : Settings) : Type 0 where
+  pub timeout : s .timeout ≡ getD ns 1 0
+  pub join : s .join ≡ getD ns 2 0
+  pub tags : s .tags ≡ getD ns 3 0
+  pub address : (i : ℕ) → i < getD ns 3 0 → getD (s .addr) i 0 ≡ getD ns (4 + i * linesOfTag ns) 0
+  pub width : (i : ℕ) → i < getD ns 3 0 → getD (s .width) i 0 ≡ getD ns (4 + i * linesOfTag ns + 1) 0
+  pub unsigned : getD ns 0 0 ≡ 1 → (i : ℕ) → i < getD ns 3 0 → getD (s .sign) i 0 ≡ 0
+  pub signed : 2 ≤ getD ns 0 0 → (i : ℕ) → i < getD ns 3 0 → getD (s .sign) i 0 ≡ getD ns (4 + i * linesOfTag ns + 2) 0
+  pub unused : (i : ℕ) → getD ns 3 0 ≤ i → (getD (s .addr) i 0 ≡ 0) × (getD (s .width) i 0 ≡ 0) × (getD (s .sign) i 0 ≡ 0)
+  pub places : (length (s .addr) ≡ 256) × (length (s .width) ≡ 256) × (length (s .sign) ≡ 256)
 
 -- k is the number of the first wrong line of t: the lines 1 to k − 1 are each right, and line k is not, or is an extra byte behind the last line
 pub record FirstWrong (t : List ℕ) (k : ℕ) : Type 0 where

@@ -5,18 +5,17 @@ use Prim.Native.Nat.{ℕ, _-_, _≤_, _<_}
 use mathlib.Core.Path.{_≡_, refl, ap, sym, _∙_}
 use mathlib.Core.Logic.{⊎-elim, _⊎_, inl, inr}
 use mathlib.Core.Bool.{Bool, true, false, cond, _||_}
-use mathlib.Core.List.{List, [], _∷_, _++_, append-nil, map}
+use mathlib.Core.List.{List, [], _∷_, _++_, append-nil}
 use native.Mathlib.Omega.{arith}
 use lib.ListN.{length, take, length-append}
 use lib.Dec.{ltb}
-use borrow.Author.Tests.{lt-ltb, le-ltb}
-use Rattle.laws.specs.Numbers.{uncounted, frameBuffer, mostFrame}
+use Rattle.laws.specs.Numbers.{frameBuffer}
 use Rattle.laws.proofs.Choice.{true-or, lt-or}
-use Rattle.wire.specs.Splitting.{badHeader, standingOf, firstFrame}
+use Rattle.wire.specs.Splitting.{badHeader, standingOf}
 use Rattle.wire.specs.declared.splitting.Split.{Split}
 use Rattle.wire.specs.declared.splitting.Split.the-variants.{Frame, MoreNeeded, Refused}
 use Rattle.wire.proofs.SplittingLaws.{starts, first-size, refused as is-refused}
-use Rattle.stream.specs.Stream.{Stream, stream, fresh, refused, wanting, Outcome, outcome, found, took}
+use Rattle.stream.specs.Stream.{Stream, stream, refused, Outcome, outcome, found, took}
 use Rattle.stream.specs.Hosts.{Fed, start, with, Offer, calls, isBad}
 use Rattle.stream.specs.Lent.{streamOf, Made, Takes, Resets}
 use Rattle.stream.specs.Lives.{Line, came, offersOf, Lived, heard}
@@ -25,7 +24,7 @@ use Rattle.stream.specs.declared.Taken.{Taken}
 use Rattle.stream.specs.declared.Inlet.{Inlet}
 use Rattle.stream.proofs.Inlet.Laws as inlet
 use Rattle.stream.proofs.Taken.Laws as taken
-use Rattle.stream.proofs.StreamLaws.{Reads, more-frame, more-refused, unmarked, frame-ends-behind, refusal-is-new, six-are-taken, six-are-bad, waits-short, short-refused, marked-refused, waiting-finds}
+use Rattle.stream.proofs.StreamLaws.{Reads, unmarked, frame-ends-behind, refusal-is-new, six-are-taken, six-are-bad, waits-short, short-refused, marked-refused, waiting-finds}
 use Rattle.stream.proofs.CuttingLaws.{any-calls-read}
 
 -- the refusal that changes a stream: 4, in the call that brings the sixth byte of a bad header; the bytes up to that one are taken and kept, and the mark is set

@@ -20,6 +20,7 @@ use Rattle.settings.specs.declared.Settings.{Settings}
 use Rattle.settings.specs.Grammar.{Value, Tag}
 use Rattle.settings.specs.Values.{valueOf}
 use Rattle.settings.specs.TagWords.{kindOf, tagOf, Ascending}
+use Rattle.settings.proofs.ValidLaws.{valid-exactly}
 use Rattle.settings.proofs.TagLaws.{valid-ascends}
 use Rattle.pdu.specs.Requests.{legal}
 use Rattle.pdu.specs.Replies.{What, excepts}
@@ -281,21 +282,27 @@ module _ (from : Settings) {r : Report} {d d′ : Device} (ls : List Line) (fres
   awaits a = a ∙ ap nextDeadline (lived .after)
 
   -- When to tick (ours): a look at the next deadline changes nothing, the device is lent by `&`. Both its numbers, by the host's own lines: no outstanding request is due before that time,
-  -- it is the deadline of an outstanding one or 2^64 − 1, and so many places are live.
+  -- it is the deadline of an outstanding one or 2^64 − 1, which it is exactly if nothing is outstanding, and so many places are live.
   pub the-next-deadline-is-this : {n : NextDeadline} → Awaited d′ n
       → ((id : ℕ) (w : What) (c u : ℕ) → Outstanding (toldIn (inForce from) ls) id w c u → n .time ≤ u)
       × ((n .time ≡ 18446744073709551615) ⊎ ((id : ℕ) × (w : What) × (c : ℕ) × Outstanding (toldIn (inForce from) ls) id w c (n .time)))
+      × ((n .time ≡ 18446744073709551615) ↔ ((id : ℕ) (w : What) (c u : ℕ) → Outstanding (toldIn (inForce from) ls) id w c u → ⊥))
       × (n .live ≡ count (λ k. isLive (at (machineIn d′ .book) k)) places)
   the-next-deadline-is-this {n} a =
       let m = afterCalls v xs in
       let same = awaits a in
-      let w = claim.the-next-deadline-is-this v xs in (
+      let w = claim.the-next-deadline-is-this v xs in
+      let exactly = claim.no-deadline-exactly v xs (valid-exactly v .0 (adopted-valid (valueOf from)) .most) in (
         λ id x c u z. let y = claim.which-ids-are-live v xs id x c u .1 (rw (lived .told) at z) in rw (same, ← y .6) (w .first (y .0) (y .1) (y .2)),
         ⊎-elim
             (λ e. inl (ap (λ (y : NextDeadline). y .time) same ∙ e))
             (λ (y : (k : ℕ) × (e : Live What Note) × (at (m .book) k ≡ some e) × (e .deadline ≡ nextDeadline m .time)).
             inr (y .1 .id, y .1 .what, y .1 .by, rw (lived .told, same, ← y .3) (lives-as v xs (y .0) (y .1) (y .2))))
             (w .taken),
+        rw same (
+          λ e id x c u z. let y = claim.which-ids-are-live v xs id x c u .1 (rw (lived .told) at z) in exactly .0 e (y .0) (y .1) (y .2),
+          λ h. exactly .1 (λ k e q. h (e .id) (e .what) (e .by) (e .deadline) (rw (lived .told) (lives-as v xs k e q))),
+        ),
         ap (λ (y : NextDeadline). y .live) same ∙ w .many ∙ ap (λ (y : Machine). count (λ k. isLive (at (y .book) k)) places) (sym (lived .after)),
       )
 

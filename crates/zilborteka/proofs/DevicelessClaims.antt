@@ -10,7 +10,7 @@ use lib.ListN.{length, take, drop, replicate}
 use Rattle.laws.proofs.Choice.{true-or}
 use Rattle.settings.specs.declared.Settings.{Settings}
 use Rattle.settings.specs.Grammar.{valid}
-use Rattle.settings.specs.Plain.{ValidSettings, FirstWrong}
+use Rattle.settings.specs.Plain.{ValidSettings, Lines, AllLines, ReadsTo, FirstWrong}
 use Rattle.settings.specs.Values.{valueOf}
 use Rattle.settings.proofs.ValidLaws.{settings-valid-exactly}
 use Rattle.machine.specs.Machine.{made}
@@ -74,8 +74,20 @@ module _ (t : List ℕ) {r : SettingsRead} (promise : ReadPromised t r) where
       → r .settings ≡ record { timeout = 3000; join = 1; tags = 0; addr = replicate 256 0; width = replicate 256 0; sign = replicate 256 0 }
   a-wrong-text-gives-the-usual-settings = says.read-says t promise .usual
 
+  -- "Lines of key=value in this order, each ended by LF, decimals without leading zeros, nothing else": such a text is read, and the settings that it gives have the numbers of its lines.
+  pub right-lines-give-their-value : (ns : List ℕ) → Lines [] t ns [] → AllLines ns → (r .answer ≡ ten 0 0 1 0 0 0 0 0 0 0) × ValidSettings (r .settings) × ReadsTo ns (r .settings)
+  right-lines-give-their-value = says.read-says t promise .right
+
+  -- Every text has a first wrong line or is such lines, and so one that has none is read.
+  pub a-text-is-wrong-or-right-lines : ((k : ℕ) × FirstWrong t k) ⊎ ((ns : List ℕ) × Lines [] t ns [] × AllLines ns)
+  a-text-is-wrong-or-right-lines = says.read-says t promise .either
+
   pub a-text-with-no-wrong-line-is-read : ((k : ℕ) → FirstWrong t k → ⊥) → (r .answer ≡ ten 0 0 1 0 0 0 0 0 0 0) × ValidSettings (r .settings)
-  a-text-with-no-wrong-line-is-read = says.read-says t promise .right
+  a-text-with-no-wrong-line-is-read clean =
+      ⊎-elim
+      (λ (w : (k : ℕ) × FirstWrong t k). absurd (clean (w .0) (w .1)))
+      (λ (w : (ns : List ℕ) × Lines [] t ns [] × AllLines ns). let h = right-lines-give-their-value (w .0) (w .1) (w .2) in (h .0, h .1))
+      a-text-is-wrong-or-right-lines
 
 -- The settings in force on a device that is made from a value: the value if it is valid, and else "timeout 3000, join 1 and no tags".
 pub valid-settings-are-in-force : (from : Settings) → ValidSettings from → inForce from ≡ valueOf from
