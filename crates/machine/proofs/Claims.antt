@@ -40,7 +40,7 @@ use Rattle.book.specs.Book.Event.{passed, issued, left, lost}
 use Rattle.book.specs.Ledger.{Ticket, Apart, Differing, Anew, under, partiesOf}
 use Rattle.book.specs.Traced.{touches, issuedId, behind, Outstanding, Holds}
 use Rattle.book.specs.Desk.{AllLive}
-use Rattle.book.specs.Machine.{Accounted, history}
+use Rattle.book.specs.Machine.{Accounted, history, linesOf}
 use Rattle.book.proofs.History.{always-sound, ids-come-round-late, after-on, after-one, history-on}
 use Rattle.book.proofs.SpacedLaws.{apart-exactly}
 use Rattle.book.proofs.TracedLaws.{traced}
@@ -342,7 +342,7 @@ ticking-comes-to-an-end v xs t late c bs p b =
 -- an issue tells its time and itself
 issue-told : (v : Value) (m : Machine) (c t : ℕ) (f o : List ℕ) (ys : List Call) (i : ProxyId) (n p w : ℕ) → outcome m (request c t f o) .says ≡ answer.Issued i n p w
     → history (product v) m (request c t f o ∷ ys) ≡ passed t ∷ issued (i .0) (asking f) (t + v .timeout) (asker c f) ∷ history (product v) (outcome m (request c t f o) .after) ys
-unfolding history events told numbers
+unfolding linesOf events told numbers
 issue-told v m c t f o ys i n p w e =
     let d = outcome m (request c t f o) in
     ap (λ (a : Answer). events v (request c t f o) (record { report = numbers a; frame = d .written; list = d .listed }) ++ history (product v) (d .after) ys) e
@@ -412,18 +412,18 @@ an-echo-comes-back v right xs c t f o bytes six i n p w e ys t′ o′ l h clien
 -- a leaving and a lost link tell just that
 leaving-told : (v : Value) (m : Machine) (c : ℕ) (ys : List Call) → refusal m (detach c) ≡ 0
     → history (product v) m (detach c ∷ ys) ≡ left c ∷ history (product v) (outcome m (detach c) .after) ys
-unfolding history events told granted numbers
+unfolding linesOf events told granted numbers
 leaving-told v m c ys h = ap (λ (d : Outcome). events v (detach c) (seenOf d) ++ history (product v) (outcome m (detach c) .after) ys) (granted-is m (detach c) h)
 
 loss-told : (v : Value) (m : Machine) (ys : List Call) → history (product v) m (linkLost ∷ ys) ≡ lost ∷ history (product v) (outcome m linkLost .after) ys
-unfolding history events told granted numbers
+unfolding linesOf events told granted numbers
 loss-told v m ys = ap (λ (d : Outcome). events v linkLost (seenOf d) ++ history (product v) (outcome m linkLost .after) ys) (granted-is m linkLost (never-refused m))
 
 -- Tender 3: a client number that is attached again gets nothing that its predecessor asked. Whatever calls come after a client's leaving, what is answered to its number is what
 -- was answered before it left, or was accepted since.
 pub a-successor-gets-nothing-old : (v : Value) (xs : List Call) (c : ℕ) (ys : List Call) → refusal (afterCalls v xs) (detach c) ≡ 0
     → Anew c (ledgerOf v (xs ++ detach c ∷ [])) (ledgerOf v (xs ++ detach c ∷ ys))
-unfolding history
+unfolding linesOf
 a-successor-gets-nothing-old v xs c ys h =
     let m = afterCalls v xs in
     rw (
@@ -433,7 +433,7 @@ a-successor-gets-nothing-old v xs c ys h =
 
 -- And the same after a lost link, of any client number.
 pub nor-after-a-lost-link : (v : Value) (xs : List Call) (c : ℕ) (ys : List Call) → Anew c (ledgerOf v (xs ++ linkLost ∷ [])) (ledgerOf v (xs ++ linkLost ∷ ys))
-unfolding history
+unfolding linesOf
 nor-after-a-lost-link v xs c ys =
     let m = afterCalls v xs in
     rw (

@@ -27,7 +27,7 @@ use Rattle.book.specs.Book.Move.{rest, pass, join, issue, reply as replies, exp
 use Rattle.book.specs.Book.Event.{passed, joined, issued, replied, expired, left}
 use Rattle.book.specs.Desk.{duePlace}
 use Rattle.book.specs.Traced.{touches}
-use Rattle.book.specs.Machine.{tells, applies, AllFit, after, history}
+use Rattle.book.specs.Machine.{tells, applies, AllFit, stateAfter, linesOf}
 use Rattle.book.proofs.PlaceLaws.{at-low, nothing-there, set-each, none-each, map-each, live-not}
 use Rattle.book.proofs.GoodLaws.{good-move}
 use Rattle.book.proofs.History.{always, always-sound, after-one, history-one}
@@ -171,7 +171,7 @@ paired m x = both (eqb (refusal m x) 0) (granted x) done
 
 -- Over any history a live entry is open exactly if nothing that spoils it was issued since its issue.
 pub open-exactly : (v : Value) (xs : List Call) (k : ℕ) (e : Live What Note) → at (afterCalls v xs .book) k ≡ some e → Marks (toldBy v xs) e
-unfolding after history
+unfolding stateAfter linesOf
 open-exactly v =
     let M = product v in
     grown (λ xs. AllMark (afterCalls v xs .book .places) (toldBy v xs)) (λ k e z. absurd (nothing-there places k e z)) (λ xs x a.

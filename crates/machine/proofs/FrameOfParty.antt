@@ -25,7 +25,7 @@ use Rattle.rewrite.proofs.FrameLaws.{length-returned, returned-framed, returned
 use Rattle.book.specs.Book.{Party, Live, at, newEntry, struck, marked}
 use Rattle.book.specs.Desk.{freePlace, freeId, duePlace}
 use Rattle.book.specs.Ledger.{Ticket, Ledger, under}
-use Rattle.book.specs.Machine.{after}
+use Rattle.book.specs.Machine.{after, stateAfter}
 use Rattle.book.proofs.PlaceLaws.{set-cases, map-each, nothing-there}
 use Rattle.machine.specs.Machine.{Machine, Note, opened, made, rules, settings, clocked}
 use Rattle.machine.specs.Calls.{Call}
@@ -165,7 +165,7 @@ granted-known m (tick t o l) h a = due (at (clocked m t .book) (duePlace rules (
 granted-known m linkLost h a = λ k e z. absurd (nothing-there places k e z)
 
 after-known : (v : Value) (m : Machine) (xs : List Call) → AllKnown (m .book .places) → AllKnown (after (product v) m xs .book .places)
-unfolding after
+unfolding stateAfter
 after-known v m [] a = a
 after-known v m (x ∷ xs) a =
     after-known v (outcome m x .after) xs (⊎-elim

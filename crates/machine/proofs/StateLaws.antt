@@ -20,7 +20,7 @@ use Rattle.pdu.specs.Replies.{What}
 use Rattle.book.specs.Book.{Party, Event, at}
 use Rattle.book.specs.Book.Event.{passed, issued}
 use Rattle.book.specs.Desk.{duePlace}
-use Rattle.book.specs.Machine.{after}
+use Rattle.book.specs.Machine.{after, stateAfter}
 use Rattle.book.proofs.History.{seen-at}
 use Rattle.machine.specs.Machine.{Machine, made, rules, clocked}
 use Rattle.machine.specs.Calls.{Call, Outcome, timeOf}
@@ -42,7 +42,7 @@ use Rattle.machine.proofs.Histories.{product, afterCalls, toldBy}
 -- what every call that is not refused keeps of the machine and of the calls that were not refused before, any list of calls keeps
 by-calls : (P : Machine → List Call → Type 0) → ((m : Machine) (gs : List Call) (x : Call) → refusal m x ≡ 0 → P m gs → P (outcome m x .after) (gs ++ (x ∷ [])))
     → (v : Value) (m : Machine) (gs xs : List Call) → P m gs → P (after (product v) m xs) (gs ++ grantedFrom m xs)
-unfolding after grantedFrom
+unfolding stateAfter grantedFrom
 by-calls P step v m gs [] h = rw (append-nil gs) h
 by-calls P step v m gs (x ∷ xs) h =
     ⊎-elim

@@ -15,7 +15,7 @@ use Rattle.book.specs.Book.{Live, Good, NothingDue, at, apply}
 use Rattle.book.specs.Book.Move.{pass}
 use Rattle.book.specs.Desk.{duePlace, expireAt, choose, ticks}
 use Rattle.book.specs.Desk.Op.{tick as ticking}
-use Rattle.book.specs.Machine.{after}
+use Rattle.book.specs.Machine.{after, stateAfter}
 use Rattle.book.proofs.GoodLaws.{good-move}
 use Rattle.book.proofs.TickLaws.{ticks-good, drains}
 use Rattle.machine.specs.Machine.{Machine, Note, Live-book, machine, rules, clocked}
@@ -73,7 +73,7 @@ module _ (v : Value) (t : ℕ) (late : t ≤ latestTime) where
   -- ticks leave the clock at their time, and the book as the book's own ticks do
   many-ticks : (bs : List Lent) (m : Machine) → m .book .clock ≤ t
       → (after (product v) m (ticksAt t bs) .book .clock ≤ t) × (clocked (after (product v) m (ticksAt t bs)) t .book ≡ ticks rules (length bs) (clocked m t .book))
-  unfolding after ticks
+  unfolding stateAfter ticks
   many-ticks [] m c = (c, refl)
   many-ticks (b ∷ bs) m c =
       let h = timely m b c in

@@ -8,7 +8,7 @@ use Rattle.settings.specs.declared.Settings.{Settings}
 use Rattle.settings.specs.Grammar.{Value}
 use Rattle.pdu.specs.Replies.{What}
 use Rattle.book.specs.Book.{Event}
-use Rattle.book.specs.Machine.{Accounted, after, history}
+use Rattle.book.specs.Machine.{Accounted, after, history, stateAfter, linesOf}
 use Rattle.machine.specs.Machine.{Machine, rules}
 use Rattle.machine.specs.Calls.{Call, done}
 use Rattle.machine.specs.Refusals.{refusal}
@@ -49,20 +49,20 @@ module _ {d : Device} (x : Call) {saw : Seen} {e : Device} (s : Called d x saw e
 module _ (v : Value) where
   -- Some lines later the device is the machine that many calls later, from whatever device they began,
   lives : {d d′ : Device} {ls : List Line} → Lived d ls d′ → machineIn d′ ≡ after (product v) (machineIn d) (callsOf ls)
-  unfolding after
+  unfolding stateAfter
   lives none = refl
   lives {ls = x ∷ ls} (then s l) = lives l ∙ ap (λ (m : Machine). after (product v) m (callsOf ls)) (left (x .call) s)
 
   -- the host saw what the machine shows at that call,
   shows : (xs : List Line) (x : Line) (ys : List Line) {d d′ : Device} → Lived d (xs ++ (x ∷ ys)) d′
       → x .saw ≡ seenOf (outcome (after (product v) (machineIn d) (callsOf xs)) (x .call))
-  unfolding after
+  unfolding stateAfter
   shows [] x ys (then s l) = seen (x .call) s
   shows (y ∷ xs) x ys (then s l) = shows xs x ys l ∙ ap (λ (m : Machine). seenOf (outcome (after (product v) m (callsOf xs)) (x .call))) (left (y .call) s)
 
   -- and the lines tell what the machine's history does.
   pub tells : {d d′ : Device} {ls : List Line} → Lived d ls d′ → toldIn v ls ≡ history (product v) (machineIn d) (callsOf ls)
-  unfolding toldIn history
+  unfolding toldIn linesOf
   tells none = refl
   tells {d} {ls = x ∷ ls} (then s l) =
       ap (λ (t : List (Event What)). events v (x .call) (x .saw) ++ t) (tells l ∙ ap (λ (m : Machine). history (product v) m (callsOf ls)) (left (x .call) s))
@@ -117,13 +117,13 @@ pub record AsTheMachine (v : Value) (ls : List Line) (d′ : Device) : Type 0 wh
 
 module _ (from : Settings) {r : Report} {d d′ : Device} (ls : List Line) (fresh : Freshly from r d) (life : Lived d ls d′) where
   begins : machineIn d ≡ afterCalls (inForce from) []
-  unfolding machineIn after
+  unfolding machineIn stateAfter
   begins = fresh .1
 
   -- Tender 3, any history, of the exported functions: whatever calls a host makes of a fresh device, refused ones included, the device afterwards is the machine after those calls,
   -- and every report and every lent byte on the way is the machine's. So the claims of the machine's histories are claims of the device.
   pub a-device-lives-as-the-machine : AsTheMachine (inForce from) ls d′
-  unfolding after
+  unfolding stateAfter
   a-device-lives-as-the-machine =
       let v = inForce from in
       record {
