@@ -49,34 +49,38 @@ use Rattle.machine.specs.Machine.{Machine, Note, made, rules, settings}
 use Rattle.machine.specs.Calls.{Call, Outcome, done, outOf, listOf, timeOf}
 use Rattle.machine.specs.Calls.Call.{attach, detach, request, reply, tick, linkLost}
 use Rattle.machine.specs.Refusals.{rows, lowest, refusal}
-use Rattle.machine.specs.Numbers.{numbers}
+use Rattle.machine.specs.Numbers.{numbers, Tells}
 use Rattle.machine.specs.Requests.{wanted, partyOf}
 use Rattle.machine.specs.Outcomes.{granted, outcome}
 use Rattle.machine.specs.Granted.{grantedCalls, concerns}
-use Rattle.machine.specs.Waiting.{nextDeadline}
-use Rattle.machine.specs.Spelled.{asker, asking}
-use Rattle.machine.specs.Histories.{seenOf, events, told}
+use Rattle.machine.specs.Waiting.{nextDeadline, Waits}
+use Rattle.machine.specs.Spelled.{asker, asking, AskedBy}
+use Rattle.machine.specs.Histories.{seenOf, events, told, afterCalls, toldBy, toldSince, ledgerOf, Origin}
 use Rattle.machine.specs.Closed.{Unspoiled, Joinable, Meets}
 use Rattle.machine.specs.declared.Answer.{Answer}
 use Rattle.machine.specs.declared.Answer.the-variants as answer
-use Rattle.machine.proofs.RefusalLaws.{table, Applies, refused-exactly}
+use Rattle.machine.specs.RefusalTable.{table, Applies}
+use Rattle.machine.specs.Requested.{NoneToJoin, Carries, Issues, Joins, Excepts, Accepts, Stands}
+use Rattle.machine.specs.Requested.Carries.{single}
+use Rattle.machine.specs.Answered.{Answers, Expires, showing, Lent, tickAt, ticksAt}
+use Rattle.machine.specs.PartysFrames.{EachItsFrame}
+use Rattle.machine.proofs.RefusalLaws.{refused-exactly}
 use Rattle.machine.proofs.OutcomeLaws.{says-refusal, refused-is, granted-is}
-use Rattle.machine.proofs.NumberLaws.{Tells, numbers-tell}
-use Rattle.machine.proofs.SpelledLaws.{AskedBy, asked-spelled, kept-as-asked, asking-says}
-use Rattle.machine.proofs.RequestLaws.{NoneToJoin, codeOf, no-other-exception, exception-04 as said-exactly}
-use Rattle.machine.proofs.AskLaws.Carries.{single}
+use Rattle.machine.proofs.NumberLaws.{numbers-tell}
+use Rattle.machine.proofs.SpelledLaws.{asked-spelled, kept-as-asked, asking-says}
+use Rattle.machine.proofs.RequestLaws.{codeOf, no-other-exception, exception-04 as said-exactly}
 use Rattle.machine.proofs.Follows.{same-entry}
-use Rattle.machine.proofs.AskLaws.{Carries, bits-carry-none, Issues, Joins, Excepts, request-comes-to, issue-is, join-is, exception-is}
-use Rattle.machine.proofs.PartyLaws.{Accepts, Stands, accepted-stands}
-use Rattle.machine.proofs.AnswerLaws.{Answers, Expires, reply-answers, tick-expires, showing, idle-is, idle-when}
+use Rattle.machine.proofs.AskLaws.{bits-carry-none, request-comes-to, issue-is, join-is, exception-is}
+use Rattle.machine.proofs.PartyLaws.{accepted-stands}
+use Rattle.machine.proofs.AnswerLaws.{reply-answers, tick-expires, idle-is, idle-when}
 use Rattle.machine.proofs.ReadBack.{comes-back}
 use Rattle.machine.proofs.EchoBack.{echo-comes-back, own-frame, sent-id}
-use Rattle.machine.proofs.TickLaws.{Lent, tickAt, ticksAt, ticking-ends}
-use Rattle.machine.proofs.WaitingLaws.{Waits, waits, next-tick}
-use Rattle.machine.proofs.FrameOfParty.{EachItsFrame, reply-frame, always-known, timeout-frame}
-use Rattle.machine.proofs.Histories.{product, afterCalls, toldBy, toldSince, ledgerOf, accounted}
+use Rattle.machine.proofs.TickLaws.{ticking-ends}
+use Rattle.machine.proofs.WaitingLaws.{waits, next-tick}
+use Rattle.machine.proofs.FrameOfParty.{reply-frame, always-known, timeout-frame}
+use Rattle.machine.proofs.Histories.{product, accounted}
 use Rattle.machine.proofs.ClosedLaws.{open-exactly, not-stale, not-stale-in-bytes, joins-exactly}
-use Rattle.machine.proofs.StateLaws.{Origin, attached-exactly, clock-exactly, issue-origin}
+use Rattle.machine.proofs.StateLaws.{attached-exactly, clock-exactly, issue-origin}
 
 -- Tender 3, the sum: accepted = answered by a reply + answered by timeout + dropped by a leaving + dropped by a lost link + held in the party places; each accepted
 -- request is in one group and there once; the held ones are, entry by entry and in order, the parties in the places; each answer's list is exactly those that it answers.

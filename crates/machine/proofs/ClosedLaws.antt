@@ -40,13 +40,14 @@ use Rattle.machine.specs.Outcomes.{outcome}
 use Rattle.machine.specs.Spelled.{asking}
 use Rattle.machine.specs.declared.Answer.the-variants as answer
 use Rattle.machine.specs.Closed.{closes, concernsRead, Unspoiled, Joinable, Meets}
+use Rattle.machine.specs.Requested.{MayJoin}
+use Rattle.machine.specs.Histories.{afterCalls, toldBy}
 use Rattle.machine.proofs.MeetsLaws.{spoils-in-bytes}
-use Rattle.machine.proofs.JoinLaws.{MayJoin}
 use Rattle.machine.proofs.RequestLaws.Comes.{faulty, joining, full, issuing}
 use Rattle.machine.proofs.RequestLaws.{Comes, comes}
 use Rattle.machine.proofs.AskLaws.{join-is}
 use Rattle.machine.proofs.Follows.{Moves, joining as joins, serving, ending, grantedMoves, moves, follows, fits, honest}
-use Rattle.machine.proofs.Histories.{product, afterCalls, toldBy}
+use Rattle.machine.proofs.Histories.{product}
 
 abbrev Entries : Type 0
 Entries = List (Option (Live What Note))

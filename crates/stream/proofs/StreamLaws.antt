@@ -17,7 +17,8 @@ use Rattle.wire.specs.Frame.{protocolOf, lengthOf, misframed}
 use Rattle.wire.specs.Splitting.{badHeader, standingOf, firstFrame}
 use Rattle.wire.specs.declared.splitting.Split.{Split}
 use Rattle.wire.specs.declared.splitting.Split.the-variants.{Frame, MoreNeeded, Refused}
-use Rattle.wire.proofs.SplittingLaws.{starts, stands, refused as is-refused, six-decide, short-waits, whole-stands, first-taken, first-size, first-is-whole, Whole}
+use Rattle.wire.specs.Plain.{Whole}
+use Rattle.wire.proofs.SplittingLaws.{starts, stands, refused as is-refused, six-decide, short-waits, whole-stands, first-taken, first-size, first-is-whole}
 use Rattle.stream.specs.Stream.{Stream, stream, fresh, refused, Outcome, outcome, found, took}
 use Rattle.stream.specs.Hosts.{Fed, start, with}
 use Rattle.stream.specs.Lent.{stood}

@@ -45,21 +45,19 @@ use Rattle.machine.specs.Granted.{concerns}
 use Rattle.machine.specs.Numbers.{ten, numbers, isIssued, isJoined, isException, isTimedOut, isNothingDue}
 use Rattle.machine.specs.Waiting.{nextDeadline}
 use Rattle.machine.specs.Spelled.{asker, asking}
-use Rattle.machine.specs.Histories.{Seen, seenOf}
+use Rattle.machine.specs.Histories.{Seen, seenOf, afterCalls, toldBy, toldSince, IssuedBy}
 use Rattle.machine.specs.Closed.{Unspoiled, Joinable, Meets}
 use Rattle.machine.specs.declared.Answer.{Answer}
 use Rattle.machine.specs.declared.Answer.the-variants as answer
 use Rattle.machine.specs.declared.Report.{Report}
 use Rattle.machine.specs.declared.NextDeadline.{NextDeadline}
-use Rattle.machine.proofs.RefusalLaws.{table, Applies}
+use Rattle.machine.specs.RefusalTable.{table, Applies}
+use Rattle.machine.specs.Requested.{NoneToJoin, Carries, Issues, Joins, Excepts, Accepts, Stands}
+use Rattle.machine.specs.Answered.{showing, Lent, tickAt, ticksAt}
 use Rattle.machine.proofs.NumberLaws.{refusal-told, refusal-exactly, exception-exactly, join-exactly}
-use Rattle.machine.proofs.RequestLaws.{NoneToJoin}
-use Rattle.machine.proofs.AskLaws.{Carries, bits-carry-none, Issues, Joins, Excepts}
-use Rattle.machine.proofs.PartyLaws.{Accepts, Stands}
-use Rattle.machine.proofs.AnswerLaws.{showing}
-use Rattle.machine.proofs.TickLaws.{Lent, tickAt, ticksAt}
-use Rattle.machine.proofs.Histories.{product, afterCalls, toldBy, toldSince}
-use Rattle.machine.proofs.StateLaws.{IssuedBy, seen-issue}
+use Rattle.machine.proofs.AskLaws.{bits-carry-none}
+use Rattle.machine.proofs.Histories.{product}
+use Rattle.machine.proofs.StateLaws.{seen-issue}
 use Rattle.machine.proofs.Claims as claim
 use Rattle.table.specs.Columns.{partiesAt, noteOf}
 use Rattle.proxy.specs.State.{valueIn}

@@ -29,11 +29,11 @@ use Rattle.machine.specs.Refusals.{refusal}
 use Rattle.machine.specs.Replies.{pairs}
 use Rattle.machine.specs.Outcomes.{outcome}
 use Rattle.machine.specs.Numbers.{ten, numbers}
-use Rattle.machine.specs.Histories.{Seen, seenOf}
+use Rattle.machine.specs.Histories.{Seen, seenOf, afterCalls, toldBy, ledgerOf}
 use Rattle.machine.specs.declared.Answer.{Answer}
 use Rattle.machine.specs.declared.Answer.the-variants as answer
-use Rattle.machine.proofs.FrameOfParty.{EachItsFrame, reply-frame, always-known}
-use Rattle.machine.proofs.Histories.{afterCalls, toldBy, ledgerOf}
+use Rattle.machine.specs.PartysFrames.{EachItsFrame}
+use Rattle.machine.proofs.FrameOfParty.{reply-frame, always-known}
 use Rattle.machine.proofs.Claims as claim
 
 -- those that wait under an id in the ledger of a history, in the order in which they were accepted

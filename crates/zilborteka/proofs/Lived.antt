@@ -14,11 +14,11 @@ use Rattle.machine.specs.Calls.{Call, done}
 use Rattle.machine.specs.Refusals.{refusal}
 use Rattle.machine.specs.Outcomes.{outcome}
 use Rattle.machine.specs.Granted.{grantedFrom, grantedCalls}
-use Rattle.machine.specs.Numbers.{Reported}
-use Rattle.machine.specs.Histories.{Seen, seenOf, events}
+use Rattle.machine.specs.Numbers.{Reported, Tells}
+use Rattle.machine.specs.Histories.{Seen, seenOf, events, afterCalls, toldBy}
 use Rattle.machine.specs.declared.Report.{Report}
-use Rattle.machine.proofs.NumberLaws.{Tells, numbers-tell, refusal-told}
-use Rattle.machine.proofs.Histories.{product, afterCalls, toldBy, accounted}
+use Rattle.machine.proofs.NumberLaws.{numbers-tell, refusal-told}
+use Rattle.machine.proofs.Histories.{product, accounted}
 use Rattle.device.specs.declared.Device.{Device}
 use Rattle.device.specs.Device.{Made, Freshly}
 use Rattle.zilborteka.specs.Lives.{inForce, machineIn, Called, Line, callsOf, Lived, grantedIn, toldIn, ledgerIn}
