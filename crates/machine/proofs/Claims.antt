@@ -116,7 +116,7 @@ module _ (v : Value) (xs : List Call) where
   the-settings-in-force-stay = always-sound (product v) xs
 
   -- Tender 1: a call refuses by the numbers in document 01. It says the refusal n exactly if row n of the document's table applies to it and no lower row does; the
-  -- table in plain words is `table` of RefusalLaws.
+  -- table in plain words is `table` of specs/RefusalTable.antt.
   pub refuses-by-the-table : (x : Call) (n : ℕ) → (n ≡ 0 → ⊥)
       → (outcome (afterCalls v xs) x .says ≡ answer.Refused n) ↔ (Applies (table (afterCalls v xs) x) n × ((k : ℕ) → k < n → Applies (table (afterCalls v xs) x) k → ⊥))
   refuses-by-the-table = says-refusal (afterCalls v xs) good

@@ -57,15 +57,21 @@ told v linkLost s = lost ∷ []
 unfoldable pub events : Value → Call → Seen → List (Event What)
 events v x s = cond (eqb (s .report .refusal) 0) (told v x s) []
 
--- the machine after some calls, what they tell, what the calls ys tell that come after the calls xs, and the ledger of what some calls tell
+-- the machine after some calls, from the machine m and from a fresh one; what they tell, from either, and what the calls ys tell that come after the calls xs; and the ledger of what some tell
+abbrev pub afterFrom : Machine → List Call → Machine
+afterFrom m xs = stateAfter (λ n x. outcome n x .after) m xs
+
 abbrev pub afterCalls : Value → List Call → Machine
-afterCalls v xs = stateAfter (λ m x. outcome m x .after) (made v) xs
+afterCalls v xs = afterFrom (made v) xs
+
+abbrev pub toldFrom : Value → Machine → List Call → List (Event What)
+toldFrom v m xs = linesOf (λ n x. outcome n x .after) (λ n x. events v x (seenOf (outcome n x))) m xs
 
 abbrev pub toldBy : Value → List Call → List (Event What)
-toldBy v xs = linesOf (λ m x. outcome m x .after) (λ m x. events v x (seenOf (outcome m x))) (made v) xs
+toldBy v xs = toldFrom v (made v) xs
 
 abbrev pub toldSince : Value → List Call → List Call → List (Event What)
-toldSince v xs ys = linesOf (λ m x. outcome m x .after) (λ m x. events v x (seenOf (outcome m x))) (afterCalls v xs) ys
+toldSince v xs ys = toldFrom v (afterCalls v xs) ys
 
 abbrev pub ledgerOf : Value → List Call → Ledger What
 ledgerOf v xs = posts empty (toldBy v xs)

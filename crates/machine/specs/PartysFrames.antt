@@ -8,7 +8,6 @@ use mathlib.Core.List.{List, List·Memᴰ}
 use lib.ListN.{getD, take}
 use Rattle.laws.specs.Lists.{filter}
 use Rattle.wire.specs.Frame.{misframed, laid}
-use Rattle.wire.proofs.FrameLaws.{framed}
 use Rattle.pdu.specs.Replies.{What, answering}
 use Rattle.book.specs.Book.{Party}
 use Rattle.book.specs.Ledger.{Ticket, Ledger, under}
