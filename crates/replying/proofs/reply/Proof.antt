@@ -12,7 +12,7 @@ use Rattle.wire.specs.Frame.{idOf}
 use Rattle.pdu.specs.Replies.{answering}
 use Rattle.machine.specs.Numbers.{numbers}
 use Rattle.table.specs.Columns.{Columns, columns}
-use Rattle.table.specs.Places.{holds}
+use Rattle.table.specs.inner.Places.{holds}
 use Rattle.table.proofs.EntryLaws.{held}
 use Rattle.proxy.specs.State.{State, Kept, kept, state, machineOf}
 use Rattle.proxy.specs.Gates.{replyGate}
