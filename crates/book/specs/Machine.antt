@@ -24,6 +24,16 @@ module _ {R W N : Type 0} where
   AllFit r b [] = Unit {0}
   AllFit r b (m ∷ ms) = Fits r b m × AllFit r (apply r b m) ms
 
+-- what comes of calls that are made one after another, each of which leaves next of the state: the state after them, and the lines that they say, where each says those
+module _ {O S : Type 0} (next : S → O → S) where
+  unfoldable pub stateAfter : S → List O → S
+  stateAfter s [] = s
+  stateAfter s (o ∷ os) = stateAfter (next s o) os
+
+  unfoldable pub linesOf : {W : Type 0} → (S → O → List (Event W)) → S → List O → List (Event W)
+  linesOf says s [] = []
+  linesOf says s (o ∷ os) = says s o ++ linesOf says (next s o) os
+
 -- W: what was asked; N: what else is kept of it; O: the calls; A: the answers to each call; S: the states
 pub record Machine {R : Type 0} (r : Rules R) (W N O : Type 0) (A : O → Type 0) (S : Type 0) : Type 1 where
   -- the settings that it was made with
@@ -47,14 +57,12 @@ pub record Machine {R : Type 0} (r : Rules R) (W N O : Type 0) (A : O → Type 0
 
 module _ {R : Type 0} {r : Rules R} {W N O : Type 0} {A : O → Type 0} {S : Type 0} (M : Machine r W N O A S) where
   -- the state after some calls
-  unfoldable pub after : S → List O → S
-  after s [] = s
-  after s (o ∷ os) = after (M .next s o) os
+  abbrev pub after : S → List O → S
+  after s os = stateAfter (M .next) s os
 
   -- what those calls and their answers say
-  unfoldable pub history : S → List O → List (Event W)
-  history s [] = []
-  history s (o ∷ os) = M .seen o (M .answer s o) ++ history (M .next s o) os
+  abbrev pub history : S → List O → List (Event W)
+  history s os = linesOf (M .next) (λ t o. M .seen o (M .answer t o)) s os
 
 -- the book b and the history vs of a machine agree, for the ledger l of that history
 pub record Accounted {R W N : Type 0} (r : Rules R) (b : Book R W N) (vs : List (Event W)) (l : Ledger W) : Type 0 where

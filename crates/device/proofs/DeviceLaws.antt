@@ -10,8 +10,8 @@ use Rattle.laws.specs.Bits.{has}
 use Rattle.laws.specs.Search.{least, count}
 use Rattle.machine.specs.Waiting.{noDeadline}
 use Rattle.machine.specs.declared.NextDeadline.{NextDeadline}
-use Rattle.table.specs.Changes.{Runs}
-use Rattle.table.specs.Places.{isTaken}
+use Rattle.table.specs.inner.Changes.{Runs}
+use Rattle.table.specs.inner.Places.{isTaken}
 use Rattle.table.proofs.EntryLaws.{runs-of}
 use Rattle.table.proofs.FindLaws.{next-time, next-live}
 use Rattle.proxy.specs.State.{State, valueIn}

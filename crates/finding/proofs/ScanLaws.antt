@@ -14,7 +14,7 @@ use Rattle.laws.specs.Search.{best}
 use Rattle.laws.proofs.Choice.{and-right}
 use Rattle.laws.proofs.SearchLaws.{best-in, best-wins, best-stays, first-cut}
 use Rattle.laws.proofs.SoonerLaws.{sooner-come, later-not, sooner-by, higher-not}
-use Rattle.table.specs.Places.{isFree, isTaken, isDue, isSooner, Topped}
+use Rattle.table.specs.inner.Places.{isFree, isTaken, isDue, isSooner, Topped}
 
 -- A place beats nothing: that it passes is enough.
 pub beats-none : {t r : Bool} (b : Bool) {found none : ℕ} → r ≡ t → found ≡ none → r ≡ (t && (eqb found none || b))

@@ -9,7 +9,7 @@ ghost use lib.Dec.{eqb, ltb, leb};
 ghost use Rattle.laws.specs.Numbers.{places};
 ghost use Rattle.laws.specs.Search.{best, first, least, count};
 ghost use Rattle.machine.specs.Waiting.{noDeadline};
-ghost use Rattle.table.specs.Places.{isFree, isTaken, holds, isOpen, isDue, isLower, isSooner, freeIdFrom, Topped};
+ghost use Rattle.table.specs.inner.Places.{isFree, isTaken, holds, isOpen, isDue, isLower, isSooner, freeIdFrom, Topped};
 
 // The place that is live under that id, and PLACES where none is.
 pub fn find(ids: &[u32; laws::PLACES], top: usize, id: ProxyId) -> usize

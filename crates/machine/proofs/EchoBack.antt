@@ -31,9 +31,9 @@ use Rattle.machine.specs.Calls.Call.{request, reply}
 use Rattle.machine.specs.Outcomes.{outcome}
 use Rattle.machine.specs.Spelled.{asking}
 use Rattle.machine.specs.declared.Answer.the-variants as answer
+use Rattle.machine.specs.Requested.{Issues}
+use Rattle.machine.specs.Answered.{Answers}
 use Rattle.machine.proofs.SpelledLaws.{asked-spelled, asking-says}
-use Rattle.machine.proofs.AskLaws.{Issues}
-use Rattle.machine.proofs.AnswerLaws.{Answers}
 
 -- a request 06, and the frame that is sent of it, are no exception
 plain : (tags : List Tag) (f : List ℕ) (a v : ℕ) → getD f 7 0 ≡ 6 → excepts 6 (forwarded tags (SingleWrite Registers a v) f .bytes) ≡ false

@@ -25,8 +25,9 @@ use Rattle.machine.specs.Replies.{answeredTo, answered, expiredTo, ticke
 use Rattle.machine.specs.Outcomes.{granted, outcome}
 use Rattle.machine.specs.declared.Answer.{Answer}
 use Rattle.machine.specs.declared.Answer.the-variants as answer
+use Rattle.machine.specs.RefusalTable.{Applies, table}
 use Rattle.machine.proofs.LowestLaws.{none-applies}
-use Rattle.machine.proofs.RefusalLaws.{Applies, table, refused-exactly, refusal-changes-nothing}
+use Rattle.machine.proofs.RefusalLaws.{refused-exactly, refusal-changes-nothing}
 
 -- every outcome of a request that is not refused, as one of three cases
 pub served-cases : (P : Outcome → Type 0) (m : Machine) (c : ℕ) (f o : List ℕ)

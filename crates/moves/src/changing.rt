@@ -11,7 +11,7 @@ ghost use Rattle.pdu.specs.Words.{wordOf, whatOf, Proper};
 ghost use Rattle.book.specs.Book.{entry};
 ghost use Rattle.machine.specs.Machine.{opened};
 ghost use Rattle.table.specs.Columns.{columns, tableOf, party, Sound};
-ghost use Rattle.table.specs.Changes.{Runs, Joined, blank};
+ghost use Rattle.table.specs.inner.Changes.{Runs, Joined, blank};
 
 // One past the place, or top where that is more.
 fn raised(top: u32, place: usize) -> u32

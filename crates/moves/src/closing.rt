@@ -4,7 +4,7 @@ ghost use mathlib.Core.Path.{_≡_};
 ghost use Prim.Native.Nat.{ℕ, _≤_};
 ghost use Rattle.laws.specs.Numbers.{places};
 ghost use Rattle.pdu.specs.Words.{whatOf};
-ghost use Rattle.table.specs.Changes.{wordAfter, Closes};
+ghost use Rattle.table.specs.inner.Changes.{wordAfter, Closes};
 
 // The word of a place once a request to `unit` that asks `what` was issued: closed, where the place is live and what is asked there is spoiled.
 fn word_after(unit: u8, what: Asked, id: u32, held: u64) -> u64

@@ -6,7 +6,7 @@ ghost use Rattle.laws.specs.Numbers.{places, room, listBuffer};
 ghost use Rattle.laws.specs.Bytes.{over};
 ghost use Rattle.machine.specs.Replies.{pairs};
 ghost use Rattle.table.specs.Columns.{partiesAt};
-ghost use Rattle.table.specs.Changes.{reach};
+ghost use Rattle.table.specs.inner.Changes.{reach};
 
 // One past the last live place below top.
 fn last_live(ids: &[u32; laws::PLACES], top: u32) -> u32

@@ -3,7 +3,7 @@ ghost use mathlib.Core.Path.{_≡_};
 ghost use Prim.Native.Nat.{_+_, _≤_};
 ghost use lib.ListN.{length};
 ghost use Rattle.laws.specs.Numbers.{places, partyPlaces};
-ghost use Rattle.table.specs.Changes.{Runs, Closed, Struck};
+ghost use Rattle.table.specs.inner.Changes.{Runs, Closed, Struck};
 
 // Strikes the client out of a run of n parties that starts at base, and closes the gaps; how many stay.
 fn strike_run<'a>(

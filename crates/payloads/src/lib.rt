@@ -7,7 +7,7 @@ ghost use Prim.Native.Nat.{ℕ};
 ghost use Rattle.pdu.specs.Replies.{what, excepts};
 ghost use Rattle.rewrite.specs.Rewriting.{outcome};
 ghost use Rattle.rewrite.specs.Frames.{singleBase, passing, forwarded, returnedBy, returned, under};
-ghost use Rattle.rewrite.specs.Lent.{tagsOf, TagWords, Run, RunOf, Sent, Brought, Framed};
+ghost use Rattle.rewrite.specs.inner.Lent.{tagsOf, TagWords, Run, RunOf, Sent, Brought, Framed};
 use pdu::Asked;
 use pdu::ProxyId;
 use pdu::Table;

@@ -28,43 +28,8 @@ use Rattle.pdu.specs.declared.Asked.the-variants.{Read, SingleWrite, Mul
 use Rattle.pdu.specs.declared.Checked.{Checked}
 use Rattle.pdu.specs.declared.Checked.the-variants.{BadFunction, BadLength, Excepted, Legal}
 use Rattle.laws.proofs.TestLaws.{holds-eq, holds-not, holds-and, holds-or, fails-not, fails-ne, fails-lt, fails-zero, fails-or, fails-never, fails-holds, either}
-
--- a function that is not refused is 1 to 127
-abbrev pub Known : ℕ → Type 0
-Known n = (1 ≤ n) × (n ≤ lastFunction)
-
--- the PDU's size is right
-abbrev pub Sized : Class → List ℕ → Type 0
-Sized (Reads t) f = pduSize f ≡ shortPdu
-Sized (WritesOne t) f = pduSize f ≡ shortPdu
-Sized (WritesMany t) f = (multiplePdu ≤ pduSize f) × (pduSize f ≡ multiplePdu + byteCountOf f)
-Sized Others f = Unit {0}
-
--- the quantity is right, 05's value is 0x0000 or 0xFF00, and the byte count of 15 and 16 is that of the quantity
-abbrev pub Valued : Class → List ℕ → Type 0
-Valued (Reads t) f = (1 ≤ quantityOf f) × (quantityOf f ≤ mostReadOf t)
-Valued (WritesOne Bits) f = (valueOf f ≡ coilOff) ⊎ (valueOf f ≡ coilOn)
-Valued (WritesOne Registers) f = Unit {0}
-Valued (WritesMany t) f = (1 ≤ quantityOf f) × ((quantityOf f ≤ mostWrittenOf t) × (byteCountOf f ≡ bytesFor t (quantityOf f)))
-Valued Others f = Unit {0}
-
--- the range ends within the addresses
-abbrev pub Ranged : Class → List ℕ → Type 0
-Ranged (Reads t) f = startOf f + quantityOf f ≤ addresses
-Ranged (WritesOne t) f = Unit {0}
-Ranged (WritesMany t) f = startOf f + quantityOf f ≤ addresses
-Ranged Others f = Unit {0}
-
--- what the check of a request comes to, and when
-abbrev pub classIn : List ℕ → Class
-classIn f = classOf (functionOf f)
-
-pub data Outcome (f : List ℕ) : Checked → Type 0 where
-  unknown : (Known (functionOf f) → ⊥) → Outcome f BadFunction
-  missized : Known (functionOf f) → (Sized (classIn f) f → ⊥) → Outcome f BadLength
-  misvalued : Known (functionOf f) → Sized (classIn f) f → (Valued (classIn f) f → ⊥) → Outcome f (Excepted 3)
-  misranged : Known (functionOf f) → Sized (classIn f) f → Valued (classIn f) f → (Ranged (classIn f) f → ⊥) → Outcome f (Excepted 2)
-  fine : Known (functionOf f) → Sized (classIn f) f → Valued (classIn f) f → Ranged (classIn f) f → Outcome f (Legal (askedOf f))
+use Rattle.pdu.specs.Plain.{Known, Sized, Valued, Ranged, classIn, Outcome}
+use Rattle.pdu.specs.Plain.Outcome.{unknown, missized, misvalued, misranged, fine}
 
 -- Refusal 5 fails exactly for 1 to 127.
 pub known : (n : ℕ) → (badFunction n ≡ false) ↔ Known n

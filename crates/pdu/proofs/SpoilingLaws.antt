@@ -22,7 +22,8 @@ use Rattle.pdu.specs.declared.Class.the-variants.{Reads, WritesOne, Writ
 use Rattle.pdu.specs.declared.Asked.{Asked}
 use Rattle.pdu.specs.declared.Asked.the-variants.{Read, SingleWrite, MultipleWrite, Other}
 use Rattle.pdu.specs.declared.Checked.the-variants.{Legal}
-use Rattle.pdu.proofs.RequestLaws.{Valued, classIn, legal-passed, class-read-bits, class-read, class-single, class-multiple, class-other}
+use Rattle.pdu.specs.Plain.{Valued, classIn, Reading, Writing, Neither, Common, Meeting, sortOf, NotEmpty, Ranging}
+use Rattle.pdu.proofs.RequestLaws.{legal-passed, class-read-bits, class-read, class-single, class-multiple, class-other}
 
 -- Two tables are the same exactly where they are equal.
 pub same-table : (t r : Table) → (sameTable t r ≡ true) ↔ (t ≡ r)
@@ -33,33 +34,6 @@ same-table Registers Bits = (λ e. absurd (false≢true e), λ e. never (cc))
 same-table Registers Registers = (λ e. refl, λ e. refl)
 
 -- IN PLAIN NUMBERS
-
--- the functions that read bits and registers, that write them, and that do neither
-abbrev pub Reading : Table → ℕ → Type 0
-Reading Bits n = (n ≡ 1) ⊎ (n ≡ 2)
-Reading Registers n = (n ≡ 3) ⊎ (n ≡ 4)
-
-abbrev pub Writing : Table → ℕ → Type 0
-Writing Bits n = (n ≡ 5) ⊎ (n ≡ 15)
-Writing Registers n = (n ≡ 6) ⊎ (n ≡ 16)
-
-abbrev pub Neither : ℕ → Type 0
-Neither n = (n ≡ 1 → ⊥) × (n ≡ 2 → ⊥) × (n ≡ 3 → ⊥) × (n ≡ 4 → ⊥) × (n ≡ 5 → ⊥) × (n ≡ 6 → ⊥) × (n ≡ 15 → ⊥) × (n ≡ 16 → ⊥)
-
--- the address x is asked for: the address of 05 and 06; of the others as many as the quantity from the start on
-abbrev pub Covers : Asked → ℕ → Type 0
-Covers (Read t s q) x = (s ≤ x) × (x < s + q)
-Covers (SingleWrite t a v) x = x ≡ a
-Covers (MultipleWrite t s q) x = (s ≤ x) × (x < s + q)
-Covers Other x = ⊥
-
--- both ask for some address
-abbrev pub Common : Asked → Asked → Type 0
-Common a b = (x : ℕ) × Covers a x × Covers b x
-
--- r reads bits or registers, and w is "other", or writes those and has an address in common with r
-abbrev pub Meeting : What → What → Type 0
-Meeting w r = (t : Table) × Reading t (r .function) × (Neither (w .function) ⊎ (Writing t (w .function) × Common (w .asked) (r .asked)))
 
 -- BY CLASS
 
@@ -96,13 +70,6 @@ class-exact n c = (λ e. rw e at (named n), back c)
     back (WritesMany Registers) e = ap classOf e ∙ class-multiple .1
     back Others e = class-other n (e .0) (e .1) (e .2) (e .3) (e .4) (e .5) (e .6) (e .7)
 
--- the class that asks such a thing
-abbrev pub sortOf : Asked → Class
-sortOf (Read t s q) = Reads t
-sortOf (SingleWrite t a v) = WritesOne t
-sortOf (MultipleWrite t s q) = WritesMany t
-sortOf Other = Others
-
 sort-kept : (c : Class) (n : ℕ) → sortOf (keptIn c n) ≡ c
 unfolding keptIn
 sort-kept (Reads t) n = refl
@@ -117,13 +84,6 @@ sort-asked (WritesOne t) f = refl
 sort-asked (WritesMany t) f = refl
 sort-asked Others f = refl
 
--- where there is a quantity, it is not 0
-abbrev pub NotEmpty : Asked → Type 0
-NotEmpty (Read t s q) = 1 ≤ q
-NotEmpty (SingleWrite t a v) = Unit {0}
-NotEmpty (MultipleWrite t s q) = 1 ≤ q
-NotEmpty Other = Unit {0}
-
 lawful-some : (a : Asked) → Lawful a → NotEmpty a
 unfolding Lawful
 lawful-some (Read t s q) l = l .0
@@ -137,11 +97,6 @@ valued-some (Reads t) f v = v .0
 valued-some (WritesOne t) f v = tt
 valued-some (WritesMany t) f v = v .0
 valued-some Others f v = tt
-
--- what is asked is what the function's class asks, of one address or more
-pub record Ranging (w : What) : Type 0 where
-  pub class : classOf (w .function) ≡ sortOf (w .asked)
-  pub some : NotEmpty (w .asked)
 
 -- What may stand in a live entry is such;
 pub proper-ranges : (w : What) → Proper w → Ranging w

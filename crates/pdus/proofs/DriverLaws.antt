@@ -16,7 +16,7 @@ use Rattle.pdu.specs.Replies.{what, excepts, answering}
 use Rattle.pdu.specs.declared.Asked.{Asked}
 use Rattle.pdu.specs.declared.Checked.the-variants.{Legal}
 use Rattle.pdu.proofs.RequestLaws.{legal-proper}
-use Rattle.rewrite.specs.Lent.{Sent, Brought, Framed}
+use Rattle.rewrite.specs.inner.Lent.{Sent, Brought, Framed}
 use Rattle.rewrite.proofs.RoomLaws.{legal-sent, answer-brought}
 
 -- A frame that is not refused fits a buffer of the stated length.

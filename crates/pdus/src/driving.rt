@@ -1,5 +1,5 @@
 // A request forwarded and a reply given back, behind every check of its frame, with document 01's two tags, width 16 at 1024 and width 32 at 1026, and two more: a signed one at 1028, and width 32 at 1029.
-ghost use Rattle.rewrite.specs.Lent.{TagWords};
+ghost use Rattle.rewrite.specs.inner.Lent.{TagWords};
 use pdu::Checked;
 use pdu::ProxyId;
 use rewrite::Raw;

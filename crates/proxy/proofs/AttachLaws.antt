@@ -26,7 +26,7 @@ use Rattle.machine.specs.Outcomes.{granted, outcome}
 use Rattle.machine.specs.declared.Answer.the-variants.{Refused, Done as Finished, Lost}
 use Rattle.machine.proofs.OutcomeLaws.{granted-is, refused-is}
 use Rattle.table.specs.Columns.{Columns, columns, entryAt, tableOf, bookOf, Sound}
-use Rattle.table.specs.Changes.{Struck}
+use Rattle.table.specs.inner.Changes.{Struck}
 use Rattle.table.proofs.EntryLaws.{withParties}
 use Rattle.table.proofs.ChangeLaws.{strike-is, strike-sound}
 use Rattle.proxy.specs.State.{State, seated, lentSet, machineOf, valueIn, Sounds}

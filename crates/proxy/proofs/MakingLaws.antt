@@ -26,7 +26,7 @@ use Rattle.machine.specs.Machine.{machine, made}
 use Rattle.machine.specs.declared.Answer.{Answer}
 use Rattle.machine.specs.declared.Answer.the-variants.{Refused, Done}
 use Rattle.table.specs.Columns.{Columns, columns, tableOf}
-use Rattle.table.specs.Changes.{blank}
+use Rattle.table.specs.inner.Changes.{blank}
 use Rattle.table.proofs.EntryLaws.{blank-table}
 use Rattle.table.proofs.ChangeLaws.{clear-sound}
 use Rattle.proxy.specs.State.{State, Kept, kept, valueIn, state, machineOf, Settled, Sounds}

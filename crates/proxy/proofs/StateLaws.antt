@@ -4,7 +4,7 @@ use Prim.Native.Nat.{ℕ, _≤_, _<_, _^_}
 use mathlib.Core.Path.{_≡_}
 use native.Mathlib.Nat.{max-eq-right}
 use Rattle.laws.specs.Numbers.{clients}
-use Rattle.rewrite.specs.Lent.{TagWords}
+use Rattle.rewrite.specs.inner.Lent.{TagWords}
 use Rattle.machine.specs.Machine.{clocked}
 use Rattle.table.specs.Columns.{Columns, Sound}
 use Rattle.proxy.specs.State.{Kept, State, seated, machineOf, Settled, Sounds}

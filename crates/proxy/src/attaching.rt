@@ -7,7 +7,7 @@ ghost use Rattle.laws.specs.Numbers.{clients as clientCount, places};
 ghost use Rattle.laws.specs.Bits.{has};
 ghost use Rattle.machine.specs.Calls.Call.{attach as attaches, detach as detaches, linkLost};
 ghost use Rattle.machine.specs.Refusals.{isStrangeTo};
-ghost use Rattle.table.specs.Changes.{Runs};
+ghost use Rattle.table.specs.inner.Changes.{Runs};
 ghost use Rattle.proxy.specs.State.{State, lentSet, lentParties, lentIds, Sounds};
 ghost use Rattle.proxy.specs.Calls.{Does};
 

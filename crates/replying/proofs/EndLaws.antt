@@ -17,8 +17,8 @@ use Rattle.pdu.specs.declared.ProxyId.{ProxyId}
 use Rattle.book.specs.Book.Move.{reply}
 use Rattle.machine.specs.Machine.{machine, moved}
 use Rattle.table.specs.Columns.{Columns, columns, Sound}
-use Rattle.table.specs.Places.{holds, isDue, isSooner}
-use Rattle.table.specs.Changes.{reach}
+use Rattle.table.specs.inner.Places.{holds, isDue, isSooner}
+use Rattle.table.specs.inner.Changes.{reach}
 use Rattle.table.proofs.EntryLaws.{held}
 use Rattle.table.proofs.ChangeLaws.{remove-is-reply, remove-sound}
 use Rattle.proxy.specs.State.{State, seated, valueIn, machineOf, Sounds}

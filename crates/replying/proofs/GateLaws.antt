@@ -12,7 +12,8 @@ use borrow.Author.Tests.{eq-eqb, ne-eqb, eqb-true, eqb-false, ltb-false}
 use Rattle.laws.specs.Numbers.{latestTime, frameBuffer, listBuffer}
 use Rattle.laws.proofs.Choice.{true-or, or-left, or-right, past}
 use Rattle.wire.specs.Frame.{misframed}
-use Rattle.wire.proofs.FrameLaws.{Framed, framed}
+use Rattle.wire.specs.Plain.{Framed}
+use Rattle.wire.proofs.FrameLaws.{framed}
 use Rattle.machine.specs.Machine.{Machine}
 use Rattle.machine.specs.Calls.Call.{reply, tick}
 use Rattle.machine.specs.Refusals.{Row, row, rows, lowest, refusal, isUntimelyAt, isDead, isMismatched, entryFor}

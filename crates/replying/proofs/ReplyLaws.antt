@@ -15,7 +15,7 @@ use Rattle.pdu.specs.Replies.{What, what, answering}
 use Rattle.pdu.specs.declared.ProxyId.{ProxyId}
 use Rattle.rewrite.specs.Rewriting.{Rewritten, outcome as rewritten}
 use Rattle.rewrite.specs.Frames.{returned, under}
-use Rattle.rewrite.specs.Lent.{tagsOf}
+use Rattle.rewrite.specs.inner.Lent.{tagsOf}
 use Rattle.book.specs.Book.{Live, at}
 use Rattle.book.specs.Desk.{idPlace}
 use Rattle.machine.specs.Machine.{Machine, Note, rules}
@@ -26,8 +26,8 @@ use Rattle.machine.specs.Replies.{pairs, answeredTo, answered}
 use Rattle.machine.specs.Outcomes.{granted, outcome}
 use Rattle.machine.specs.declared.Answer.the-variants.{Refused, Answered}
 use Rattle.machine.proofs.OutcomeLaws.{granted-is, refused-is}
-use Rattle.table.specs.Places.{holds}
-use Rattle.table.specs.Changes.{reach}
+use Rattle.table.specs.inner.Places.{holds}
+use Rattle.table.specs.inner.Changes.{reach}
 use Rattle.table.proofs.ViewLaws.{at-beyond}
 use Rattle.table.proofs.EntryLaws.{held, live-at}
 use Rattle.table.proofs.FindLaws.{find-place}

@@ -21,8 +21,8 @@ use Rattle.machine.specs.Replies.{pairs, expiredTo, ticked}
 use Rattle.machine.specs.Outcomes.{granted, outcome}
 use Rattle.machine.specs.declared.Answer.the-variants.{Refused, TimedOut, NothingDue}
 use Rattle.machine.proofs.OutcomeLaws.{granted-is, refused-is}
-use Rattle.table.specs.Places.{isDue, isSooner}
-use Rattle.table.specs.Changes.{reach}
+use Rattle.table.specs.inner.Places.{isDue, isSooner}
+use Rattle.table.specs.inner.Changes.{reach}
 use Rattle.table.proofs.ViewLaws.{at-beyond}
 use Rattle.table.proofs.EntryLaws.{held, live-at}
 use Rattle.table.proofs.FindLaws.{due-place}

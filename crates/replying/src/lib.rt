@@ -7,7 +7,7 @@ ghost use Rattle.pdu.specs.Replies.{answering};
 ghost use Rattle.pdu.specs.Words.{whatOf, Proper};
 ghost use Rattle.rewrite.specs.Rewriting.{outcome as rewritten};
 ghost use Rattle.rewrite.specs.Frames.{returned, under};
-ghost use Rattle.rewrite.specs.Lent.{tagsOf, TagWords, Framed};
+ghost use Rattle.rewrite.specs.inner.Lent.{tagsOf, TagWords, Framed};
 ghost use Rattle.machine.specs.Calls.Call.{reply as replyCall, tick as tickCall};
 ghost use Rattle.table.specs.Columns.{columns, Sound};
 ghost use Rattle.proxy.specs.State.{State, kept, lentTable, lentKept, Settled, Sounds};

@@ -22,7 +22,7 @@ use Rattle.machine.specs.Calls.Call.{request}
 use Rattle.machine.specs.Refusals.{row, rows, lowest, refusal, shortFrame, isStrangeTo, isStranger, isUntimelyAt, isUntimely}
 use Rattle.machine.proofs.LowestLaws.{applies, passes, none-left, none-applies, split-none, split-more}
 use Rattle.proxy.specs.Gates.{requestGate}
-use Rattle.requesting.specs.Parts.{Admitted}
+use Rattle.requesting.specs.inner.Parts.{Admitted}
 
 module _ (out client attached time clock : ℕ) (f : List ℕ) where
   -- The gate's tests in their order, each behind those before it.

@@ -28,7 +28,7 @@ use Rattle.pdu.proofs.RequestLaws.{legal-passed}
 use Rattle.pdu.proofs.WordLaws.{word-back}
 use Rattle.rewrite.specs.Rewriting.{outcome as rewrote}
 use Rattle.rewrite.specs.Frames.{forwarded, under}
-use Rattle.rewrite.specs.Lent.{tagsOf, Sent}
+use Rattle.rewrite.specs.inner.Lent.{tagsOf, Sent}
 use Rattle.rewrite.proofs.RoomLaws.{legal-sent}
 use Rattle.book.specs.Book.{entry, marked}
 use Rattle.book.specs.Desk.{freePlace}
@@ -38,13 +38,13 @@ use Rattle.machine.specs.Requests.{wanted, alike, closing, joiningPlace, except
 use Rattle.machine.specs.declared.Answer.{Answer}
 use Rattle.machine.specs.declared.Answer.the-variants.{Joined, Issued}
 use Rattle.table.specs.Columns.{Columns, party, tableOf, Sound}
-use Rattle.table.specs.Changes.{Joined as OneMore}
-use Rattle.table.specs.Places.{isFree, isOpen, isLower, freeIdFrom}
+use Rattle.table.specs.inner.Changes.{Joined as OneMore}
+use Rattle.table.specs.inner.Places.{isFree, isOpen, isLower, freeIdFrom}
 use Rattle.table.proofs.FindLaws.{join-seat, free-place, free-id}
 use Rattle.table.proofs.EntryLaws.{held, live-at, withParties}
 use Rattle.table.proofs.ChangeLaws.{issue-is, join-is, join-sound}
 use Rattle.proxy.specs.State.{Kept, state, valueIn, machineOf}
-use Rattle.requesting.specs.Parts.{Asks, Came}
+use Rattle.requesting.specs.inner.Parts.{Asks, Came}
 use Rattle.requesting.proofs.StepLaws.{was-joined, was-issued, was-full, issue-made}
 
 -- What a legal request asks may stand in a live entry, and comes back from its word,

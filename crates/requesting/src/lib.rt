@@ -14,18 +14,18 @@ ghost use Rattle.wire.specs.Frame.{idOf};
 ghost use Rattle.settings.specs.Grammar.{Value};
 ghost use Rattle.pdu.specs.Requests.{checkedOf};
 ghost use Rattle.pdu.specs.Replies.{What};
-ghost use Rattle.rewrite.specs.Lent.{TagWords};
+ghost use Rattle.rewrite.specs.inner.Lent.{TagWords};
 ghost use Rattle.machine.specs.Machine.{Machine};
 ghost use Rattle.machine.specs.Calls.{done};
 ghost use Rattle.machine.specs.Calls.Call.{request as asks};
 ghost use Rattle.machine.specs.Requests.{alike, excepted, issuedTo, served};
 ghost use Rattle.table.specs.Columns.{columns, party, Sound};
-ghost use Rattle.table.specs.Changes.{Runs, Joined};
-ghost use Rattle.table.specs.Places.{isFree};
+ghost use Rattle.table.specs.inner.Changes.{Runs, Joined};
+ghost use Rattle.table.specs.inner.Places.{isFree};
 ghost use Rattle.proxy.specs.State.{kept, lent, Settled, Sounds};
 ghost use Rattle.proxy.specs.Calls.{Does};
 ghost use Rattle.proxy.specs.Gates.{requestGate};
-ghost use Rattle.requesting.specs.Parts.{Admitted, Asks, Came};
+ghost use Rattle.requesting.specs.inner.Parts.{Admitted, Asks, Came};
 
 // The refusals 1 to 4, the lowest that applies; 0 where none does.
 fn gate(out: usize, client: u32, attached: u32, time: u64, clock: u64, frame: &[u8]) -> u32

@@ -16,9 +16,10 @@ use Rattle.bcd.specs.declared.Kind.the-variants.{Width16, Signed16}
 use Rattle.bcd.specs.declared.Decoded.the-variants.{Binary}
 use Rattle.bcd.specs.Bcd.{packed, unpacked, decimal, registers, inRange, decoded}
 use Rattle.bcd.specs.Words.{wordsOf, numberOf}
+use Rattle.bcd.specs.Plain.{NoNumberOf}
 use Rattle.bcd.proofs.OutcomeLaws.{decoded-decimal}
 use Rattle.bcd.proofs.SignedLaws.{plus-sent, minus-sent, signed-encode-decode}
-use Rattle.bcd.proofs.RoundTrip.{NoNumberOf, decoded-in-range}
+use Rattle.bcd.proofs.RoundTrip.{decoded-in-range}
 use Rattle.settings.specs.Grammar.{Tag}
 use Rattle.settings.specs.TagWords.{kindOf, lastOf, Ascending}
 use Rattle.pdu.specs.Replies.{What, excepts}

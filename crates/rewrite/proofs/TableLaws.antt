@@ -23,7 +23,7 @@ use Rattle.rewrite.specs.declared.Way.{Way}
 use Rattle.rewrite.specs.Registers.{registersAt}
 use Rattle.rewrite.specs.Rewriting.{Verdict, isRawPartial, isRawValue, verdict, laidBy, rewrittenFrom, rewritten, partials, values, Rewritten, outcome, rewriting}
 use Rattle.rewrite.specs.Rewriting.Verdict.{outside}
-use Rattle.rewrite.specs.Lent.{tagsOf, TagWords, reaches}
+use Rattle.rewrite.specs.inner.Lent.{tagsOf, TagWords, reaches}
 use Rattle.laws.proofs.MemberLaws.{mem-place, place-mem}
 use Rattle.rewrite.proofs.RegisterLaws.{length-registers, registers-below, registers-laid, laid-registers, laid-laid}
 use Rattle.rewrite.proofs.OrderLaws.{first-last, ascending-front, ascending-across, ascending-at}

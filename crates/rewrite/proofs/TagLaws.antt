@@ -23,7 +23,7 @@ use Rattle.rewrite.specs.Registers.{registersAt, laidAt}
 use Rattle.rewrite.specs.Rewriting.{turned, Verdict, isOutside, isPartial, ownIn, verdict, laidBy, rewrittenFrom, isRawPartial, isRawValue, partials, values, Rewritten, outcome, rewriting}
 use Rattle.rewrite.specs.Rewriting.Verdict.{outside, partial, value, done}
 use Rattle.rewrite.specs.Plain.{Whole}
-use Rattle.rewrite.specs.Lent.{wholeLaid}
+use Rattle.rewrite.specs.inner.Lent.{wholeLaid}
 use Rattle.rewrite.proofs.RegisterLaws.{length-registers, registers-part, laid-registers, laid-part}
 use Rattle.rewrite.proofs.OrderLaws.{behind-last}
 use Rattle.rewrite.proofs.VerdictLaws.{not-partial, verdict-outside, verdict-partial, value-exactly, done-exactly}

@@ -12,10 +12,9 @@ use lib.Seq.{length-take-le}
 use Rattle.settings.specs.Lines.{Numbered, lineIn}
 use Rattle.settings.specs.Grammar.{Tag, Value, Line, Version, Read, tagFrom, valueFrom, versionKey, headLines, tagLines, versionOf, versions, versionIn, kept, readLines, readTags, readText}
 use Rattle.settings.specs.Grammar.Read.{got, wrong}
-use Rattle.settings.specs.Plain.{Right, Next, Lines, AllLines, Reads, FirstWrong}
-use Rattle.settings.proofs.LineLaws.{numbered}
+use Rattle.settings.specs.Plain.{Right, Next, Lines, AllLines, Reads, FirstWrong, numbered, Versioned}
 use Rattle.settings.proofs.RowLaws.{kept-rule, kept-some, line-wrong, line-right, onto, tag-wrong, tag-right}
-use Rattle.settings.proofs.VersionLaws.{one-of, tagsIn, Versioned, Went, went}
+use Rattle.settings.proofs.VersionLaws.{one-of, tagsIn, Went, went}
 use Rattle.settings.proofs.VersionLaws.Went.{unversioned, inHead, inTags, extra, whole}
 use Rattle.settings.proofs.PlainLines.{line-exactly, keyAt, follows, Listed, listed-bounds, first-line, none-known, all-known, one-more, next-read, one-end, nothing-follows}
 use Rattle.settings.proofs.ReadsLaws.{Tagged, tagged-long, reads, reads-one}

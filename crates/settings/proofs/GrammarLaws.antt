@@ -15,9 +15,10 @@ use Rattle.settings.specs.Lines.{Numbered, lineOf, decimalOf}
 use Rattle.settings.specs.Grammar.{Tag, Value, Version, Read, headNumbers, valueFrom, ascends, rightAddr, rightWidth, headLines, tagLines, versionOf, versions, newest, versionKey, versionIn, textOfLines, textIn, allRight, tagsRight, validIn, valid, toldIn, readLines, readText}
 use Rattle.settings.specs.Grammar.Read.{got, wrong}
 use Rattle.laws.proofs.ListLaws.{tab-getD}
+use Rattle.settings.specs.Plain.{Versioned, unsigned, full}
 use Rattle.settings.proofs.LineLaws.{line-length}
 use Rattle.settings.proofs.RowLaws.{told, lines-only, lines-wrong, tagsText, tags-only, tags-wrong}
-use Rattle.settings.proofs.VersionLaws.{Fit, fit, one-of, fits, found, few-tags, Long, total, lines-length, tags-length, head-long, tag-long, Versioned, Went, went, back}
+use Rattle.settings.proofs.VersionLaws.{Fit, fit, one-of, fits, found, few-tags, Long, total, lines-length, tags-length, head-long, tag-long, Went, went, back}
 use Rattle.settings.proofs.VersionLaws.Went.{unversioned, inHead, inTags, extra, whole}
 -- A line is read back from its text, and no other text is read as that line.
 pub use Rattle.settings.proofs.LineLaws.{line-back, line-only}
@@ -34,9 +35,6 @@ newest-tells v = ap (λ (ts : List Tag). record { timeout = v .timeout; join = v
     all : (ts : List Tag) → map (told (newest .tag)) ts ≡ ts
     all [] = refl
     all (t ∷ ts) = ap (t ∷_) (all ts)
-
-abbrev pub unsigned : Tag → Tag
-unsigned t = record { address = t .address; width = t .width; sign = 0 }
 
 pub version-1-tells : (v : Value) → toldIn (versionOf 1) v ≡ record { timeout = v .timeout; join = v .join; tags = map unsigned (v .tags) }
 unfolding toldIn
@@ -191,10 +189,6 @@ longest-2 v r = let l = text-length 2 (11 ∷ 9 ∷ 7 ∷ []) v (omega arith) ta
 -- No right text is longer.
 pub longest : (x : Version) → List·Memᴰ x versions → (v : Value) → validIn x v ≡ true → length (textIn x v) ≤ mostText
 longest = one-of (λ x. (v : Value) → validIn x v ≡ true → length (textIn x v) ≤ mostText) (λ v r. omega (arith, longest-1 v r)) longest-2
-
--- And some valid value's text has as many, in either version.
-unfoldable pub full : Value
-full = record { timeout = 60000; join = 1; tags = tab 256 (λ k. record { address = 10000 + k; width = 16; sign = 1 }) }
 
 pub full-valid : valid full ≡ true
 unfolding full validIn allRight tagsRight ascends tab

@@ -14,7 +14,8 @@ use Rattle.laws.proofs.Choice.{true-or, and-left, and-right, never}
 use Rattle.settings.specs.Lines.{Numbered, lineOf, lineIn}
 use Rattle.settings.specs.Grammar.{Tag, Line, Read, tagNumbers, tagFrom, numbersIn, textOfLines, allRight, tagsRight, readLines, readTags, kept}
 use Rattle.settings.specs.Grammar.Read.{got, wrong}
-use Rattle.settings.proofs.LineLaws.{numbered, line-back, line-only}
+use Rattle.settings.specs.Plain.{numbered}
+use Rattle.settings.proofs.LineLaws.{line-back, line-only}
 
 -- one line of several
 

@@ -2,7 +2,7 @@
 -- Assumes nothing.
 use Prim.Native.Nat.{ℕ, zero, suc, _+_, _*_, _/_, _%_, _≤_, _<_}
 use mathlib.Core.Path.{_≡_, refl, ap, sym, _∙_}
-use mathlib.Core.Logic.{⊎-elim, _⊎_, inl, inr}
+use mathlib.Core.Logic.{⊎-elim, inl, inr}
 use mathlib.Core.Bool.{true, cond, _&&_}
 use mathlib.Core.List.{List, [], _∷_, _++_, map, map-append}
 use native.Mathlib.Nat.{mod-eq-of-lt}
@@ -11,7 +11,7 @@ use lib.ListN.{length, getD, set, take, replicate, length-map}
 use lib.Seq.{take-at, take-suc, length-take-le}
 use lib.Dec.{eqb}
 use native.Mathlib.Numerals.{add-one}
-use Rattle.laws.specs.Numbers.{mostTags, addresses, leastTimeout, mostTimeout}
+use Rattle.laws.specs.Numbers.{mostTags, addresses}
 use Rattle.laws.specs.Lists.{tab}
 use Rattle.laws.proofs.Choice.{true-or, eq-or, and-right}
 use Rattle.laws.proofs.ListLaws.{tab-more, length-tab, set-padded}
@@ -21,15 +21,11 @@ use Rattle.bcd.specs.Bcd.{registers}
 use Rattle.bcd.proofs.Words.{registers-least}
 use Rattle.settings.specs.declared.Settings.{Settings}
 use Rattle.settings.specs.Grammar.{Tag, Value, newest, tagNumbers, lastRegister, rightTimeout, rightJoin, rightTags, tagsRight, valid}
-use Rattle.settings.specs.Plain.{RightTag}
+use Rattle.settings.specs.Plain.{RightTag, Wide, Bounds}
 use Rattle.settings.specs.Values.{settings, padded, settingsOf}
 use Rattle.settings.specs.TagWords.{kindOf, widthOf, signOf, kindNumber, kindFrom, wordOf, tagOfKind, tagOf, lastOf, Ascending}
 use Rattle.settings.proofs.ValueLaws.{tagAt, tag-ext, fromOf, valid-parts}
 use Rattle.settings.proofs.ValidLaws.{first-exactly, valid-exactly}
-
--- a tag has one of the two widths, and a sign only with the first
-abbrev pub Wide : Tag → Type 0
-Wide t = ((t .width ≡ 16) × (t .sign ≡ 0)) ⊎ ((t .width ≡ 32) × (t .sign ≡ 0)) ⊎ ((t .width ≡ 16) × (t .sign ≡ 1))
 
 -- a kind's number gives the kind back
 kind-back : (kind : Kind) → kindFrom (kindNumber kind) ≡ kind
@@ -154,14 +150,6 @@ words-back v h = right-back [] (v .tags) (right-tags v h)
 -- the words that the state keeps, padded, give the tags of a valid value back
 pub words-kept : (v : Value) → valid v ≡ true → map tagOf (take (length (v .tags)) (padded (map wordOf (v .tags)))) ≡ v .tags
 words-kept v h = rw (take-at (map wordOf (v .tags)) _ (length (v .tags)) (length-map (v .tags) wordOf)) (words-back v h)
-
--- document 01's bounds on a value's numbers
-pub record Bounds (v : Value) : Type 0 where
-  pub least : leastTimeout ≤ v .timeout
-  pub most : v .timeout ≤ mostTimeout
-  pub joins : v .join ≤ 1
-  pub few : length (v .tags) ≤ mostTags
-  pub wide : (i : ℕ) (d : Tag) → i < length (v .tags) → Wide (getD (v .tags) i d)
 
 -- a valid value is within the bounds
 pub valid-bounds : (v : Value) → valid v ≡ true → Bounds v

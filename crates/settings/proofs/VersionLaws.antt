@@ -16,7 +16,8 @@ use Rattle.laws.proofs.Choice.{true-or, and-left, and-right, or-second}
 use Rattle.settings.specs.Lines.{Numbered, lineOf, lineIn}
 use Rattle.settings.specs.Grammar.{Tag, Value, Line, Version, Read, headNumbers, valueFrom, numbersIn, addrKey, widthKey, signKey, rightSign, rightWidth, headLines, tagLines, versionOf, versions, timeoutKey, joinKey, tagsKey, versionKey, versionIn, textOfLines, textIn, allRight, tagsRight, validIn, toldIn, readLines, readTags, readIn, readText, readBehind}
 use Rattle.settings.specs.Grammar.Read.{got, wrong}
-use Rattle.settings.proofs.LineLaws.{numbered, line-length, line-back}
+use Rattle.settings.specs.Plain.{numbered, Versioned}
+use Rattle.settings.proofs.LineLaws.{line-length, line-back}
 use Rattle.settings.proofs.RowLaws.{Bounded, Few, told, lines-back, tagsText, tags-back}
 
 -- what is asked of a version: a line for each number of a value, none that a tag has no number for, and rules that bound the numbers
@@ -120,12 +121,6 @@ tagsIn x ns t = readTags (getD ns 2 0) (2 + length (x .head)) (x .tag) [] t
 pub text-tags : (x : Version) (ns t : List ℕ) (ts : List Tag) → tagsIn x ns t ≡ got ts [] → readBehind x ns t ≡ got (valueFrom ns ts) []
 unfolding readBehind
 text-tags x ns t ts e = rw (e, readBehind)
-
--- the version line of a text, and the version
-pub record Versioned (t : List ℕ) (y : Numbered) (x : Version) : Type 0 where
-  pub line : lineIn versionKey t ≡ some y
-  pub listed : List·Memᴰ x versions
-  pub number : x .number ≡ y .number
 
 -- how reading a text goes: no listed version, a wrong line before the tags, a wrong line of a tag, an extra byte, or all of it
 pub data Went (t : List ℕ) : Read Value → Type 0 where

@@ -21,7 +21,7 @@ use Rattle.settingstext.specs.declared.reading.LineRead.{LineRead}
 use Rattle.settingstext.specs.declared.reading.LineRead.the-variants.{Numbered as numberedAt, Wrong}
 use Rattle.settingstext.specs.declared.reading.TagRead.{TagRead}
 use Rattle.settingstext.specs.declared.reading.TagRead.the-variants.{Tagged, WrongAt}
-use Rattle.settingstext.specs.Reading.{ceiling, capped, found, lineBehind, within, lowest, placed, placedTag, signRead}
+use Rattle.settingstext.specs.inner.Reading.{ceiling, capped, found, lineBehind, within, lowest, placed, placedTag, signRead}
 use Rattle.settings.proofs.LineLaws.{behind-only, number-read, line-read}
 use Rattle.settings.proofs.RowLaws.{Bounded, kept-rule, line-wrong, line-right, lines-only}
 use Rattle.settings.proofs.VersionLaws.{widths, Fit, fit}

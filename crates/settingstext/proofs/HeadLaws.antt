@@ -18,7 +18,7 @@ use Rattle.settings.specs.Grammar.Read.{wrong}
 use Rattle.settingstext.specs.declared.reading.LineRead.{LineRead}
 use Rattle.settingstext.specs.declared.reading.LineRead.the-variants.{Numbered as numberedAt, Wrong}
 use Rattle.settingstext.specs.declared.reading.Head.{Head}
-use Rattle.settingstext.specs.Reading.{lineBehind, within, placed, stoppedAt, Headed}
+use Rattle.settingstext.specs.inner.Reading.{lineBehind, within, placed, stoppedAt, Headed}
 use Rattle.settings.proofs.RowLaws.{kept-rule}
 use Rattle.settings.proofs.VersionLaws.{text-version, text-head}
 use Rattle.settingstext.proofs.AnswerLaws.{unplaced, replaced, placed-inside, placed-least, placed-most, key-line, line-placed, read-stop, read-step}

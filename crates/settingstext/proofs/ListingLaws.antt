@@ -16,7 +16,7 @@ use Rattle.settings.specs.Grammar.{Tag, Value, Read, versionOf, tagFrom, readLi
 use Rattle.settings.specs.Grammar.Read.{got, wrong}
 use Rattle.settings.specs.Values.{settings, padded, settingsOf}
 use Rattle.settingstext.specs.TextRead.{reported, answered}
-use Rattle.settingstext.specs.Reading.{lowest, placedTag, Headed, wrongLine}
+use Rattle.settingstext.specs.inner.Reading.{lowest, placedTag, Headed, wrongLine}
 use Rattle.settingstext.specs.declared.reading.Head.{Head}
 use Rattle.settings.specs.declared.Settings.{Settings}
 use Rattle.settingstext.specs.declared.reading.ReadText.{ReadText}

@@ -11,7 +11,7 @@ ghost use Rattle.settings.specs.Grammar.{versionOf, readLines, readIn, readText
 ghost use Rattle.settings.specs.Values.{settings};
 ghost use Rattle.settingstext.specs.TextRead.{reported, answered};
 ghost use Rattle.settings.specs.Grammar.{kept};
-ghost use Rattle.settingstext.specs.Reading.{ceiling, found, capped, placed, within, lineBehind, lowest, placedTag, signRead, stoppedAt, Headed, wrongLine};
+ghost use Rattle.settingstext.specs.inner.Reading.{ceiling, found, capped, placed, within, lineBehind, lowest, placedTag, signRead, stoppedAt, Headed, wrongLine};
 use settings::Settings;
 
 // What reading a text comes to: line 0 and the value, or the first wrong line and the usual value.

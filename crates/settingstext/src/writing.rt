@@ -8,7 +8,7 @@ ghost use Rattle.settings.specs.Lines.{digitZero, decimal, lineOf};
 ghost use Rattle.settings.specs.Grammar.{newest, textIn};
 ghost use Rattle.settings.specs.Values.{settings, listed, valueOf};
 ghost use Rattle.settingstext.specs.TextWritten.{writing, writtenTo};
-ghost use Rattle.settingstext.specs.Parts.{Laid, headText, tagText, tagsText};
+ghost use Rattle.settingstext.specs.inner.Parts.{Laid, headText, tagText, tagsText};
 use values::is_valid;
 
 // What writing comes to: the text's length, or a refusal: the buffer is too short, the value is invalid.

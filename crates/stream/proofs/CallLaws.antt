@@ -1,17 +1,17 @@
 -- A call on a stream in plain words: what is kept, what is taken, which refusal is said, and the one refusal that does not leave the stream as it was.
 -- Assumes nothing.
 use prog.Memory.{size}
-use Prim.Native.Nat.{ℕ, _-_, _≤_, _<_}
+use Prim.Native.Nat.{ℕ, _≤_, _<_}
 use mathlib.Core.Path.{_≡_, refl, ap, sym, _∙_}
 use mathlib.Core.Logic.{⊎-elim, _⊎_, inl, inr}
 use mathlib.Core.Bool.{Bool, true, false, cond, _||_}
 use mathlib.Core.List.{List, [], _∷_, _++_, append-nil}
 use native.Mathlib.Omega.{arith}
-use lib.ListN.{length, take, length-append}
+use lib.ListN.{length, length-append}
 use lib.Dec.{ltb}
 use Rattle.laws.specs.Numbers.{frameBuffer}
 use Rattle.laws.proofs.Choice.{true-or, lt-or}
-use Rattle.wire.specs.Splitting.{badHeader, standingOf}
+use Rattle.wire.specs.Splitting.{standingOf}
 use Rattle.wire.specs.declared.splitting.Split.{Split}
 use Rattle.wire.specs.declared.splitting.Split.the-variants.{Frame, MoreNeeded, Refused}
 use Rattle.wire.proofs.SplittingLaws.{starts, first-size, refused as is-refused}
@@ -22,20 +22,11 @@ use Rattle.stream.specs.Lives.{Line, came, offersOf, Lived, heard}
 use Rattle.stream.specs.Lives.Lived.{none, then}
 use Rattle.stream.specs.declared.Taken.{Taken}
 use Rattle.stream.specs.declared.Inlet.{Inlet}
+use Rattle.stream.specs.Plain.{Reads, SetsTheMark}
 use Rattle.stream.proofs.Inlet.Laws as inlet
 use Rattle.stream.proofs.Taken.Laws as taken
-use Rattle.stream.proofs.StreamLaws.{Reads, unmarked, frame-ends-behind, refusal-is-new, six-are-taken, six-are-bad, waits-short, short-refused, marked-refused, waiting-finds}
+use Rattle.stream.proofs.StreamLaws.{unmarked, frame-ends-behind, refusal-is-new, six-are-taken, six-are-bad, waits-short, short-refused, marked-refused, waiting-finds}
 use Rattle.stream.proofs.CuttingLaws.{any-calls-read}
-
--- the refusal that changes a stream: 4, in the call that brings the sixth byte of a bad header; the bytes up to that one are taken and kept, and the mark is set
-pub record SetsTheMark (s : Stream) (p : List ℕ) (d : Outcome) : Type 0 where
-  pub four : d .says ≡ refused 4 (6 - length (s .kept))
-  pub brought : 0 < d .says .taken
-  pub unmarked : s .marked ≡ false
-  pub marked : d .after .marked ≡ true
-  pub kept : d .after .kept ≡ s .kept ++ take (d .says .taken) p
-  pub six : length (d .after .kept) ≡ 6
-  pub bad : badHeader (d .after .kept) ≡ true
 
 -- which refusal a call says: 1 for a buffer of fewer than 260 bytes, before all else; 4 where the mark is set, or a bad header has come
 pub refusal-exactly : (s : Stream) (p o : List ℕ) → took s p o .says .refusal ≡ cond (ltb (length o) 260) 1 (cond (s .marked || isBad (standingOf (s .kept ++ p))) 4 0)

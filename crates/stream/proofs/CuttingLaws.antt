@@ -14,11 +14,13 @@ use Rattle.wire.proofs.FrameLaws.{framed as is-framed}
 use Rattle.wire.specs.Splitting.{standingOf, frames}
 use Rattle.wire.specs.declared.splitting.Split.{Split}
 use Rattle.wire.specs.declared.splitting.Split.the-variants.{Frame, MoreNeeded, Refused}
-use Rattle.wire.proofs.SplittingLaws.{starts, first-size, first-none, refusal-stays, Whole, frames-back-rest}
+use Rattle.wire.specs.Plain.{Whole}
+use Rattle.wire.proofs.SplittingLaws.{starts, first-size, first-none, refusal-stays, frames-back-rest}
 use Rattle.stream.specs.Stream.{stream, Outcome, found, took}
 use Rattle.stream.specs.Hosts.{Fed, start, again, with, Offer, calls, Lends, drained, pieces, isBad, remains, isRefused, keptOf, uncut}
 use Rattle.stream.specs.Lent.{stood}
-use Rattle.stream.proofs.StreamLaws.{Reads, more-frame, unmarked, frame-ends-behind, marked-refused, waiting-finds, flatten-more, reads-nothing, reads-on, found-reads, took-reads}
+use Rattle.stream.specs.Plain.{Reads}
+use Rattle.stream.proofs.StreamLaws.{more-frame, unmarked, frame-ends-behind, marked-refused, waiting-finds, flatten-more, reads-nothing, reads-on, found-reads, took-reads}
 
 -- there are no more frames than bytes
 few : (fs : List (List ℕ)) → Whole fs → length fs ≤ length (flatten fs)

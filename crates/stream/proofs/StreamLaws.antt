@@ -17,17 +17,11 @@ use Rattle.wire.specs.Frame.{protocolOf, lengthOf, misframed}
 use Rattle.wire.specs.Splitting.{badHeader, standingOf, firstFrame}
 use Rattle.wire.specs.declared.splitting.Split.{Split}
 use Rattle.wire.specs.declared.splitting.Split.the-variants.{Frame, MoreNeeded, Refused}
-use Rattle.wire.proofs.SplittingLaws.{starts, stands, refused as is-refused, six-decide, short-waits, whole-stands, first-taken, first-size, first-is-whole, Whole}
+use Rattle.wire.specs.Plain.{Whole}
+use Rattle.wire.proofs.SplittingLaws.{starts, stands, refused as is-refused, six-decide, short-waits, whole-stands, first-taken, first-size, first-is-whole}
 use Rattle.stream.specs.Stream.{Stream, stream, fresh, refused, Outcome, outcome, found, took}
 use Rattle.stream.specs.Hosts.{Fed, start, with}
-use Rattle.stream.specs.Lent.{stood}
-
--- the bytes taken are whole frames with what is kept behind them: the start of a frame that needs more, or, where the mark is set, a bad header up to its sixth byte
-pub record Reads (f : Fed) : Type 0 where
-  pub whole : Whole (f .frames)
-  pub parts : flatten (f .frames) ++ f .after .kept ≡ f .bytes
-  pub stands : standingOf (f .after .kept) ≡ stood (f .after .marked)
-  pub six : f .after .marked ≡ true → length (f .after .kept) ≡ uncounted
+use Rattle.stream.specs.Plain.{Reads}
 
 pub more-frame : MoreNeeded ≡ Frame → ⊥
 more-frame e = let z : _≡_ {A = ℕ} 0 1 = cc in omega arith

@@ -19,7 +19,7 @@ use Rattle.book.specs.Book.Move.{join, issue, reply, strike, mark}
 use Rattle.machine.specs.Machine.{Note, opened, rules}
 use Rattle.machine.specs.Requests.{closing}
 use Rattle.table.specs.Columns.{Columns, columns, party, partiesAt, entryAt, tableOf, bookOf, Sound}
-use Rattle.table.specs.Changes.{Joined, Struck, reach, blank}
+use Rattle.table.specs.inner.Changes.{Joined, Struck, reach, blank}
 use Rattle.table.proofs.EntryLaws.{table-at, table-set, withParties, parties-sound, freedAt, freed-table, freed-sound, blank-sound}
 
 -- other parties of one place: its entry has them, and is otherwise as it was

@@ -25,7 +25,7 @@ use Rattle.pdu.proofs.SpoilingLaws.{read-spoils-none}
 use Rattle.book.specs.Book.{marked}
 use Rattle.machine.specs.Requests.{closing}
 use Rattle.table.specs.Columns.{columns, noteOf, placeWord, entryAt, tableOf, Sound}
-use Rattle.table.specs.Changes.{wordAfter, Closes}
+use Rattle.table.specs.inner.Changes.{wordAfter, Closes}
 
 -- a word that a live place may have
 abbrev pub Fit : ℕ → Type 0

@@ -24,7 +24,7 @@ use Rattle.book.specs.Book.{Live, entry}
 use Rattle.pdu.proofs.WordLaws.{word-unmarked}
 use Rattle.machine.specs.Machine.{Note, opened}
 use Rattle.table.specs.Columns.{Columns, columns, party, partiesAt, noteOf, placeWord, entryAt, tableOf, Sound}
-use Rattle.table.specs.Changes.{Runs, reach, blank}
+use Rattle.table.specs.inner.Changes.{Runs, reach, blank}
 use Rattle.laws.proofs.StoreLaws.{set-each}
 use Rattle.table.proofs.PartyLaws.{put-here, put-elsewhere, put-runs}
 

@@ -25,7 +25,7 @@ use Rattle.machine.specs.Machine.{Note, machine, rules}
 use Rattle.machine.specs.Waiting.{noDeadline, deadlineOf, nextDeadline}
 use Rattle.machine.specs.Requests.{alike, joins}
 use Rattle.table.specs.Columns.{Columns, noteOf, placeWord, entryAt, bookOf, Sound}
-use Rattle.table.specs.Places.{isFree, isTaken, holds, isOpen, isDue, isLower, isSooner, freeIdFrom}
+use Rattle.table.specs.inner.Places.{isFree, isTaken, holds, isOpen, isDue, isLower, isSooner, freeIdFrom}
 use Rattle.pdu.proofs.WordLaws.{word-back, word-unmarked}
 use Rattle.machine.proofs.JoinLaws.{joins-exact, joins-like, joins-none}
 use Rattle.table.proofs.ViewLaws.{at-place, entry-free, free-same, holds-same, due-same, lower-same, sooner-same, live-same}

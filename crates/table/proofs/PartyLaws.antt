@@ -13,7 +13,7 @@ use Rattle.laws.proofs.ListLaws.{tab-ext, tab-more, length-tab, flatMap-append}
 use Rattle.book.specs.Book.{Party}
 use Rattle.machine.specs.Replies.{pairs}
 use Rattle.table.specs.Columns.{party, run, partiesAt}
-use Rattle.table.specs.Changes.{Runs, Joined, Alike}
+use Rattle.table.specs.inner.Changes.{Runs, Joined, Alike}
 use Rattle.laws.proofs.StoreLaws.{set-each}
 use Rattle.laws.proofs.ByteLaws.{over-more}
 

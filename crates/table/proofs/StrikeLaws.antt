@@ -16,7 +16,7 @@ use Rattle.laws.proofs.ListLaws.{tab-more}
 use Rattle.laws.proofs.FilterLaws.{filter-append, filter-yes, filter-no}
 use Rattle.book.specs.Book.{Party, isOf, without}
 use Rattle.table.specs.Columns.{party, run, partiesAt}
-use Rattle.table.specs.Changes.{Runs, Alike, Closed, Struck}
+use Rattle.table.specs.inner.Changes.{Runs, Alike, Closed, Struck}
 use Rattle.laws.proofs.StoreLaws.{set-each}
 use Rattle.table.proofs.PartyLaws.{alike-put, run-same, run-put}
 

@@ -20,7 +20,7 @@ use Rattle.book.specs.Book.{Live, at, hasId, liveIn}
 use Rattle.book.specs.Desk.{isLive, lowerId, sooner, isDue as isDueIn}
 use Rattle.machine.specs.Machine.{Note}
 use Rattle.table.specs.Columns.{Columns, entryAt, tableOf, bookOf, Sound}
-use Rattle.table.specs.Places.{isFree, holds, isDue, isLower, isSooner, liveId}
+use Rattle.table.specs.inner.Places.{isFree, holds, isDue, isLower, isSooner, liveId}
 use Rattle.laws.proofs.TestLaws.{eqb-less, ltb-less}
 
 module _ (v : Value) (c : Columns) (x t : ℕ) where

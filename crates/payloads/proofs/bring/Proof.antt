@@ -6,7 +6,7 @@ use mathlib.Core.Bool.{false}
 use denote.Ref.{now}
 use borrow.Author.Needs.{needs}
 use Rattle.pdu.specs.Replies.{what, excepts}
-use Rattle.rewrite.specs.Lent.{tagsOf}
+use Rattle.rewrite.specs.inner.Lent.{tagsOf}
 use Rattle.rewrite.specs.Frames.{returnedBy, returned}
 use Rattle.rewrite.proofs.FrameLaws.{returned-exception, returned-other}
 use Rattle.payloads.proofs.bring.Statement.{statement}

@@ -6,7 +6,7 @@ use lib.Seq.{length-take-le}
 use denote.Ref.{now}
 use borrow.Author.Needs.{needs}
 use Rattle.rewrite.specs.Frames.{forwarded}
-use Rattle.rewrite.specs.Lent.{tagsOf}
+use Rattle.rewrite.specs.inner.Lent.{tagsOf}
 use Rattle.rewrite.proofs.FrameLaws.{front, laid-under}
 use Rattle.payloads.proofs.forward.Statement.{statement}
 use Rattle.payloads.proofs.forward.Tie as tie

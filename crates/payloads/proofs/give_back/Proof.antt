@@ -7,7 +7,7 @@ use denote.Ref.{now}
 use borrow.Author.Needs.{needs}
 use Rattle.pdu.specs.Replies.{what}
 use Rattle.rewrite.specs.Frames.{returned}
-use Rattle.rewrite.specs.Lent.{tagsOf}
+use Rattle.rewrite.specs.inner.Lent.{tagsOf}
 use Rattle.rewrite.proofs.FrameLaws.{front, laid-under}
 use Rattle.payloads.proofs.give_back.Statement.{statement}
 use Rattle.payloads.proofs.give_back.Tie as tie

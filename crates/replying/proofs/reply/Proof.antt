@@ -9,11 +9,10 @@ use denote.Ref.{now}
 use Rattle.laws.specs.Numbers.{places}
 use Rattle.laws.specs.Search.{best}
 use Rattle.wire.specs.Frame.{idOf}
-use Rattle.wire.proofs.FrameLaws.{Framed}
 use Rattle.pdu.specs.Replies.{answering}
 use Rattle.machine.specs.Numbers.{numbers}
 use Rattle.table.specs.Columns.{Columns, columns}
-use Rattle.table.specs.Places.{holds}
+use Rattle.table.specs.inner.Places.{holds}
 use Rattle.table.proofs.EntryLaws.{held}
 use Rattle.proxy.specs.State.{State, Kept, kept, state, machineOf}
 use Rattle.proxy.specs.Gates.{replyGate}
@@ -22,6 +21,7 @@ use Rattle.proxy.proofs.StateLaws.{tag-words}
 use Rattle.replying.proofs.EndLaws.{Living, holder-lives, has-id, may-end, asks-proper, ended-sound}
 use Rattle.replying.proofs.ReplyLaws.{was-refused, was-unknown, was-mismatched, was-answered}
 use borrow.Author.Needs.{needs}
+use Rattle.wire.specs.Plain.{Framed}
 use Rattle.replying.proofs.reply.Statement.{statement}
 use Rattle.replying.proofs.reply.Tie as tie
 

@@ -1,7 +1,7 @@
 -- `replying::write_reply` meets its contract: a reply that answers carries what the rewriter asks for.
 -- Assumes nothing.
 use denote.Ref.{now}
-use Rattle.rewrite.specs.Lent.{tagsOf}
+use Rattle.rewrite.specs.inner.Lent.{tagsOf}
 use Rattle.pdu.specs.Words.{whatOf}
 use Rattle.rewrite.proofs.RoomLaws.{answer-brought}
 use Rattle.replying.proofs.FrameLaws.{by-word}

@@ -8,7 +8,7 @@ use Rattle.machine.specs.Calls.Call.{detach as detaches}
 use Rattle.device.specs.Device.{Made, Served}
 use Prim.Native.Nat.{_≤_}
 use Rattle.laws.specs.Numbers.{places}
-use Rattle.table.specs.Changes.{Runs}
+use Rattle.table.specs.inner.Changes.{Runs}
 use Rattle.proxy.specs.State.{State, lentParties, Sounds}
 use Rattle.proxy.specs.Calls.{Does}
 use mathlib.Core.Path.{_≡_}

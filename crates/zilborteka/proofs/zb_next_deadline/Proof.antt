@@ -10,7 +10,7 @@ use lib.ListN.{getD}
 use Rattle.laws.specs.Numbers.{places}
 use Rattle.laws.specs.Search.{least, count}
 use Rattle.machine.specs.Waiting.{noDeadline}
-use Rattle.table.specs.Places.{isTaken}
+use Rattle.table.specs.inner.Places.{isTaken}
 use Rattle.device.proofs.DeviceLaws.{may-await, awaited}
 use Rattle.device.proofs.written.EntryNextDeadline.{Core, entry-meets, Rel, CoreRel, Pre, CorePre}
 use Rattle.finding.proofs.next_deadline.Symbol as g

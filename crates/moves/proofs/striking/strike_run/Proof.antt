@@ -5,7 +5,7 @@ use mathlib.Core.Path.{_≡_}
 use mathlib.Core.Logic.{⊎-elim}
 use native.Mathlib.Omega.{arith}
 use denote.Ref.{now}
-use Rattle.table.specs.Changes.{Closed}
+use Rattle.table.specs.inner.Changes.{Closed}
 use Rattle.table.proofs.StrikeLaws.{closed-none, closed-keep, closed-drop}
 use borrow.Author.Needs.{needs}
 use Rattle.moves.proofs.striking.strike_run.Statement.{statement}

@@ -9,7 +9,7 @@ use denote.Ref.{now}
 use borrow.Author.Tests.{le-leb}
 use borrow.Author.Needs.{needs}
 use Rattle.settings.specs.TagWords.{tagOf, lastOf}
-use Rattle.rewrite.specs.Lent.{reaches}
+use Rattle.rewrite.specs.inner.Lent.{reaches}
 use Rattle.laws.proofs.SearchLaws.{first-is}
 use Rattle.rewrite.proofs.OrderLaws.{first-last}
 use Rattle.rewrite.proofs.TableLaws.{search-low}

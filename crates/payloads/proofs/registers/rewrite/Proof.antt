@@ -12,7 +12,8 @@ use Rattle.laws.proofs.SearchLaws.{first-le}
 use Rattle.rewrite.specs.declared.Rawness.{Rawness}
 use Rattle.rewrite.specs.declared.Rawness.the-variants.{NotRaw, Partial, Value}
 use Rattle.rewrite.specs.Rewriting.{Rewritten, outcome, rewriting}
-use Rattle.rewrite.specs.Lent.{tagsOf, reaches, counted}
+use Rattle.rewrite.specs.inner.Lent.{tagsOf, reaches}
+use Rattle.payloads.specs.inner.TagSteps.{counted}
 use Rattle.rewrite.proofs.TableLaws.{KnownTable, table-start, table-more, table-done, table-few}
 use Rattle.payloads.proofs.registers.rewrite.Statement.{statement}
 use Rattle.payloads.proofs.registers.rewrite.Tie as tie

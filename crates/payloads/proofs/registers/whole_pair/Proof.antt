@@ -7,7 +7,8 @@ use borrow.Author.Needs.{needs}
 use Rattle.bcd.specs.declared.Kind.the-variants.{Width32}
 use Rattle.bcd.specs.Bcd.{registers}
 use Rattle.rewrite.specs.Rewriting.{outcome}
-use Rattle.rewrite.specs.Lent.{numberIn, wholeLaid}
+use Rattle.rewrite.specs.inner.Lent.{wholeLaid}
+use Rattle.payloads.specs.inner.TagSteps.{numberIn}
 use Rattle.rewrite.proofs.TagLaws.{number-two, lay-two}
 use Rattle.payloads.proofs.registers.whole_pair.Statement.{statement}
 use Rattle.payloads.proofs.registers.whole_pair.Tie as tie

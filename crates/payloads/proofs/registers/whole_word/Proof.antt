@@ -4,7 +4,8 @@ use mathlib.Core.Path.{sym, ap, _∙_}
 use denote.Ref.{now}
 use borrow.Author.Needs.{needs}
 use Rattle.rewrite.specs.Rewriting.{outcome}
-use Rattle.rewrite.specs.Lent.{numberIn, wholeLaid}
+use Rattle.rewrite.specs.inner.Lent.{wholeLaid}
+use Rattle.payloads.specs.inner.TagSteps.{numberIn}
 use Rattle.rewrite.proofs.TagLaws.{number-one, lay-one}
 use Rattle.payloads.proofs.registers.whole_word.Statement.{statement}
 use Rattle.payloads.proofs.registers.whole_word.Tie as tie

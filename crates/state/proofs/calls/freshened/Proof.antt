@@ -1,7 +1,7 @@
 -- `state::calls::freshened` meets its contract: columns of zeros with what was adopted are the fresh state.
 -- Assumes nothing.
 use mathlib.Core.Path.{refl}
-use Rattle.table.specs.Changes.{blank}
+use Rattle.table.specs.inner.Changes.{blank}
 use Rattle.proxy.proofs.MakingLaws.{made-fresh}
 use borrow.Author.Needs.{needs}
 use Rattle.state.proofs.calls.freshened.Statement.{statement}

@@ -4,7 +4,7 @@ use Prim.Native.Nat.{ℕ, _+_, _*_, _≤_}
 use mathlib.Core.Path.{_≡_}
 use mathlib.Core.Bool.{Bool}
 use mathlib.Core.List.{List, map}
-use mathlib.Core.Option.{Option, some, none}
+use mathlib.Core.Option.{some, none}
 use lib.ListN.{length, getD, take}
 use lib.Dec.{leb}
 use Rattle.laws.specs.Numbers.{mostTags, addresses, leastFrame}
@@ -21,10 +21,6 @@ use Rattle.rewrite.specs.Registers.{registersAt, laidAt}
 use Rattle.rewrite.specs.declared.Way.{Way}
 use Rattle.rewrite.specs.Rewriting.{turned, Rewritten, outcome}
 use Rattle.rewrite.specs.Frames.{readBase, singleBase, multipleBase}
-use Rattle.rewrite.specs.declared.Turned.{Turned}
-use Rattle.rewrite.specs.declared.Turned.the-variants.{Number, LeftRaw}
-use Rattle.rewrite.specs.declared.Rawness.{Rawness}
-use Rattle.rewrite.specs.declared.Rawness.the-variants as rawness
 
 -- the tags that the first words are
 abbrev pub tagsOf : ℕ → List ℕ → List Tag
@@ -68,18 +64,7 @@ pub record Framed (f out : List ℕ) : Type 0 where
 abbrev pub reaches : List ℕ → ℕ → ℕ → Bool
 reaches words start k = leb start (lastOf (tagOf (getD words k 0)))
 
--- what the code makes of a tag's number, as the definition has it
-abbrev pub numberIn : Turned → Option ℕ
-numberIn (Number n) = some n
-numberIn LeftRaw = none
-
--- and of a whole tag whose registers stand from byte k on
+-- what becomes of a whole tag whose registers stand from byte k on
 unfoldable pub wholeLaid : Way → Kind → ℕ → List ℕ → Rewritten
 wholeLaid way kind k d =
     elim (turned way kind (numberOf (registersAt k (registers kind) d))) [ none ↦ outcome 0 1 d | some n ↦ outcome 0 0 (laidAt k (wordsOf kind n) d) ]
-
--- what a tag came to: the counts, by whether it was left raw, and the buffer
-abbrev pub counted : Rawness → List ℕ → Rewritten
-counted rawness.NotRaw d = outcome 0 0 d
-counted rawness.Partial d = outcome 1 0 d
-counted rawness.Value d = outcome 0 1 d
