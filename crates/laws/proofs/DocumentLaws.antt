@@ -1,7 +1,7 @@
 -- Every number of document 01, and of the requests of document 02 that have landed, as a literal: elsewhere definitions and code have it by name alone.
 -- Assumes nothing.
 use mathlib.Core.Path.{_≡_, refl}
-use Rattle.laws.specs.Numbers.{clients, places, room, partyPlaces, mostTags, leastTimeout, mostTimeout, usualTimeout, latestTime, leastFrame, mostFrame, frameBuffer, listBuffer, ids, addresses, distance, uncounted, headerSize, leastLength, mostLength, readCoils, readDiscrete, readHolding, readInput, writeCoil, writeSingle, writeCoils, writeMultiple, lastFunction, mostRead, mostWritten, mostBitsRead, mostBitsWritten, coilOff, coilOn, shortPdu, multiplePdu, exceptionPdu, exceptionBit, illegalAddress, illegalValue, deviceFailure, noResponse, exceptionLength, exceptionFrame, digitsPerRegister, signedDigits, minus, newestVersion, mostText}
+use Rattle.laws.specs.Numbers.{clients, places, room, partyPlaces, mostTags, leastTimeout, mostTimeout, usualTimeout, latestTime, leastFrame, mostFrame, frameBuffer, listBuffer, ids, addresses, distance, uncounted, unitAt, headerSize, leastLength, mostLength, readCoils, readDiscrete, readHolding, readInput, writeCoil, writeSingle, writeCoils, writeMultiple, lastFunction, mostRead, mostWritten, mostBitsRead, mostBitsWritten, coilOff, coilOn, shortPdu, multiplePdu, exceptionPdu, exceptionBit, illegalAddress, illegalValue, deviceFailure, noResponse, exceptionLength, exceptionFrame, digitsPerRegister, signedDigits, minus, newestVersion, mostText}
 
 -- the numbers, in the documents' order
 pub record Documents : Type 0 where
@@ -24,8 +24,9 @@ pub record Documents : Type 0 where
   -- ids and addresses of 16 bits
   pub ids-are : ids ≡ 65536
   pub addresses-are : addresses ≡ 65536
-  -- "A frame": length counts unit and PDU, 2 to 254; six bytes stand before what it counts, seven before the PDU
+  -- "A frame": length counts unit and PDU, 2 to 254; six bytes stand before what it counts, so that the unit is byte 6, and seven before the PDU
   pub bytes-not-counted-are : uncounted ≡ 6
+  pub unit-stands-at : unitAt ≡ 6
   pub bytes-before-the-pdu-are : headerSize ≡ 7
   pub length-is-at-least : leastLength ≡ 2
   pub length-is-at-most : mostLength ≡ 254
@@ -86,6 +87,7 @@ the-numbers-of-the-documents =
       ids-are = refl;
       addresses-are = refl;
       bytes-not-counted-are = refl;
+      unit-stands-at = refl;
       bytes-before-the-pdu-are = refl;
       length-is-at-least = refl;
       length-is-at-most = refl;
