@@ -24,6 +24,7 @@ the-numbers-of-the-documents =
       ids-are = refl;
       addresses-are = refl;
       bytes-not-counted-are = refl;
+      unit-stands-at = refl;
       bytes-before-the-pdu-are = refl;
       length-is-at-least = refl;
       length-is-at-most = refl;

@@ -1,7 +1,7 @@
 -- The sizes, bounds and codes of the documents, number by number.
 -- Assumes nothing.
 use mathlib.Core.Path.{_≡_}
-use Rattle.laws.specs.Numbers.{clients, places, room, partyPlaces, mostTags, leastTimeout, mostTimeout, usualTimeout, latestTime, leastFrame, mostFrame, frameBuffer, listBuffer, ids, addresses, distance, uncounted, headerSize, leastLength, mostLength, readCoils, readDiscrete, readHolding, readInput, writeCoil, writeSingle, writeCoils, writeMultiple, lastFunction, mostRead, mostWritten, mostBitsRead, mostBitsWritten, coilOff, coilOn, shortPdu, multiplePdu, exceptionPdu, exceptionBit, illegalAddress, illegalValue, deviceFailure, noResponse, exceptionLength, exceptionFrame, digitsPerRegister, signedDigits, minus, newestVersion, mostText}
+use Rattle.laws.specs.Numbers.{clients, places, room, partyPlaces, mostTags, leastTimeout, mostTimeout, usualTimeout, latestTime, leastFrame, mostFrame, frameBuffer, listBuffer, ids, addresses, distance, uncounted, unitAt, headerSize, leastLength, mostLength, readCoils, readDiscrete, readHolding, readInput, writeCoil, writeSingle, writeCoils, writeMultiple, lastFunction, mostRead, mostWritten, mostBitsRead, mostBitsWritten, coilOff, coilOn, shortPdu, multiplePdu, exceptionPdu, exceptionBit, illegalAddress, illegalValue, deviceFailure, noResponse, exceptionLength, exceptionFrame, digitsPerRegister, signedDigits, minus, newestVersion, mostText}
 
 -- the numbers, in the documents' order
 pub record Documents : Type 0 where
@@ -26,6 +26,7 @@ pub record Documents : Type 0 where
   pub addresses-are : addresses ≡ 65536
   -- "A frame": length counts unit and PDU, 2 to 254; six bytes stand before what it counts, seven before the PDU
   pub bytes-not-counted-are : uncounted ≡ 6
+  pub unit-stands-at : unitAt ≡ 6
   pub bytes-before-the-pdu-are : headerSize ≡ 7
   pub length-is-at-least : leastLength ≡ 2
   pub length-is-at-most : mostLength ≡ 254

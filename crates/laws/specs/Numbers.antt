@@ -57,9 +57,12 @@ addresses = 65536
 abbrev pub distance : ℕ
 distance = 65280
 
--- "A frame": the bytes that the length field does not count, those before the PDU, and what the field may say
+-- "A frame": the bytes that the length field does not count, the byte at which the unit stands, the bytes before the PDU, and what the length field may say
 abbrev pub uncounted : ℕ
 uncounted = 6
+
+abbrev pub unitAt : ℕ
+unitAt = 6
 
 abbrev pub headerSize : ℕ
 headerSize = 7

@@ -35,6 +35,8 @@ pub const ADDRESSES: u32 = 65536;
 
 pub const UNCOUNTED: usize = 6;
 
+pub const UNIT_AT: usize = 6;
+
 pub const HEADER_SIZE: usize = 7;
 
 pub const LEAST_LENGTH: u16 = 2;

@@ -87,7 +87,7 @@ fn word_asked(frame: &[u8], what: Asked) -> u64
     requires { ⌜ (leastFrame ≤ length (now frame)) × (checkedOf (now frame) ≡ Checked.Legal what) ⌝ }
     ensures { λ r. ⌜ Asks (now (frame .entry)) r ⌝ }
 {
-    let unit = frame[laws::UNCOUNTED];
+    let unit = frame[laws::UNIT_AT];
     let function = frame[laws::HEADER_SIZE];
     checking::words::word_of(unit, function, what)
 }

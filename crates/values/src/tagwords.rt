@@ -1,13 +1,11 @@
-// The word that the state keeps of a tag: tag words of a settings value, and a settings value of tag words.
+// The word that the state keeps of a tag, and the tag words of a settings value.
 ghost use mathlib.Core.Path.{_≡_};
 ghost use mathlib.Core.List.{map};
 ghost use Prim.Native.Nat.{_≤_};
-ghost use lib.ListN.{length, take};
 ghost use Rattle.laws.specs.Numbers.{mostTags};
-ghost use Rattle.settings.specs.Values.{listed, settingsOf, padded};
-ghost use Rattle.settings.specs.TagWords.{kindOf, kindNumber, kindFrom, widthOf, signOf, wordOf, tagOf};
+ghost use Rattle.settings.specs.Values.{listed, padded};
+ghost use Rattle.settings.specs.TagWords.{kindOf, kindNumber, kindFrom, wordOf, tagOf};
 use bcd::Kind;
-use settings::Settings;
 use settings::kind_of;
 
 fn kind_number(kind: Kind) -> u64
@@ -29,26 +27,6 @@ fn kind_from(number: u64) -> Kind
         Kind::Signed16
     } else {
         Kind::Width16
-    }
-}
-
-fn width_of(kind: Kind) -> u16
-    ensures { λ r. ⌜ r ≡ widthOf kind ⌝ }
-{
-    match kind {
-        Kind::Width16 => 16,
-        Kind::Width32 => 32,
-        Kind::Signed16 => 16,
-    }
-}
-
-fn sign_of(kind: Kind) -> u16
-    ensures { λ r. ⌜ r ≡ signOf kind ⌝ }
-{
-    match kind {
-        Kind::Width16 => 0,
-        Kind::Width32 => 0,
-        Kind::Signed16 => 1,
     }
 }
 
@@ -87,42 +65,5 @@ pub fn fill_words<'a>(
     while k < tags as usize {
         words[k] = tag_word(addr[k], width[k], sign[k]);
         k += 1;
-    }
-}
-
-// What an array by value tells: its length.
-fn told(words: [u64; laws::MOST_TAGS])
-    ensures { λ r. ⌜ length words ≡ mostTags ⌝ }
-{}
-
-// The boundary's settings of what the state keeps.
-pub fn settings_from(
-    timeout: u32,
-    join: u32,
-    tagged: u32,
-    words: &[u64; laws::MOST_TAGS],
-) -> Settings
-    requires { ⌜ tagged ≤ mostTags ⌝ }
-    ensures { λ r. ⌜ r ≡ settingsOf (record { timeout = timeout; join = join; tags = map tagOf (take tagged (now (words .entry))) }) ⌝ }
-{
-    told(*words);
-    let mut addr = [0u16; laws::MOST_TAGS];
-    let mut width = [0u16; laws::MOST_TAGS];
-    let mut sign = [0u16; laws::MOST_TAGS];
-    let mut k: usize = 0;
-    while k < tagged as usize {
-        addr[k] = tag_address(words[k]);
-        let kind = tag_kind(words[k]);
-        width[k] = width_of(kind);
-        sign[k] = sign_of(kind);
-        k += 1;
-    }
-    Settings {
-        timeout: timeout,
-        join: join,
-        tags: tagged,
-        addr: addr,
-        width: width,
-        sign: sign,
     }
 }

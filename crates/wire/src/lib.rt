@@ -34,7 +34,7 @@ pub fn pair_at(s: &[u8], k: usize) -> u16
 pub fn unit_of(frame: &[u8]) -> u8
     ensures { λ r. ⌜ r ≡ unitOf (now (frame .entry)) ⌝ }
 {
-    byte_at(frame, laws::UNCOUNTED)
+    byte_at(frame, laws::UNIT_AT)
 }
 
 pub fn function_of(frame: &[u8]) -> u8
