@@ -8,7 +8,7 @@ use native.Mathlib.Nat.{lt-of-lt-of-le, pow-le-pow-left}
 use native.Mathlib.Omega.{arith}
 use lib.Dec.{ltb}
 use borrow.Author.Tests.{lt-ltb, le-ltb, ltb-true, ltb-false}
-use Rattle.laws.specs.Numbers.{digitsPerRegister, signedDigits}
+use Rattle.numbers.specs.Numbers.{digitsPerRegister, signedDigits}
 use Rattle.laws.proofs.Choice.{and-left, and-right, or-either}
 use Rattle.bcd.specs.declared.Kind.{Kind}
 use Rattle.bcd.specs.declared.Kind.the-variants.{Width16, Width32, Signed16}

@@ -3,7 +3,7 @@
 use Prim.Native.Nat.{ℕ, zero, suc, _+_, _*_, _%_, _<_}
 use mathlib.Core.Path.{_≡_}
 use mathlib.Core.Logic.{_⊎_}
-use Rattle.laws.specs.Numbers.{digitsPerRegister, signedDigits}
+use Rattle.numbers.specs.Numbers.{digitsPerRegister, signedDigits}
 use Rattle.bcd.specs.Bcd.{registers, nibble}
 use Rattle.bcd.specs.declared.Kind.{Kind}
 use Rattle.bcd.specs.declared.Kind.the-variants.{Width16, Width32, Signed16}

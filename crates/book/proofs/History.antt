@@ -11,7 +11,7 @@ use Rattle.laws.proofs.FilterLaws.{filter-all}
 use Rattle.book.specs.Book.{Rules, Book, Event, Move, Good, Fits, apply, tell, fresh}
 use Rattle.book.specs.Ledger.{Ticket, Ledger, Apart, empty, post, posts, AllFair, Moved, whose, many}
 use Rattle.book.specs.Kept.{Kept, held}
-use Rattle.book.specs.Machine.{Machine, tells, applies, AllFit, after, history, Accounted, stateAfter, linesOf}
+use Rattle.book.specs.Follower.{Follower, tells, applies, AllFit, after, history, Accounted, stateAfter, linesOf}
 use Rattle.book.specs.Desk.{Op, choose}
 use Rattle.book.proofs.PlaceLaws.{live-where}
 use Rattle.book.proofs.GoodLaws.{good-fresh, good-move}
@@ -83,7 +83,7 @@ module _ {R W N : Type 0} (r : Rules R) where
 truth-cast : {R W N : Type 0} (r : Rules R) (b b′ : Book R W N) (l l′ : Ledger W) → b ≡ b′ → l ≡ l′ → Truth r b′ l′ → Truth r b l
 truth-cast r b b′ l l′ p q t = subst₂ (λ x y. Truth r x y) (sym p) (sym q) t
 
-module _ {R : Type 0} {r : Rules R} {W N O : Type 0} {A : O → Type 0} {S : Type 0} (M : Machine r W N O A S) where
+module _ {R : Type 0} {r : Rules R} {W N O : Type 0} {A : O → Type 0} {S : Type 0} (M : Follower r W N O A S) where
   run : (s : S) (l : Ledger W) (os : List O) → M .Sound s → Truth r (M .bookOf s) l
       → Truth r (M .bookOf (after M s os)) (posts l (history M s os)) × AllFair l (history M s os) × M .Sound (after M s os)
   unfolding stateAfter linesOf posts AllFair
@@ -154,7 +154,7 @@ module _ {R W N : Type 0} (r : Rules R) (b : Book R W N) (vs : List (Event W)) (
   answers-exactly us v ws e = moved us v ws (subst (AllFair empty) e (a .answers))
 
 -- the desk is a machine that follows its book
-unfoldable pub desk : {R W N : Type 0} (r : Rules R) → R → Machine r W N (Op R W N) (λ o. Move R W N) (Book R W N)
+unfoldable pub desk : {R W N : Type 0} (r : Rules R) → R → Follower r W N (Op R W N) (λ o. Move R W N) (Book R W N)
 unfolding applies AllFit tells
 desk r x = record {
   made = x;

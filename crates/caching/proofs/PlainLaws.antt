@@ -13,13 +13,13 @@ use borrow.Author.Tests.{eqb-true, eqb-false}
 use Rattle.laws.proofs.Choice.{true-or}
 use Rattle.pdu.specs.Words.{whatOf}
 use Rattle.cache.specs.Cache.{Cached, inCache}
-use Rattle.caching.specs.Kept.{wordAt, bytesOf, replyTo, heldAt, cacheOf, Key, Sound}
+use Rattle.caching.specs.Kept.{wordAt, bytesOf, replyTo, heldAt, cacheOf, Key, SoundCache}
 use Rattle.caching.specs.Plain.{Stored}
 use Rattle.caching.proofs.KeptLaws.{key-bytes, place-at}
 use Rattle.caching.proofs.ShowLaws.{stands-held, stands-key}
 
 -- Three numbers and 256 bytes for each of 64 places.
-pub sizes : (cache shown : List ℕ) → Sound cache shown → (length cache ≡ 3 * 64) × (length shown ≡ 256 * 64) × ((k : ℕ) → getD shown k 0 < 256)
+pub sizes : (cache shown : List ℕ) → SoundCache cache shown → (length cache ≡ 3 * 64) × (length shown ≡ 256 * 64) × ((k : ℕ) → getD shown k 0 < 256)
 sizes cache shown s = (s .long, s .bytes .long, s .bytes .low)
 
 -- A place is empty exactly if its first number is 0.
@@ -32,7 +32,7 @@ empty-exactly cache shown k l =
     (true-or (eqb (wordAt cache k) 0)))
 
 -- What stands at a place is stored so.
-pub stored : (cache shown : List ℕ) → Sound cache shown → (k : ℕ) (e : Cached) → k < 64 → inCache (cacheOf cache shown) k ≡ some e → Stored cache shown k e
+pub stored : (cache shown : List ℕ) → SoundCache cache shown → (k : ℕ) (e : Cached) → k < 64 → inCache (cacheOf cache shown) k ≡ some e → Stored cache shown k e
 unfolding replyTo
 stored cache shown s k e l h = subst (λ x. Stored cache shown k x) (stands-held cache shown k e l h) held
   where

@@ -9,7 +9,7 @@ use native.Mathlib.Omega.{arith}
 use borrow.Author.Count.{below-more}
 use lib.ListN.{getD}
 use borrow.Author.Tests.{eqb-true}
-use Rattle.laws.specs.Numbers.{ids, places}
+use Rattle.numbers.specs.Numbers.{ids, places}
 use Rattle.laws.specs.Circle.{turn, gap}
 use Rattle.laws.proofs.Choice.{true-or, eq-or, or-second}
 use Rattle.laws.proofs.PigeonLaws.{crowd}

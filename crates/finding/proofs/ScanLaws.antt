@@ -9,7 +9,7 @@ use native.Mathlib.Omega.{arith}
 use lib.ListN.{getD}
 use lib.Dec.{eqb, ltb, leb}
 use borrow.Author.Tests.{eq-eqb, ne-eqb, eqb-false, leb-true, not-true}
-use Rattle.laws.specs.Numbers.{places}
+use Rattle.numbers.specs.Numbers.{places}
 use Rattle.laws.specs.Search.{best}
 use Rattle.laws.proofs.Choice.{and-right}
 use Rattle.laws.proofs.SearchLaws.{best-in, best-wins, best-stays, first-cut}

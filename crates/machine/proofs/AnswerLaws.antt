@@ -10,7 +10,7 @@ use native.Mathlib.Omega.{arith}
 use lib.ListN.{length, getD, set}
 use lib.Seq.{getD-set-same}
 use borrow.Author.Tests.{not-false}
-use Rattle.laws.specs.Numbers.{places, noResponse}
+use Rattle.numbers.specs.Numbers.{places, noResponse}
 use Rattle.laws.specs.Bytes.{over}
 use Rattle.laws.proofs.Choice.{eq-or, lt-or}
 use Rattle.wire.specs.Frame.{idOf, laid, exception}

@@ -10,7 +10,7 @@ use native.Mathlib.Omega.{arith}
 use lib.ListN.{length, getD, set, drop, length-append, length-drop, List·getD-map}
 use lib.Seq.{getD-append-add, getD-drop, getD-set-same, getD-set-other}
 use borrow.Author.Tests.{ltb-false}
-use Rattle.laws.specs.Numbers.{places, frameBuffer, deviceFailure}
+use Rattle.numbers.specs.Numbers.{places, frameBuffer, deviceFailure}
 use Rattle.laws.specs.Bytes.{over}
 use Rattle.laws.proofs.Choice.{eq-or, never}
 use Rattle.wire.specs.Frame.{laid, exception}

@@ -11,7 +11,7 @@ use mathlib.Core.List.{List, [], _∷_, _++_, append-assoc, List·Memᴰ, List·
 use native.Mathlib.Omega.{arith}
 use lib.ListN.{length, getD, take}
 use borrow.Author.Tests.{eqb-true}
-use Rattle.laws.specs.Numbers.{places, ids, distance, latestTime}
+use Rattle.numbers.specs.Numbers.{places, ids, distance, latestTime}
 use Rattle.laws.specs.Lists.{filter, lastGiven, lastOf}
 use Rattle.laws.specs.Bits.{has}
 use Rattle.laws.specs.Bytes.{over}
@@ -40,7 +40,7 @@ use Rattle.book.specs.Book.Event.{passed, issued, left, lost}
 use Rattle.book.specs.Ledger.{Ticket, Apart, Differing, Anew, under, partiesOf}
 use Rattle.book.specs.Traced.{touches, issuedId, behind, Outstanding, Holds}
 use Rattle.book.specs.Desk.{AllLive}
-use Rattle.book.specs.Machine.{Accounted, history, linesOf}
+use Rattle.book.specs.Follower.{Accounted, history, linesOf}
 use Rattle.book.proofs.History.{always-sound, ids-come-round-late, after-on, after-one, history-on}
 use Rattle.book.proofs.SpacedLaws.{apart-exactly}
 use Rattle.book.proofs.TracedLaws.{traced}

@@ -11,7 +11,7 @@ use native.Mathlib.Omega.{arith}
 use lib.ListN.{length, getD, set}
 use lib.Dec.{eqb}
 use borrow.Author.Tests.{eq-eqb, ne-eqb}
-use Rattle.laws.specs.Numbers.{places}
+use Rattle.numbers.specs.Numbers.{places}
 use Rattle.laws.specs.Lists.{lastOf}
 use Rattle.laws.proofs.Choice.{true-or, or-left}
 use Rattle.laws.proofs.ListLaws.{grown}
@@ -27,7 +27,7 @@ use Rattle.book.specs.Book.Move.{rest, pass, join, issue, reply as replies, exp
 use Rattle.book.specs.Book.Event.{passed, joined, issued, replied, expired, left}
 use Rattle.book.specs.Desk.{duePlace}
 use Rattle.book.specs.Traced.{touches}
-use Rattle.book.specs.Machine.{tells, applies, AllFit, stateAfter, linesOf}
+use Rattle.book.specs.Follower.{tells, applies, AllFit, stateAfter, linesOf}
 use Rattle.book.proofs.PlaceLaws.{at-low, nothing-there, set-each, none-each, map-each, live-not}
 use Rattle.book.proofs.GoodLaws.{good-move}
 use Rattle.book.proofs.History.{always, always-sound, after-one, history-one}

@@ -10,7 +10,7 @@ use native.Mathlib.Omega.{arith}
 use lib.ListN.{length, getD, drop, set}
 use lib.Seq.{take-at, set-out}
 use lib.Dec.{eqb}
-use Rattle.laws.specs.Numbers.{places, noResponse}
+use Rattle.numbers.specs.Numbers.{places, noResponse}
 use Rattle.laws.proofs.Choice.{true-or, eq-or, lt-or}
 use Rattle.settings.specs.Grammar.{Value}
 use Rattle.wire.specs.Frame.{functionOf, misframed, laid, exception}
@@ -24,7 +24,7 @@ use Rattle.rewrite.specs.Frames.{returned}
 use Rattle.rewrite.proofs.FrameLaws.{length-returned, returned-framed, returned-answers, laid-answers}
 use Rattle.book.specs.Book.{Party, Live, at, newEntry, struck, marked}
 use Rattle.book.specs.Desk.{freePlace, freeId, duePlace}
-use Rattle.book.specs.Machine.{after, stateAfter}
+use Rattle.book.specs.Follower.{after, stateAfter}
 use Rattle.book.proofs.PlaceLaws.{set-cases, map-each, nothing-there}
 use Rattle.machine.specs.Machine.{Machine, Note, opened, made, rules, settings, clocked}
 use Rattle.machine.specs.Calls.{Call}

@@ -4,7 +4,7 @@ use mathlib.Core.Path.{_≡_, refl, _∙_}
 use mathlib.Core.List.{List}
 use Rattle.settings.specs.Grammar.{Value}
 use Rattle.pdu.specs.Replies.{What}
-use Rattle.book.specs.Machine.{Machine as Follower, Accounted}
+use Rattle.book.specs.Follower.{Follower, Accounted}
 use Rattle.book.proofs.History.{always}
 use Rattle.machine.specs.Machine.{Machine, Note, made, rules, settings}
 use Rattle.machine.specs.Calls.{Call}

@@ -10,7 +10,7 @@ use native.Mathlib.Omega.{arith}
 use native.Mathlib.Nat.{max-eq-right}
 use lib.Dec.{eqb, ltb}
 use borrow.Author.Tests.{eq-eqb, ltb-false}
-use Rattle.laws.specs.Numbers.{latestTime, deviceFailure}
+use Rattle.numbers.specs.Numbers.{latestTime, deviceFailure}
 use Rattle.laws.proofs.Choice.{true-or, eq-or, or-right}
 use Rattle.pdu.specs.Requests.{faultOf}
 use Rattle.pdu.specs.Replies.{What}

@@ -10,7 +10,7 @@ use native.Mathlib.Omega.{arith}
 use lib.ListN.{length}
 use lib.Dec.{eqb, ltb, leb}
 use borrow.Author.Tests.{eq-eqb, ne-eqb, lt-ltb, ltb-true, le-leb, leb-true, eqb-true, eqb-false, not-true}
-use Rattle.laws.specs.Numbers.{clients, latestTime, leastFrame, mostFrame, uncounted, frameBuffer, listBuffer, lastFunction}
+use Rattle.numbers.specs.Numbers.{clients, latestTime, leastFrame, mostFrame, uncounted, frameBuffer, listBuffer, lastFunction}
 use Rattle.laws.specs.Bits.{has}
 use Rattle.laws.proofs.Choice.{true-or, lt-or}
 use Rattle.wire.specs.Frame.{misframed, functionOf, idOf, protocolOf, lengthOf}

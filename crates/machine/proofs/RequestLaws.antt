@@ -9,7 +9,7 @@ use mathlib.Core.List.{List}
 use native.Mathlib.Omega.{arith}
 use lib.Dec.{eqb, ltb}
 use borrow.Author.Tests.{ltb-true, ltb-false}
-use Rattle.laws.specs.Numbers.{places, deviceFailure}
+use Rattle.numbers.specs.Numbers.{places, deviceFailure}
 use Rattle.laws.proofs.Choice.{true-or, eq-or, never}
 use Rattle.wire.specs.Frame.{misframed, functionOf}
 use Rattle.pdu.specs.Requests.{classOf, badFunction, badLength, badValue, badAddress, faultOf, checkedBy, checkedOf, legal}

@@ -20,7 +20,7 @@ use Rattle.pdu.specs.Replies.{What}
 use Rattle.book.specs.Book.{Party, Event, at}
 use Rattle.book.specs.Book.Event.{passed, issued}
 use Rattle.book.specs.Desk.{duePlace}
-use Rattle.book.specs.Machine.{after, stateAfter}
+use Rattle.book.specs.Follower.{after, stateAfter}
 use Rattle.book.proofs.History.{seen-at}
 use Rattle.machine.specs.Machine.{Machine, made, rules, clocked}
 use Rattle.machine.specs.Calls.{Call, Outcome, timeOf}

@@ -8,14 +8,14 @@ use native.Mathlib.Omega.{arith}
 use native.Mathlib.Nat.{max-eq-right}
 use lib.ListN.{length}
 use borrow.Author.Tests.{le-ltb}
-use Rattle.laws.specs.Numbers.{places, latestTime, frameBuffer, listBuffer}
+use Rattle.numbers.specs.Numbers.{places, latestTime, frameBuffer, listBuffer}
 use Rattle.settings.specs.Grammar.{Value}
 use Rattle.pdu.specs.Replies.{What}
 use Rattle.book.specs.Book.{Live, Good, NothingDue, at, apply}
 use Rattle.book.specs.Book.Move.{pass}
 use Rattle.book.specs.Desk.{duePlace, expireAt, choose, ticks}
 use Rattle.book.specs.Desk.Op.{tick as ticking}
-use Rattle.book.specs.Machine.{after, stateAfter}
+use Rattle.book.specs.Follower.{after, stateAfter}
 use Rattle.book.proofs.GoodLaws.{good-move}
 use Rattle.book.proofs.TickLaws.{ticks-good, drains}
 use Rattle.machine.specs.Machine.{Machine, Note, Live-book, machine, rules, clocked}

@@ -9,7 +9,7 @@ use mathlib.Core.List.{List, List·Memᴰ·head, Memᴰ·append-right}
 use native.Mathlib.Omega.{arith}
 use lib.Dec.{ltb}
 use borrow.Author.Tests.{ltb-false}
-use Rattle.laws.specs.Numbers.{places, latestTime}
+use Rattle.numbers.specs.Numbers.{places, latestTime}
 use Rattle.laws.proofs.LeastLaws.{least-low, least-taken}
 use Rattle.laws.proofs.Choice.{or-left}
 use Rattle.laws.proofs.LastLaws.{last-of-exactly}

@@ -7,7 +7,7 @@ use mathlib.Core.Bool.{true, false}
 use mathlib.Core.Option.{some, none, Option}
 use mathlib.Core.List.{List, map}
 use lib.ListN.{length, getD}
-use Rattle.laws.specs.Numbers.{noResponse, frameBuffer, listBuffer}
+use Rattle.numbers.specs.Numbers.{noResponse, frameBuffer, listBuffer}
 use Rattle.laws.specs.Bytes.{over}
 use Rattle.wire.specs.Frame.{idOf, laid, exception}
 use Rattle.pdu.specs.Replies.{What, answering, excepts}

@@ -12,7 +12,7 @@ use Rattle.pdu.specs.Replies.{What}
 use Rattle.book.specs.Book.{Party, Event}
 use Rattle.book.specs.Book.Event.{passed, joined, issued, replied, expired, left, lost}
 use Rattle.book.specs.Ledger.{Ledger, empty, posts}
-use Rattle.book.specs.Machine.{stateAfter, linesOf}
+use Rattle.book.specs.Follower.{stateAfter, linesOf}
 use Rattle.machine.specs.Calls.{Call, Outcome}
 use Rattle.machine.specs.Calls.Call.{attach, detach, request, reply, tick, linkLost}
 use Rattle.machine.specs.Numbers.{numbers, isIssued, isJoined, isTimedOut}

@@ -4,7 +4,7 @@ use Prim.Native.Nat.{ℕ}
 use mathlib.Core.Path.{_≡_}
 use mathlib.Core.Logic.{_⊎_}
 use mathlib.Core.List.{List}
-use Rattle.laws.specs.Numbers.{exceptionFrame}
+use Rattle.numbers.specs.Numbers.{exceptionFrame}
 use Rattle.pdu.specs.declared.ProxyId.{ProxyId}
 use Rattle.machine.specs.Machine.{Machine}
 use Rattle.machine.specs.Calls.{Outcome}

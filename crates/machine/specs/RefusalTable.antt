@@ -7,7 +7,7 @@ use mathlib.Core.Bool.{true, false}
 use mathlib.Core.Option.{some}
 use mathlib.Core.List.{List, [], _∷_}
 use lib.ListN.{length}
-use Rattle.laws.specs.Numbers.{clients, latestTime, leastFrame, mostFrame, uncounted, frameBuffer, listBuffer, lastFunction}
+use Rattle.numbers.specs.Numbers.{clients, latestTime, leastFrame, mostFrame, uncounted, frameBuffer, listBuffer, lastFunction}
 use Rattle.laws.specs.Bits.{has}
 use Rattle.wire.specs.Frame.{unitOf, functionOf, idOf, protocolOf, lengthOf}
 use Rattle.pdu.specs.Requests.{classOf}

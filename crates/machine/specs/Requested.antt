@@ -7,7 +7,7 @@ use mathlib.Core.Bool.{false, true}
 use mathlib.Core.Option.{some, none, Option·map}
 use mathlib.Core.List.{List, [], _∷_, _++_}
 use lib.ListN.{length, getD, drop}
-use Rattle.laws.specs.Numbers.{ids, room}
+use Rattle.numbers.specs.Numbers.{ids, room}
 use Rattle.laws.specs.Circle.{turn}
 use Rattle.laws.specs.Bytes.{over}
 use Rattle.wire.specs.Frame.{laid}

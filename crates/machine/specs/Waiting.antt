@@ -4,7 +4,7 @@ use Prim.Native.Nat.{ℕ, _-_, _^_, _≤_}
 use mathlib.Core.Path.{_≡_}
 use mathlib.Core.Logic.{_⊎_}
 use mathlib.Core.Option.{Option, some, none}
-use Rattle.laws.specs.Numbers.{places}
+use Rattle.numbers.specs.Numbers.{places}
 use Rattle.laws.specs.Search.{least, count}
 use Rattle.pdu.specs.Replies.{What}
 use Rattle.book.specs.Book.{Live, at}

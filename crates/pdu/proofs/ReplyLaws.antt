@@ -8,7 +8,7 @@ use mathlib.Core.List.{List}
 use native.Mathlib.Omega.{arith}
 use lib.ListN.{length}
 use lib.Dec.{eqb}
-use Rattle.laws.specs.Numbers.{lastFunction, shortPdu}
+use Rattle.numbers.specs.Numbers.{lastFunction, shortPdu}
 use Rattle.wire.specs.Frame.{unitOf, functionOf, pduSize, exception}
 use Rattle.wire.proofs.FrameLaws.{exception-function}
 use Rattle.pdu.specs.Requests.{startOf, quantityOf, bytesFor}

@@ -11,14 +11,14 @@ use lib.Arith.{digits-div, digits-mod}
 use lib.ListN.{length, getD}
 use lib.Dec.{eqb, ltb}
 use borrow.Author.Tests.{ne-eqb}
-use Rattle.laws.specs.Numbers.{lastFunction, coilOff, coilOn, shortPdu, multiplePdu, addresses, illegalAddress, illegalValue}
+use Rattle.numbers.specs.Numbers.{lastFunction, coilOff, coilOn, shortPdu, multiplePdu, addresses, illegalAddress, illegalValue}
 use Rattle.laws.specs.Bytes.{pairAt}
 use Rattle.laws.proofs.Choice.{eq-or, lt-or}
 use Rattle.wire.specs.Frame.{unitOf, functionOf, pduSize, misframed}
 use Rattle.settings.specs.Grammar.{Value}
 use Rattle.pdu.specs.Requests.{classOf, startOf, quantityOf, valueOf, byteCountOf, bytesFor, mostReadOf, mostWrittenOf, badFunction, badLength, badValue, badAddress, askedBy, askedOf, faultBy, faultOf, checkedBy, checkedOf, legal}
 use Rattle.pdu.specs.Replies.{what}
-use Rattle.pdu.specs.Words.{kept, keptIn, Lawful, Proper}
+use Rattle.pdu.specs.Words.{askedBits, askedFrom, Lawful, Proper}
 use Rattle.pdu.specs.declared.Table.{Table}
 use Rattle.pdu.specs.declared.Table.the-variants.{Bits, Registers}
 use Rattle.pdu.specs.declared.Class.{Class}
@@ -273,12 +273,12 @@ pair-low f k b = omega (arith, b k, b (k + 1))
 fields : {s q : ℕ} → s < 65536 → q < 65536 → ((s * 65536 + q) / 65536 % 65536 ≡ s) × ((s * 65536 + q) % 65536 ≡ q)
 fields {s} h l = (rw (digits-div s l) (mod-eq-of-lt h), digits-mod s l)
 
-kept-back : (c : Class) (f : List ℕ) → ((k : ℕ) → getD f k 0 < 256) → keptIn c (kept (askedBy c f)) ≡ askedBy c f
-unfolding keptIn kept askedBy
-kept-back (Reads t) f b = let e = fields (pair-low f 8 b) (pair-low f 10 b) in rw (e .0, e .1)
-kept-back (WritesOne t) f b = let e = fields (pair-low f 8 b) (pair-low f 10 b) in rw (e .0, e .1)
-kept-back (WritesMany t) f b = let e = fields (pair-low f 8 b) (pair-low f 10 b) in rw (e .0, e .1)
-kept-back Others f b = refl
+asked-bits-back : (c : Class) (f : List ℕ) → ((k : ℕ) → getD f k 0 < 256) → askedFrom c (askedBits (askedBy c f)) ≡ askedBy c f
+unfolding askedFrom askedBits askedBy
+asked-bits-back (Reads t) f b = let e = fields (pair-low f 8 b) (pair-low f 10 b) in rw (e .0, e .1)
+asked-bits-back (WritesOne t) f b = let e = fields (pair-low f 8 b) (pair-low f 10 b) in rw (e .0, e .1)
+asked-bits-back (WritesMany t) f b = let e = fields (pair-low f 8 b) (pair-low f 10 b) in rw (e .0, e .1)
+asked-bits-back Others f b = refl
 
 lawful-by : (c : Class) (f : List ℕ) → ((k : ℕ) → getD f k 0 < 256) → Valued c f → Ranged c f → Lawful (askedBy c f)
 unfolding Lawful askedBy
@@ -295,6 +295,6 @@ legal-proper f a b e =
     rw (p .asks) (record {
       unit = b 6;
       function = known (functionOf f) .1 (p .function);
-      class = kept-back (classIn f) f b;
+      class = asked-bits-back (classIn f) f b;
       lawful = lawful-by (classIn f) f b (p .value) (p .range);
     })

@@ -13,7 +13,7 @@ use Rattle.laws.proofs.TestLaws.{holds-eq, holds-and}
 use Rattle.wire.specs.Frame.{unitOf, functionOf}
 use Rattle.pdu.specs.Requests.{classOf, askedBy, checkedOf}
 use Rattle.pdu.specs.Replies.{What, what}
-use Rattle.pdu.specs.Words.{kept, keptIn, Lawful, Proper}
+use Rattle.pdu.specs.Words.{askedBits, askedFrom, Lawful, Proper}
 use Rattle.pdu.specs.Spoiling.{sameTable, overlap, meets, spoils}
 use Rattle.pdu.specs.declared.Table.{Table}
 use Rattle.pdu.specs.declared.Table.the-variants.{Bits, Registers}
@@ -70,12 +70,12 @@ class-exact n c = (λ e. rw e at (named n), back c)
     back (WritesMany Registers) e = ap classOf e ∙ class-multiple .1
     back Others e = class-other n (e .0) (e .1) (e .2) (e .3) (e .4) (e .5) (e .6) (e .7)
 
-sort-kept : (c : Class) (n : ℕ) → sortOf (keptIn c n) ≡ c
-unfolding keptIn
-sort-kept (Reads t) n = refl
-sort-kept (WritesOne t) n = refl
-sort-kept (WritesMany t) n = refl
-sort-kept Others n = refl
+sort-asked-from : (c : Class) (n : ℕ) → sortOf (askedFrom c n) ≡ c
+unfolding askedFrom
+sort-asked-from (Reads t) n = refl
+sort-asked-from (WritesOne t) n = refl
+sort-asked-from (WritesMany t) n = refl
+sort-asked-from Others n = refl
 
 sort-asked : (c : Class) (f : List ℕ) → sortOf (askedBy c f) ≡ c
 unfolding askedBy
@@ -100,7 +100,7 @@ valued-some Others f v = tt
 
 -- What may stand in a live entry is such;
 pub proper-ranges : (w : What) → Proper w → Ranging w
-proper-ranges w p = record { class = sym (sort-kept (classOf (w .function)) (kept (w .asked))) ∙ ap sortOf (p .class); some = lawful-some (w .asked) (p .lawful) }
+proper-ranges w p = record { class = sym (sort-asked-from (classOf (w .function)) (askedBits (w .asked))) ∙ ap sortOf (p .class); some = lawful-some (w .asked) (p .lawful) }
 
 -- so is what a legal request asks, whatever numbers its frame has for bytes.
 pub legal-ranges : (f : List ℕ) (a : Asked) → checkedOf f ≡ Legal a → Ranging (what (unitOf f) (functionOf f) a)

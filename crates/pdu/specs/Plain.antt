@@ -4,7 +4,7 @@ use Prim.Native.Nat.{ℕ, _+_, _≤_, _<_}
 use mathlib.Core.Path.{_≡_}
 use mathlib.Core.Logic.{_⊎_}
 use mathlib.Core.List.{List}
-use Rattle.laws.specs.Numbers.{lastFunction, coilOff, coilOn, shortPdu, multiplePdu, addresses}
+use Rattle.numbers.specs.Numbers.{lastFunction, coilOff, coilOn, shortPdu, multiplePdu, addresses}
 use Rattle.wire.specs.Frame.{functionOf, pduSize}
 use Rattle.pdu.specs.Requests.{classOf, startOf, quantityOf, valueOf, byteCountOf, bytesFor, mostReadOf, mostWrittenOf, askedOf}
 use Rattle.pdu.specs.Replies.{replyCountOf, What}

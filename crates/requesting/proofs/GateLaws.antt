@@ -8,7 +8,7 @@ use native.Mathlib.Omega.{arith}
 use lib.ListN.{length}
 use lib.Dec.{ltb, leb}
 use borrow.Author.Tests.{ne-eqb, leb-false, ltb-false, lt-ltb, le-ltb}
-use Rattle.laws.specs.Numbers.{clients, latestTime, leastFrame, mostFrame, frameBuffer}
+use Rattle.numbers.specs.Numbers.{clients, latestTime, leastFrame, mostFrame, frameBuffer}
 use Rattle.laws.specs.Bits.{has}
 use Rattle.laws.proofs.Choice.{or-left, or-right}
 use Rattle.wire.specs.Frame.{misframed, functionOf}

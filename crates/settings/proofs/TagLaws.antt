@@ -10,7 +10,7 @@ use native.Mathlib.Omega.{arith}
 use lib.ListN.{length, getD, set, take, replicate, length-map}
 use lib.Seq.{take-at}
 use lib.Dec.{eqb}
-use Rattle.laws.specs.Numbers.{mostTags, addresses}
+use Rattle.numbers.specs.Numbers.{mostTags, addresses}
 use Rattle.laws.specs.Lists.{tab}
 use Rattle.laws.proofs.Choice.{true-or, eq-or, and-right}
 use Rattle.laws.proofs.ListLaws.{tab-more, length-tab, set-padded}
@@ -22,7 +22,7 @@ use Rattle.settings.specs.declared.Settings.{Settings}
 use Rattle.settings.specs.Grammar.{Tag, Value, newest, tagNumbers, lastRegister, rightTimeout, rightJoin, rightTags, tagsRight, valid}
 use Rattle.settings.specs.Plain.{RightTag, Wide, Bounds}
 use Rattle.settings.specs.Values.{padded}
-use Rattle.settings.specs.TagWords.{kindOf, widthOf, signOf, kindNumber, kindFrom, wordOf, tagOfKind, tagOf, lastOf, Ascending}
+use Rattle.settings.specs.TagWords.{kindOf, widthOf, signOf, kindNumber, kindFrom, tagWord, tagOfKind, tagOf, lastOf, Ascending}
 use Rattle.settings.proofs.ValueLaws.{tagAt, tag-ext, fromOf, valid-parts}
 use Rattle.settings.proofs.ValidLaws.{first-exactly, valid-exactly}
 
@@ -54,8 +54,8 @@ kind-of-tag Width32 address = refl
 kind-of-tag Signed16 address = refl
 
 -- a tag's word gives the tag back
-pub word-back : (t : Tag) → t .address < addresses → Wide t → tagOf (wordOf t) ≡ t
-unfolding wordOf tagOf
+pub word-back : (t : Tag) → t .address < addresses → Wide t → tagOf (tagWord t) ≡ t
+unfolding tagWord tagOf
 word-back t l w =
     let n = kind-low (kindOf t) in
     let a : (t .address + addresses * kindNumber (kindOf t)) % addresses ≡ t .address = omega arith in
@@ -127,19 +127,19 @@ ascending-apart from (t ∷ ts) i zero d a h l = absurd (omega arith)
 ascending-apart from (t ∷ ts) zero (suc j) d a h l = let r = ascending-at (lastOf t + 1) ts j d (a .2) (omega arith) in omega (arith, r .0)
 ascending-apart from (t ∷ ts) (suc i) (suc j) d a h l = ascending-apart (lastOf t + 1) ts i j d (a .2) (omega arith) (omega arith)
 
-right-back : (prior : List ℕ) (ts : List Tag) → tagsRight (newest .tag) prior ts ≡ true → map tagOf (map wordOf ts) ≡ ts
+right-back : (prior : List ℕ) (ts : List Tag) → tagsRight (newest .tag) prior ts ≡ true → map tagOf (map tagWord ts) ≡ ts
 right-back prior [] r = refl
 right-back prior (t ∷ ts) r =
     let f = first-exactly prior t ts .0 r in
     cc (word-back t (right-low t (f .0 .0)) (right-wide t (f .0 .0)), right-back (tagNumbers t) ts (f .1))
 
 -- the words of a valid value's tags give the tags back
-pub words-back : (v : Value) → valid v ≡ true → map tagOf (map wordOf (v .tags)) ≡ v .tags
+pub words-back : (v : Value) → valid v ≡ true → map tagOf (map tagWord (v .tags)) ≡ v .tags
 words-back v h = right-back [] (v .tags) (right-tags v h)
 
 -- the words that the state keeps, padded, give the tags of a valid value back
-pub words-kept : (v : Value) → valid v ≡ true → map tagOf (take (length (v .tags)) (padded (map wordOf (v .tags)))) ≡ v .tags
-words-kept v h = rw (take-at (map wordOf (v .tags)) _ (length (v .tags)) (length-map (v .tags) wordOf)) (words-back v h)
+pub words-kept : (v : Value) → valid v ≡ true → map tagOf (take (length (v .tags)) (padded (map tagWord (v .tags)))) ≡ v .tags
+words-kept v h = rw (take-at (map tagWord (v .tags)) _ (length (v .tags)) (length-map (v .tags) tagWord)) (words-back v h)
 
 -- a valid value is within the bounds
 pub valid-bounds : (v : Value) → valid v ≡ true → Bounds v
@@ -163,19 +163,19 @@ filled-more f xs x k v e h q =
 pub record Worded (s : Settings) (words : List ℕ) (k : ℕ) : Type 0 where
   pub within : k ≤ s .tags
   pub few : s .tags ≤ mostTags
-  pub filled : words ≡ padded (map wordOf (tab k (tagAt s)))
+  pub filled : words ≡ padded (map tagWord (tab k (tagAt s)))
 
 pub worded-none : (s : Settings) → s .tags ≤ mostTags → Worded s (replicate mostTags 0) 0
 unfolding tab
 worded-none s h = record { within = omega arith; few = h; filled = refl }
 
-pub worded-more : {s : Settings} {words : List ℕ} {k v : ℕ} → k < s .tags → Worded s words k → v ≡ wordOf (tagAt s k) → Worded s (set words k v) (k + 1)
+pub worded-more : {s : Settings} {words : List ℕ} {k v : ℕ} → k < s .tags → Worded s words k → v ≡ tagWord (tagAt s k) → Worded s (set words k v) (k + 1)
 worded-more {s} {k = k} {v = v} h w e =
     record {
       within = omega arith;
       few = w .few;
-      filled = rw (w .filled, tab-more k (tagAt s)) (filled-more wordOf (tab k (tagAt s)) (tagAt s k) k v (length-tab k (tagAt s)) (omega (arith, w .few)) e);
+      filled = rw (w .filled, tab-more k (tagAt s)) (filled-more tagWord (tab k (tagAt s)) (tagAt s k) k v (length-tab k (tagAt s)) (omega (arith, w .few)) e);
     }
 
-pub worded-all : {s : Settings} {words : List ℕ} {k : ℕ} → s .tags ≤ k → Worded s words k → words ≡ padded (map wordOf (tab (s .tags) (tagAt s)))
+pub worded-all : {s : Settings} {words : List ℕ} {k : ℕ} → s .tags ≤ k → Worded s words k → words ≡ padded (map tagWord (tab (s .tags) (tagAt s)))
 worded-all {s} {k = k} h w = let e : k ≡ s .tags = omega (arith, w .within) in w .filled ∙ rw e

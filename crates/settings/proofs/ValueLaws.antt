@@ -10,7 +10,7 @@ use native.Mathlib.Omega.{arith}
 use lib.ListN.{length, getD, length-append, length-map, length-replicate, List·getD-eq-default}
 use lib.Dec.{eqb, leb, leb·zero}
 use borrow.Author.Tests.{leb-true, eqb-true, eq-eqb, lt-ltb}
-use Rattle.laws.specs.Numbers.{mostTags, addresses}
+use Rattle.numbers.specs.Numbers.{mostTags, addresses}
 use Rattle.laws.specs.Lists.{tab}
 use Rattle.laws.proofs.Choice.{and-left, and-right}
 use Rattle.laws.proofs.ListLaws.{tab-ext, tab-more, length-tab, tab-getD, getD-map, getD-zeros}

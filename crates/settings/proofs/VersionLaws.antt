@@ -11,10 +11,10 @@ use native.Mathlib.Omega.{arith}
 use lib.ListN.{length, getD, take, length-append, length-take}
 use lib.Dec.{eqb, ltb, leb}
 use borrow.Author.Tests.{leb-true, ltb-true, eqb-true, ne-eqb}
-use Rattle.laws.specs.Numbers.{mostTags, leastTimeout, mostTimeout, addresses}
+use Rattle.numbers.specs.Numbers.{mostTags, leastTimeout, mostTimeout, addresses}
 use Rattle.laws.proofs.Choice.{true-or, and-left, and-right, or-second}
 use Rattle.settings.specs.Lines.{Numbered, lineOf, lineIn}
-use Rattle.settings.specs.Grammar.{Tag, Value, Line, Version, Read, headNumbers, valueFrom, numbersIn, addrKey, widthKey, signKey, rightSign, rightWidth, headLines, tagLines, versionOf, versions, timeoutKey, joinKey, tagsKey, versionKey, versionIn, textOfLines, textIn, allRight, tagsRight, validIn, toldIn, readLines, readTags, readIn, readText, readBehind}
+use Rattle.settings.specs.Grammar.{Tag, Value, Line, Version, Read, headNumbers, valueFrom, numbersIn, addrKey, widthKey, signKey, rightSign, rightWidth, headLines, tagLines, versionOf, versions, timeoutKey, joinKey, tagsKey, versionKey, versionIn, textOfLines, textIn, allRight, tagsRight, validIn, toldByVersion, readLines, readTags, readIn, readText, readBehind}
 use Rattle.settings.specs.Grammar.Read.{got, wrong}
 use Rattle.settings.specs.Plain.{numbered, Versioned}
 use Rattle.settings.proofs.LineLaws.{line-length, line-back}
@@ -156,8 +156,8 @@ went t = version (lineIn versionKey t) refl
     version (some y) e = number y e (versionIn versions (y .number)) refl
 
 -- a valid value's text is read to what it tells
-pub back : (x : Version) (v : Value) → Fit x → versionIn versions (x .number) ≡ some x → validIn x v ≡ true → readText (textIn x v) ≡ got (toldIn x v) []
-unfolding textIn validIn toldIn
+pub back : (x : Version) (v : Value) → Fit x → versionIn versions (x .number) ≡ some x → validIn x v ≡ true → readText (textIn x v) ≡ got (toldByVersion x v) []
+unfolding textIn validIn toldByVersion
 back x v f l r =
     let first : Bool = allRight (x .head) [] [] (headNumbers v) in
     let head : List ℕ = textOfLines (x .head) (headNumbers v) in

@@ -6,7 +6,7 @@ use mathlib.Core.Logic.{_⊎_}
 use mathlib.Core.Option.{some}
 use mathlib.Core.List.{List, [], _∷_, _++_, List·Memᴰ}
 use lib.ListN.{length, getD}
-use Rattle.laws.specs.Numbers.{mostTags, leastTimeout, mostTimeout}
+use Rattle.numbers.specs.Numbers.{mostTags, leastTimeout, mostTimeout}
 use Rattle.laws.specs.Lists.{tab}
 use Rattle.settings.specs.Grammar.{Tag, Value, versionKey, timeoutKey, joinKey, tagsKey, addrKey, widthKey, signKey, Version, versions}
 use Rattle.settings.specs.declared.Settings.{Settings}

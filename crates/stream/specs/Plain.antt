@@ -5,10 +5,10 @@ use mathlib.Core.Path.{_≡_}
 use mathlib.Core.Bool.{true, false}
 use mathlib.Core.List.{_++_, flatten, List}
 use lib.ListN.{length, take}
-use Rattle.laws.specs.Numbers.{uncounted}
+use Rattle.numbers.specs.Numbers.{uncounted}
 use Rattle.wire.specs.Splitting.{standingOf, badHeader}
 use Rattle.wire.specs.Plain.{Whole}
-use Rattle.stream.specs.Stream.{Stream, refused, Outcome}
+use Rattle.stream.specs.Stream.{Stream, refused, TakeOutcome}
 use Rattle.stream.specs.Hosts.{Fed}
 use Rattle.stream.specs.Lent.{stood}
 
@@ -20,7 +20,7 @@ pub record Reads (f : Fed) : Type 0 where
   pub six : f .after .marked ≡ true → length (f .after .kept) ≡ uncounted
 
 -- the refusal that changes a stream: 4, in the call that brings the sixth byte of a bad header; the bytes up to that one are taken and kept, and the mark is set
-pub record SetsTheMark (s : Stream) (p : List ℕ) (d : Outcome) : Type 0 where
+pub record SetsTheMark (s : Stream) (p : List ℕ) (d : TakeOutcome) : Type 0 where
   pub four : d .says ≡ refused 4 (6 - length (s .kept))
   pub brought : 0 < d .says .taken
   pub unmarked : s .marked ≡ false

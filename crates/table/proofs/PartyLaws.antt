@@ -6,7 +6,7 @@ use mathlib.Core.List.{List, [], _∷_, _++_, append-assoc, flatMap}
 use native.Mathlib.Omega.{arith}
 use lib.ListN.{length, getD, set, length-set, length-append}
 use lib.Seq.{getD-set-same, getD-set-other}
-use Rattle.laws.specs.Numbers.{places, room}
+use Rattle.numbers.specs.Numbers.{places, room}
 use Rattle.laws.specs.Lists.{tab}
 use Rattle.laws.specs.Bytes.{over}
 use Rattle.laws.proofs.ListLaws.{tab-ext, tab-more, length-tab, flatMap-append}

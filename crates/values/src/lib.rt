@@ -6,7 +6,7 @@ ghost use mathlib.Core.Bool.{_&&_};
 ghost use mathlib.Core.List.{[], _∷_};
 ghost use Prim.Native.Nat.{_+_, _<_};
 ghost use lib.Dec.{leb};
-ghost use Rattle.laws.specs.Numbers.{addresses};
+ghost use Rattle.numbers.specs.Numbers.{addresses};
 ghost use Rattle.settings.specs.Grammar.{valid, lastRegister, rightTimeout, rightJoin, rightTags, rightWidth, rightSign};
 ghost use Rattle.settings.specs.Values.{settings, valueOf};
 
@@ -14,8 +14,8 @@ ghost use Rattle.settings.specs.Values.{settings, valueOf};
 fn head_right(timeout: u32, join: u32, tags: u32) -> bool
     ensures { λ r. ⌜ r ≡ (rightTimeout timeout && (rightJoin join && rightTags tags)) ⌝ }
 {
-    ((laws::LEAST_TIMEOUT <= timeout) & (timeout <= laws::MOST_TIMEOUT))
-        & ((join <= 1) & (tags as usize <= laws::MOST_TAGS))
+    ((numbers::LEAST_TIMEOUT <= timeout) & (timeout <= numbers::MOST_TIMEOUT))
+        & ((join <= 1) & (tags as usize <= numbers::MOST_TAGS))
 }
 
 // The rules of a tag's lines; `from` is the first address above the tag before.
@@ -23,7 +23,7 @@ fn tag_right(from: u32, address: u16, width: u16, sign: u16) -> bool
     ensures { λ r. ⌜ r ≡ (leb from address && (rightWidth (address ∷ []) width && rightSign (address ∷ width ∷ []) sign)) ⌝ }
 {
     (from <= address as u32)
-        & (((width == 16) | ((width == 32) & (address as u32 + 1 < laws::ADDRESSES)))
+        & (((width == 16) | ((width == 32) & (address as u32 + 1 < numbers::ADDRESSES)))
             & ((sign == 0) | ((sign == 1) & (width == 16))))
 }
 
@@ -43,9 +43,9 @@ pub fn is_valid<'a>(
     timeout: u32,
     join: u32,
     tags: u32,
-    addr: &'a [u16; laws::MOST_TAGS],
-    width: &'a [u16; laws::MOST_TAGS],
-    sign: &'a [u16; laws::MOST_TAGS],
+    addr: &'a [u16; numbers::MOST_TAGS],
+    width: &'a [u16; numbers::MOST_TAGS],
+    sign: &'a [u16; numbers::MOST_TAGS],
 ) -> bool
     ensures { λ r. ⌜ r ≡ valid (valueOf (settings timeout join tags (now (addr .entry)) (now (width .entry)) (now (sign .entry)))) ⌝ }
 {

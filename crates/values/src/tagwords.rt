@@ -2,9 +2,9 @@
 ghost use mathlib.Core.Path.{_≡_};
 ghost use mathlib.Core.List.{map};
 ghost use Prim.Native.Nat.{_≤_};
-ghost use Rattle.laws.specs.Numbers.{mostTags};
+ghost use Rattle.numbers.specs.Numbers.{mostTags};
 ghost use Rattle.settings.specs.Values.{listed, padded};
-ghost use Rattle.settings.specs.TagWords.{kindOf, kindNumber, kindFrom, wordOf, tagOf};
+ghost use Rattle.settings.specs.TagWords.{kindOf, kindNumber, kindFrom, tagWord, tagOf};
 use bcd::Kind;
 use settings::kind_of;
 
@@ -32,35 +32,35 @@ fn kind_from(number: u64) -> Kind
 
 // The word of a tag.
 pub fn tag_word(address: u16, width: u16, sign: u16) -> u64
-    ensures { λ r. ⌜ r ≡ wordOf (record { address = address; width = width; sign = sign }) ⌝ }
+    ensures { λ r. ⌜ r ≡ tagWord (record { address = address; width = width; sign = sign }) ⌝ }
 {
-    address as u64 + laws::ADDRESSES as u64 * kind_number(kind_of(width, sign))
+    address as u64 + numbers::ADDRESSES as u64 * kind_number(kind_of(width, sign))
 }
 
 pub fn tag_address(word: u64) -> u16
     ensures { λ r. ⌜ r ≡ tagOf word .address ⌝ }
 {
-    (word % laws::ADDRESSES as u64) as u16
+    (word % numbers::ADDRESSES as u64) as u16
 }
 
 pub fn tag_kind(word: u64) -> Kind
     ensures { λ r. ⌜ r ≡ kindOf (tagOf word) ⌝ }
 {
-    kind_from(word / laws::ADDRESSES as u64 % 256)
+    kind_from(word / numbers::ADDRESSES as u64 % 256)
 }
 
 // The words of the listed tags, and 0 in every place beyond.
 pub fn fill_words<'a>(
     tags: u32,
-    addr: &'a [u16; laws::MOST_TAGS],
-    width: &'a [u16; laws::MOST_TAGS],
-    sign: &'a [u16; laws::MOST_TAGS],
-    words: &mut [u64; laws::MOST_TAGS],
+    addr: &'a [u16; numbers::MOST_TAGS],
+    width: &'a [u16; numbers::MOST_TAGS],
+    sign: &'a [u16; numbers::MOST_TAGS],
+    words: &mut [u64; numbers::MOST_TAGS],
 )
     requires { ⌜ tags ≤ mostTags ⌝ }
-    ensures { λ r. ⌜ now (words .exit) ≡ padded (map wordOf (listed tags (now (addr .entry)) (now (width .entry)) (now (sign .entry)))) ⌝ }
+    ensures { λ r. ⌜ now (words .exit) ≡ padded (map tagWord (listed tags (now (addr .entry)) (now (width .entry)) (now (sign .entry)))) ⌝ }
 {
-    *words = [0u64; laws::MOST_TAGS];
+    *words = [0u64; numbers::MOST_TAGS];
     let mut k: usize = 0;
     while k < tags as usize {
         words[k] = tag_word(addr[k], width[k], sign[k]);

@@ -8,7 +8,7 @@ use native.Mathlib.Omega.{arith}
 use lib.ListN.{length}
 use lib.Dec.{eqb, ltb}
 use borrow.Author.Tests.{ltb-false, le-ltb, eqb-true, eq-eqb, not-false}
-use Rattle.laws.specs.Numbers.{leastFrame, mostFrame, uncounted, ids, lastFunction, exceptionFrame, exceptionBit}
+use Rattle.numbers.specs.Numbers.{leastFrame, mostFrame, uncounted, ids, lastFunction, exceptionFrame, exceptionBit}
 use Rattle.laws.specs.Bytes.{putAt}
 use Rattle.laws.proofs.Choice.{or-left, or-right}
 use Rattle.wire.specs.Frame.{idOf, protocolOf, lengthOf, functionOf, misframed, laid, exception}

@@ -11,7 +11,7 @@ use lib.ListN.{length, take, drop, length-append, take-append-drop}
 use lib.Seq.{length-take-le, take-all, take-nil, take-append-le, drop-append-seam}
 use lib.Dec.{eqb, ltb}
 use borrow.Author.Tests.{ltb-false, lt-ltb, le-ltb, eqb-true, eqb-false, eq-eqb, ne-eqb, not-false}
-use Rattle.laws.specs.Numbers.{uncounted, leastLength, mostLength}
+use Rattle.numbers.specs.Numbers.{uncounted, leastLength, mostLength}
 use Rattle.laws.proofs.Choice.{true-or, or-left, or-right}
 use Rattle.wire.specs.Frame.{protocolOf, lengthOf, misframed}
 use Rattle.wire.specs.Splitting.{badHeader, standingOf, sizeIf, firstFrame, frames}

@@ -5,7 +5,7 @@ use mathlib.Core.Path.{_≡_}
 use mathlib.Core.Bool.{false}
 use mathlib.Core.List.{List, flatten, List·Memᴰ}
 use lib.ListN.{length, drop}
-use Rattle.laws.specs.Numbers.{leastFrame, mostFrame, uncounted}
+use Rattle.numbers.specs.Numbers.{leastFrame, mostFrame, uncounted}
 use Rattle.wire.specs.Frame.{protocolOf, lengthOf, misframed}
 use Rattle.wire.specs.Splitting.{frames}
 

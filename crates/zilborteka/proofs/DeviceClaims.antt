@@ -8,7 +8,7 @@ use mathlib.Core.Option.{some, Option·getD}
 use mathlib.Core.List.{List, [], _∷_, _++_, map, map-append, append-assoc, List·Memᴰ}
 use native.Mathlib.Omega.{arith}
 use lib.ListN.{length, getD, take}
-use Rattle.laws.specs.Numbers.{ids, places, distance, latestTime}
+use Rattle.numbers.specs.Numbers.{ids, places, distance, latestTime}
 use Rattle.laws.specs.Lists.{lastGiven, lastOf}
 use Rattle.laws.specs.Search.{count}
 use Rattle.laws.specs.Bits.{has}
@@ -131,7 +131,7 @@ module _ (from : Settings) {r : Report} {d d′ : Device} (ls : List Line) (fres
 
   -- The settings in force stay those that fresh adopted: in the machine that the device is, and in the device's own fields, timeout, join and the words of its tags.
   pub the-settings-in-force-stay : (settings (machineIn d′) ≡ inForce from) × (d′ .timeout ≡ inForce from .timeout) × (d′ .join ≡ inForce from .join)
-      × (map tagOf (take (d′ .tagged) (d′ .tags)) ≡ inForce from .tags)
+      × (map tagOf (take (d′ .«tag_count») (d′ .«tag_words»)) ≡ inForce from .tags)
   unfolding machineIn valueIn
   the-settings-in-force-stay =
       let e = ap (λ (m : Machine). settings m) (lived .after) ∙ claim.the-settings-in-force-stay v xs in

@@ -8,7 +8,7 @@ use Rattle.settings.specs.declared.Settings.{Settings}
 use Rattle.settings.specs.Grammar.{Value}
 use Rattle.pdu.specs.Replies.{What}
 use Rattle.book.specs.Book.{Event}
-use Rattle.book.specs.Machine.{Accounted, stateAfter, linesOf}
+use Rattle.book.specs.Follower.{Accounted, stateAfter, linesOf}
 use Rattle.machine.specs.Machine.{Machine, rules}
 use Rattle.machine.specs.Calls.{Call, done}
 use Rattle.machine.specs.Refusals.{refusal}
@@ -20,7 +20,7 @@ use Rattle.machine.specs.declared.Report.{Report}
 use Rattle.machine.proofs.NumberLaws.{numbers-tell, refusal-told}
 use Rattle.machine.proofs.Histories.{accounted}
 use Rattle.device.specs.declared.Device.{Device}
-use Rattle.device.specs.Device.{Made, Freshly}
+use Rattle.device.specs.Device.{MadeDevice, Freshly}
 use Rattle.zilborteka.specs.Lives.{inForce, machineIn, Called, Line, callsOf, Lived, grantedIn, toldIn, ledgerIn, AsTheMachine}
 use Rattle.zilborteka.specs.Lives.Lived.{none, then}
 
@@ -77,7 +77,7 @@ grants {d} {ls = x ∷ ls} (then s l) =
     rw (e, grants l, left (x .call) s) refl
 
 -- Every line leaves a device that these calls made, so that any call may come next.
-stays-made : {d d′ : Device} {ls : List Line} → Made d → Lived d ls d′ → Made d′
+stays-made : {d d′ : Device} {ls : List Line} → MadeDevice d → Lived d ls d′ → MadeDevice d′
 stays-made made none = made
 stays-made made (then s l) = stays-made (s .1) l
 

@@ -7,7 +7,7 @@ use mathlib.Core.Option.{some, Option·none-ne-some}
 use native.Mathlib.Omega.{arith}
 use lib.ListN.{getD, List·getD-eq-default}
 use borrow.Author.Tests.{eq-eqb}
-use Rattle.laws.specs.Numbers.{places}
+use Rattle.numbers.specs.Numbers.{places}
 use Rattle.laws.proofs.Choice.{lt-or}
 use Rattle.laws.proofs.ListLaws.{length-tab}
 use Rattle.pdu.specs.Replies.{What}
@@ -20,7 +20,7 @@ use Rattle.table.specs.Columns.{entryAt, tableOf}
 use Rattle.table.proofs.EntryLaws.{table-at, held, live-at}
 use Rattle.device.specs.declared.Device.{Device}
 use Rattle.device.specs.Fields.{stateOf}
-use Rattle.device.specs.Device.{Made}
+use Rattle.device.specs.Device.{MadeDevice}
 use Rattle.zilborteka.specs.Lives.{machineIn, LiveIn}
 
 -- The machine that a device is has the device's own set of clients, cursor and clock.
@@ -28,7 +28,7 @@ pub own-fields : (d : Device) → (machineIn d .attached ≡ d .attached) × (ma
 unfolding machineIn
 own-fields d = (refl, refl, refl)
 
-module _ (d : Device) (made : Made d) where
+module _ (d : Device) (made : MadeDevice d) where
   -- A place whose id is not 0 is live, and holds what its columns say.
   pub place-live : (k : ℕ) → (getD (d .ids) k 0 ≡ 0 → ⊥) → at (machineIn d .book) k ≡ some (held (stateOf d .table) k)
   unfolding machineIn

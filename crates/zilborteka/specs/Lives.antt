@@ -26,7 +26,7 @@ use Rattle.proxy.specs.State.{machineOf}
 use Rattle.proxy.specs.Gates.{adopted}
 use Rattle.device.specs.declared.Device.{Device}
 use Rattle.device.specs.Fields.{stateOf}
-use Rattle.device.specs.Device.{Served, Made}
+use Rattle.device.specs.Device.{Served, MadeDevice}
 
 -- the settings in force on a device that is made fresh from a value
 abbrev pub inForce : Settings → Value
@@ -77,7 +77,7 @@ pub record AsTheMachine (v : Value) (ls : List Line) (d′ : Device) : Type 0 wh
   -- and the calls that it saw not refused are those that the machine did not refuse
   pub granted : grantedIn ls ≡ grantedCalls v (callsOf ls)
   -- and any call may come next
-  pub next : Made d′
+  pub next : MadeDevice d′
 
 -- what a host saw, as an outcome of the machine: the answer that the report tells, the machine that the device is afterwards, and both lent buffers
 abbrev pub outcomeIn : Answer → Seen → Device → Outcome

@@ -6,7 +6,7 @@ use mathlib.Core.Bool.{true}
 use native.Mathlib.Omega.{arith}
 use denote.Ref.{now}
 use borrow.Author.Needs.{needs}
-use Rattle.laws.specs.Numbers.{places}
+use Rattle.numbers.specs.Numbers.{places}
 use Rattle.laws.proofs.Choice.{and-left}
 use Rattle.laws.proofs.SearchLaws.{Leap, leap-starts, leap-on, leap-ends}
 use Rattle.table.specs.inner.Places.{isTaken, isDue, isSooner}

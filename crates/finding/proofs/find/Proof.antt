@@ -9,7 +9,7 @@ use lib.Dec.{eqb}
 use borrow.Author.Count.{below-more, below-none}
 use borrow.Author.Tests.{eq-eqb, ne-eqb}
 use denote.Ref.{now}
-use Rattle.laws.specs.Numbers.{places}
+use Rattle.numbers.specs.Numbers.{places}
 use Rattle.table.specs.inner.Places.{holds}
 use Rattle.laws.proofs.SearchLaws.{best-nothing, first-found}
 use borrow.Author.Needs.{needs}

@@ -8,7 +8,7 @@ use native.Mathlib.Omega.{arith}
 use borrow.Author.Count.{below-more, below-none}
 use borrow.Author.Tests.{eq-eqb, ne-eqb}
 use denote.Ref.{now}
-use Rattle.laws.specs.Numbers.{ids as every-id}
+use Rattle.numbers.specs.Numbers.{ids as every-id}
 use Rattle.laws.specs.Circle.{turn, gap}
 use Rattle.pdu.specs.declared.ProxyId.{ProxyId}
 use Rattle.table.specs.inner.Places.{holds, liveId}

@@ -3,7 +3,7 @@
 use Prim.Native.Nat.{ℕ}
 use mathlib.Core.Option.{Option, some, none}
 use mathlib.Core.List.{List}
-use Rattle.rewrite.specs.Rewriting.{Rewritten, outcome}
+use Rattle.rewrite.specs.Rewriting.{Rewritten, withCounts}
 use Rattle.rewrite.specs.declared.Turned.{Turned}
 use Rattle.rewrite.specs.declared.Turned.the-variants.{Number, LeftRaw}
 use Rattle.rewrite.specs.declared.Rawness.{Rawness}
@@ -16,6 +16,6 @@ numberIn LeftRaw = none
 
 -- what a tag came to: the counts, by whether it was left raw, and the buffer
 abbrev pub counted : Rawness → List ℕ → Rewritten
-counted rawness.NotRaw d = outcome 0 0 d
-counted rawness.Partial d = outcome 1 0 d
-counted rawness.Value d = outcome 0 1 d
+counted rawness.NotRaw d = withCounts 0 0 d
+counted rawness.Partial d = withCounts 1 0 d
+counted rawness.Value d = withCounts 0 1 d

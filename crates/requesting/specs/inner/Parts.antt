@@ -4,7 +4,7 @@ use Prim.Native.Nat.{ℕ, _≤_, _<_}
 use mathlib.Core.Path.{_≡_}
 use mathlib.Core.List.{List, []}
 use lib.ListN.{length}
-use Rattle.laws.specs.Numbers.{ids, clients, latestTime, leastFrame, mostFrame, frameBuffer}
+use Rattle.numbers.specs.Numbers.{ids, clients, latestTime, leastFrame, mostFrame, frameBuffer}
 use Rattle.pdu.specs.Requests.{checkedOf}
 use Rattle.pdu.specs.Words.{wordOf, Proper}
 use Rattle.pdu.specs.declared.Asked.{Asked}
@@ -13,8 +13,8 @@ use Rattle.machine.specs.Machine.{Machine}
 use Rattle.machine.specs.Calls.{Outcome, done}
 use Rattle.machine.specs.Requests.{wanted}
 use Rattle.machine.specs.declared.Answer.{Answer}
-use Rattle.table.specs.Columns.{Columns, Sound}
-use Rattle.proxy.specs.State.{Kept, state, machineOf}
+use Rattle.table.specs.Columns.{Columns, SoundTable}
+use Rattle.proxy.specs.State.{KeptSettings, state, machineOf}
 
 -- what the gate and the check have shown of a request
 pub record Admitted (client time : ℕ) (f out : List ℕ) (a : Asked) : Type 0 where
@@ -32,7 +32,7 @@ pub record Asks (f : List ℕ) (word : ℕ) : Type 0 where
 
 -- the machine of such columns, with that cursor, at the time t under the settings k, came to what `step` says of the machine that it was, whoever is attached;
 -- and the columns are sound and the cursor an id
-pub record Came (r : Answer) (k : Kept) (t : ℕ) (c′ : Columns) (x′ : ℕ) (o′ : List ℕ) (step : Machine → Outcome) (c : Columns) (x : ℕ) : Type 0 where
+pub record Came (r : Answer) (k : KeptSettings) (t : ℕ) (c′ : Columns) (x′ : ℕ) (o′ : List ℕ) (step : Machine → Outcome) (c : Columns) (x : ℕ) : Type 0 where
   pub outcome : (s : ℕ) → done r (machineOf (state c′ x′ s t k)) o′ [] ≡ step (machineOf (state c x s t k))
-  pub table : Sound c′
+  pub table : SoundTable c′
   pub cursor : x < ids → x′ < ids

@@ -7,7 +7,7 @@ use mathlib.Core.List.{List, map}
 use mathlib.Core.Option.{some, none}
 use lib.ListN.{length, getD, take}
 use lib.Dec.{leb}
-use Rattle.laws.specs.Numbers.{mostTags, addresses, leastFrame}
+use Rattle.numbers.specs.Numbers.{mostTags, addresses, leastFrame}
 use Rattle.bcd.specs.declared.Kind.{Kind}
 use Rattle.bcd.specs.Bcd.{registers}
 use Rattle.bcd.specs.Words.{wordsOf, numberOf}
@@ -19,18 +19,18 @@ use Rattle.pdu.specs.declared.Asked.{Asked}
 use Rattle.pdu.specs.declared.Asked.the-variants.{Read, SingleWrite, MultipleWrite, Other}
 use Rattle.rewrite.specs.Registers.{registersAt, laidAt}
 use Rattle.rewrite.specs.declared.Way.{Way}
-use Rattle.rewrite.specs.Rewriting.{turned, Rewritten, outcome}
+use Rattle.rewrite.specs.Rewriting.{turned, Rewritten, withCounts}
 use Rattle.rewrite.specs.Frames.{readBase, singleBase, multipleBase}
 
 -- the tags that the first words are
 abbrev pub tagsOf : ℕ → List ℕ → List Tag
-tagsOf tagged words = map tagOf (take tagged words)
+tagsOf tagCount words = map tagOf (take tagCount words)
 
 -- tag words as a state keeps them
-pub record TagWords (tagged : ℕ) (words : List ℕ) : Type 0 where
+pub record TagWords (tagCount : ℕ) (words : List ℕ) : Type 0 where
   pub places : length words ≡ mostTags
-  pub few : tagged ≤ mostTags
-  pub ascending : Ascending 0 (tagsOf tagged words)
+  pub few : tagCount ≤ mostTags
+  pub ascending : Ascending 0 (tagsOf tagCount words)
 
 -- the registers from byte base on are in the buffer, their addresses are addresses
 pub record Run (base start quantity : ℕ) (d : List ℕ) : Type 0 where
@@ -67,4 +67,4 @@ reaches words start k = leb start (lastOf (tagOf (getD words k 0)))
 -- what becomes of a whole tag whose registers stand from byte k on
 unfoldable pub wholeLaid : Way → Kind → ℕ → List ℕ → Rewritten
 wholeLaid way kind k d =
-    elim (turned way kind (numberOf (registersAt k (registers kind) d))) [ none ↦ outcome 0 1 d | some n ↦ outcome 0 0 (laidAt k (wordsOf kind n) d) ]
+    elim (turned way kind (numberOf (registersAt k (registers kind) d))) [ none ↦ withCounts 0 1 d | some n ↦ withCounts 0 0 (laidAt k (wordsOf kind n) d) ]

@@ -7,9 +7,9 @@ use mathlib.Core.Option.{Option, some, none}
 use mathlib.Core.List.{List, [], _∷_}
 use lib.ListN.{length, getD, drop}
 use lib.Dec.{eqb, ltb, leb}
-use Rattle.laws.specs.Numbers.{mostTags, usualTimeout, newestVersion}
+use Rattle.numbers.specs.Numbers.{mostTags, usualTimeout, newestVersion}
 use Rattle.settings.specs.Lines.{Numbered, behind, numberIn, lineIn}
-use Rattle.settings.specs.Grammar.{Value, Read, versionOf, signKey, rightSign, lastRegister, readBehind, kept}
+use Rattle.settings.specs.Grammar.{Value, Read, versionOf, signKey, rightSign, lastRegister, readBehind, ruled}
 use Rattle.settings.specs.Grammar.Read.{got, wrong}
 use Rattle.settingstext.specs.declared.reading.LineRead.{LineRead}
 use Rattle.settingstext.specs.declared.reading.LineRead.the-variants.{Numbered as numberedAt, Wrong}
@@ -53,7 +53,7 @@ placedTag text (got ns r) = Tagged (getD ns 0 0) (getD ns 1 0) (getD ns 2 0) (le
 
 -- the sign of a tag of this width, from a place on: version 1 has no line for it, and it is 0
 unfoldable pub signRead : (version width at : ℕ) → List ℕ → LineRead
-signRead version width at text = cond (ltb version 2) (numberedAt 0 at) (placed text (kept (rightSign (0 ∷ width ∷ [])) (lineIn signKey (drop at text))))
+signRead version width at text = cond (ltb version 2) (numberedAt 0 at) (placed text (ruled (rightSign (0 ∷ width ∷ [])) (lineIn signKey (drop at text))))
 
 -- a wrong line, with the usual numbers and the newest version
 abbrev pub stoppedAt : ℕ → Head

@@ -7,13 +7,13 @@ use mathlib.Core.Option.{Option·map}
 use mathlib.Core.List.{List, [], _∷_, _++_, map}
 use lib.ListN.{length, getD, replicate}
 use lib.Dec.{eqb}
-use Rattle.laws.specs.Numbers.{places, room, partyPlaces}
+use Rattle.numbers.specs.Numbers.{places, room, partyPlaces}
 use Rattle.laws.specs.Bits.{with}
 use Rattle.pdu.specs.Words.{whatOf, closedBit}
 use Rattle.pdu.specs.Spoiling.{spoils}
 use Rattle.book.specs.Book.{Party, isOf, without, marked}
 use Rattle.machine.specs.Requests.{closing}
-use Rattle.table.specs.Columns.{Columns, columns, run, partiesAt, tableOf, Sound}
+use Rattle.table.specs.Columns.{Columns, columns, run, partiesAt, tableOf, SoundTable}
 
 -- the party columns have their lengths, and no place has more parties than there is room for
 pub record Runs (ns cs os : List ℕ) : Type 0 where
@@ -33,7 +33,7 @@ abbrev pub Alike : (cs os cs′ os′ : List ℕ) → ℕ → Type 0
 Alike cs os cs′ os′ i = (getD cs′ i 0 ≡ getD cs i 0) × (getD os′ i 0 ≡ getD os i 0)
 
 -- of the n parties from `base` on, those of other clients stand there without gaps and in their order, r of them; nothing else has changed
-pub record Closed (base n client r : ℕ) (cs os cs′ os′ : List ℕ) : Type 0 where
+pub record StruckOut (base n client r : ℕ) (cs os cs′ os′ : List ℕ) : Type 0 where
   pub fewer : r ≤ n
   pub rest : run cs′ os′ base r ≡ without (isOf client) (run cs os base n)
   pub before : (i : ℕ) → i < base → Alike cs os cs′ os′ i
@@ -53,8 +53,8 @@ wordAfter word id held = cond (not (eqb id 0) && spoils (whatOf word) (whatOf he
 -- the request of `word` closes what it spoils, whatever the other columns are: the table has each entry so marked, and sound columns stay sound
 abbrev pub Closes : (word top : ℕ) (is ws ws′ : List ℕ) → Type 0
 Closes word top is ws ws′ =
-    (n d k c o : List ℕ) → Sound (columns is ws n d k c o top)
-    → (tableOf (columns is ws′ n d k c o top) ≡ map (Option·map (marked (closing (whatOf word)))) (tableOf (columns is ws n d k c o top))) × Sound (columns is ws′ n d k c o top)
+    (n d k c o : List ℕ) → SoundTable (columns is ws n d k c o top)
+    → (tableOf (columns is ws′ n d k c o top) ≡ map (Option·map (marked (closing (whatOf word)))) (tableOf (columns is ws n d k c o top))) × SoundTable (columns is ws′ n d k c o top)
 
 -- one past the last live place below n
 unfoldable pub reach : List ℕ → ℕ → ℕ

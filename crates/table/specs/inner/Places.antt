@@ -6,7 +6,7 @@ use mathlib.Core.Bool.{Bool, false, not, _&&_, _||_}
 use mathlib.Core.List.{List}
 use lib.ListN.{getD}
 use lib.Dec.{eqb, ltb, leb}
-use Rattle.laws.specs.Numbers.{ids, places, room}
+use Rattle.numbers.specs.Numbers.{ids, places, room}
 use Rattle.laws.specs.Search.{first}
 use Rattle.laws.specs.Circle.{turn}
 
