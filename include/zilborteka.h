@@ -42,8 +42,8 @@ typedef struct zb_state {
     uint64_t clock;
     uint32_t timeout;
     uint32_t join;
-    uint32_t tagged;                     /* how many tags */
-    uint64_t tags[ZB_MOST_TAGS];         /* a word a tag: its address and its kind */
+    uint32_t tag_count;                  /* how many tags */
+    uint64_t tag_words[ZB_MOST_TAGS];    /* a word a tag: its address and its kind */
 } zb_state;
 
 #define ZB_STATE_SIZE 32296

@@ -1,13 +1,14 @@
 #!/usr/bin/env python3
 """facts.py: writes into the first line of each wrong program where the check refuses it, from the logs that `rt ci`, `rt must-fail` or `tools/trials` left:
 the promise or the law whose proof breaks first, and the others that break by themselves and not because they rest on one that broke.
-Run it at the top of the repository. An edit without a log keeps its line."""
-import glob
+Run it at the top of the repository. An edit without a log keeps its line. The trials of a crate are sorted by name."""
 import os
 import re
 
-STARTS = 'Refused by '
-LOGS = {'must-fail': 'target/must-fail', 'trials': 'target/trials/target/must-fail'}
+import edits
+
+# `tools/trials` tries an edit of the gate, too, if it is told its name
+GATE, TRIALS = 'target/must-fail', 'target/trials/target/must-fail'
 MOST = 10
 
 
@@ -36,18 +37,28 @@ def facts(log):
     return first, others
 
 
-for edit in sorted(glob.glob('crates/*/must-fail/*.edit') + glob.glob('crates/*/trials/*.edit')):
-    _, crate, kind, name = edit.split('/')
-    log = f'{LOGS[kind]}/{crate}/{name[:-5]}/.log'
-    if not os.path.exists(log):
-        continue
-    first, others = facts(open(log).read())
+def with_fact(text, crate, name, folders):
+    """The text of an edit with its first line from the last log of it."""
+    logs = [p for p in (f'{folder}/{crate}/{name}/.log' for folder in folders) if os.path.exists(p)]
+    if not logs:
+        return text
+    first, others = facts(open(max(logs, key=os.path.getmtime)).read())
     if first is None:
-        print(f'{edit}: no fact found')
-        continue
+        print(f'{crate}/{name}: no fact found')
+        return text
     also = '; also by ' + ', '.join(f'`{x}`' for x in others[:MOST]) if others else ''
     also += ' and others' if len(others) > MOST else ''
-    lines = open(edit).read().split('\n')
-    if lines[0].startswith(STARTS):
+    lines = text.split('\n')
+    if lines[0].startswith(edits.FIRST):
         lines = lines[1:]
-    open(edit, 'w').write('\n'.join([f'{STARTS}{first}{also}.'] + lines))
+    return '\n'.join([f'{edits.FIRST} {first}{also}.'] + lines)
+
+
+for crate in sorted(os.listdir('crates')):
+    for name, text in edits.gate_edits_of(crate).items():
+        now = with_fact(text, crate, name, (GATE, TRIALS))
+        if now != text:
+            with open(f'crates/{crate}/must-fail/{name}.edit', 'w') as file:
+                file.write(now)
+for crate in edits.crates_with_trials():
+    edits.write_trials(crate, {name: with_fact(text, crate, name, (TRIALS,)) for name, text in edits.trials_of(crate).items()})

@@ -5,7 +5,7 @@
 # Signatures, contracts and bodies are read from the sources of CRATE_DIR, of the cores and of the teller: each has at most one `requires` and one `ensures`, of the form { ⌜ .. ⌝ }.
 #   struct CRATE/Name [in WALKS]             the struct of numbers and arrays of numbers, of a crate beside this one, and the crate that has the walks over it if it is another
 #   inner NAME CRATE/Name FILE               the first field of the struct is itself a struct: its fields are those of FILE, and are lent as st.NAME.FIELD
-#   field NAME TYPE                          its fields in order; TYPE: u16, or u32x64 for [u32; 64], or u32xPLACES for [u32; laws::PLACES]
+#   field NAME TYPE                          its fields in order; TYPE: u16, or u32x64 for [u32; 64], or u32xPLACES for [u32; numbers::PLACES]
 #   use MODULE.{NAMES}                       what the laws below cite
 #   entry FN LAW [| NEED]                    LAW: what FN ensures, from `ok`, what FN requires, `told`, what its core ensures, and `tells`, what the teller does; NEED: what its core requires, from `ok`
 #                                            in both the parameters stand under their names

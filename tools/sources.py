@@ -71,7 +71,7 @@ def lines(file):
 
 
 def fields(file):
-    """The fields in a list, in their order; a size is a number or the name of a constant of the crate laws."""
+    """The fields in a list, in their order; a size is a number or the name of a constant of the crate numbers."""
     found = []
     for _, words, comment in lines(file):
         if words[0] == 'field':
@@ -84,7 +84,7 @@ def number(crates, size):
     """A size as a number."""
     if size.isdigit():
         return int(size)
-    constants = dict(re.findall(r'^pub const (\w+): usize = (.*);', text_of(f'{crates}/laws/src/lib.rt'), re.M))
+    constants = dict(re.findall(r'^pub const (\w+): usize = (.*);', text_of(f'{crates}/numbers/src/lib.rt'), re.M))
     return eval(re.sub('[A-Z_]+', lambda m: str(number(crates, m.group())), constants[size]))
 
 

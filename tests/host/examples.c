@@ -133,8 +133,8 @@ static void sizes_and_offsets(void)
     EXPECT(offsetof(zb_state, clock) == 30224 && sizeof((zb_state *)0)->clock == 8);
     EXPECT(offsetof(zb_state, timeout) == 30232 && sizeof((zb_state *)0)->timeout == 4);
     EXPECT(offsetof(zb_state, join) == 30236 && sizeof((zb_state *)0)->join == 4);
-    EXPECT(offsetof(zb_state, tagged) == 30240 && sizeof((zb_state *)0)->tagged == 4);
-    EXPECT(offsetof(zb_state, tags) == 30248 && sizeof((zb_state *)0)->tags == 2048);
+    EXPECT(offsetof(zb_state, tag_count) == 30240 && sizeof((zb_state *)0)->tag_count == 4);
+    EXPECT(offsetof(zb_state, tag_words) == 30248 && sizeof((zb_state *)0)->tag_words == 2048);
     EXPECT(sizeof(zb_settings) == 1548 && _Alignof(zb_settings) == 4);
     EXPECT(offsetof(zb_settings, timeout) == 0 && offsetof(zb_settings, join) == 4 && offsetof(zb_settings, tags) == 8);
     EXPECT(offsetof(zb_settings, addr) == 12 && offsetof(zb_settings, width) == 524 && offsetof(zb_settings, sign) == 1036);
@@ -156,8 +156,8 @@ static void fields_are_where_the_header_says(void)
     uint8_t out[ZB_FRAME_BUFFER];
     memset(&device, 0xA5, sizeof device);
     zb_fresh(&device, &settings);
-    EXPECT(device.timeout == 3000 && device.join == 1 && device.tagged == 2);
-    EXPECT((device.tags[0] & 0xFFFF) == 1024 && (device.tags[1] & 0xFFFF) == 1026);
+    EXPECT(device.timeout == 3000 && device.join == 1 && device.tag_count == 2);
+    EXPECT((device.tag_words[0] & 0xFFFF) == 1024 && (device.tag_words[1] & 0xFFFF) == 1026);
     EXPECT(device.attached == 0 && device.clock == 0 && device.cursor == 0 && device.top == 0);
     zb_attach(&device, 3);
     zb_attach(&device, 31);

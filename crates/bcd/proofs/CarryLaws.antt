@@ -11,11 +11,7 @@ use borrow.Author.Tests.{lt-ltb, le-ltb, eq-eqb, ne-eqb, eqb-true}
 use Rattle.laws.specs.Digits.{digits, below}
 use Rattle.bcd.specs.Bcd.{decimal}
 use Rattle.laws.proofs.Choice.{lt-or, same-test}
-
--- 1 in each of n nibbles
-unfoldable pub ones : ℕ → ℕ
-ones zero = 0
-ones (suc n) = ones n * 16 + 1
+use Rattle.bcd.specs.Plain.{ones}
 
 -- a mask, by its lowest nibble and the others
 and-nibble : (x m s : ℕ) → s < 16 → bitAnd x (m * 16 + s) ≡ bitAnd (x / 16) m * 16 + bitAnd (x % 16) s

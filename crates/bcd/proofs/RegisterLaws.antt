@@ -7,7 +7,7 @@ use native.Mathlib.Nat.{mod-lt, one-le-pow}
 use native.Mathlib.Omega.{arith}
 use lib.Dec.{eqb}
 use borrow.Author.Tests.{ne-eqb}
-use Rattle.laws.specs.Numbers.{minus}
+use Rattle.numbers.specs.Numbers.{minus}
 use Rattle.bcd.specs.declared.Encoded.the-variants.{Bcd}
 use Rattle.bcd.specs.declared.Decoded.the-variants.{Binary, NoNumber}
 use Rattle.bcd.specs.Bcd.{packed, unpacked, decimal, encodedDigits, decodedDigits, nibble, complement, decodedSigned}

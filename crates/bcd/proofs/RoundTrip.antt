@@ -1,6 +1,6 @@
 -- What is encoded decodes to itself and the other way round, what is refused each way, and the bounds: for any number of digits, then for any kind.
 -- Assumes nothing.
-use Prim.Native.Nat.{ℕ, suc, _*_, _-_, _%_, _^_, _≤_, _<_}
+use Prim.Native.Nat.{ℕ, suc, _*_, _-_, _^_, _≤_, _<_}
 use mathlib.Core.Path.{_≡_, ap, _∙_}
 use mathlib.Core.Logic.{_↔_, _⊎_, inl, inr, ⊎-elim, Iff·trans}
 use mathlib.Core.Bool.{true, false}
@@ -8,7 +8,7 @@ use native.Mathlib.Nat.{lt-of-lt-of-le, pow-le-pow-left}
 use native.Mathlib.Omega.{arith}
 use lib.Dec.{ltb}
 use borrow.Author.Tests.{lt-ltb, le-ltb, ltb-true, ltb-false}
-use Rattle.laws.specs.Numbers.{digitsPerRegister, signedDigits}
+use Rattle.numbers.specs.Numbers.{digitsPerRegister, signedDigits}
 use Rattle.laws.proofs.Choice.{and-left, and-right, or-either}
 use Rattle.bcd.specs.declared.Kind.{Kind}
 use Rattle.bcd.specs.declared.Kind.the-variants.{Width16, Width32, Signed16}
@@ -16,6 +16,7 @@ use Rattle.bcd.specs.declared.Encoded.the-variants.{Bcd, OutOfRange}
 use Rattle.bcd.specs.declared.Decoded.the-variants.{Binary, NoNumber}
 use Rattle.bcd.specs.Bcd.{packed, unpacked, decimal, encodedDigits, decodedDigits, registers, inRange, isPlus, isMinus, complement, encoded, decoded, nibble}
 use Rattle.laws.proofs.DigitLaws.{above-some, some-above}
+use Rattle.bcd.specs.Plain.{NoNumberOf}
 use Rattle.bcd.proofs.PackedLaws.{packed-decimal, unpacked-packed, packed-unpacked, packed-below, unpacked-below}
 use Rattle.bcd.proofs.OutcomeLaws.{encoded-within, encoded-above, decoded-decimal, decoded-other, was-within, was-above, was-decimal, was-other}
 use Rattle.bcd.proofs.SignedLaws.{signed-encode-decode, signed-decode-encode, signed-encode-refuses, signed-encode-accepts, signed-decode-refuses, signed-encoded-below, signed-decoded-in-range}
@@ -122,17 +123,6 @@ encode-accepts Signed16 v t = signed-encode-accepts signedDigits v t
 -- A value inside it is encoded to what decodes to it.
 pub round-trip : (k : Kind) (v : ℕ) → inRange k v ≡ true → (w : ℕ) × (encoded k v ≡ Bcd w) × (decoded k w ≡ Binary v)
 round-trip k v t = let s = encode-accepts k v t in (s .0, s .1, encode-decode k v (s .0) (s .1))
-
--- a nibble among the lowest n is above 9
-abbrev pub AboveNine : ℕ → ℕ → Type 0
-AboveNine n w = (i : ℕ) × (i < n) × (9 < nibble i w)
-
--- One of the registers' nibbles is above 9; below a sign, one of three, or the sign's nibble is neither 0 nor F, or the word is minus 0.
-abbrev pub NoNumberOf : Kind → ℕ → Type 0
-NoNumberOf Width16 w = AboveNine (digitsPerRegister * registers Width16) w
-NoNumberOf Width32 w = AboveNine (digitsPerRegister * registers Width32) w
-NoNumberOf Signed16 w =
-    AboveNine signedDigits w ⊎ (((nibble signedDigits w ≡ 0 → ⊥) × (nibble signedDigits w ≡ 15 → ⊥)) ⊎ (w % 65536 ≡ 0xF000))
 
 -- Words are refused exactly if they are no number of the kind.
 pub decode-refuses : (k : Kind) (w : ℕ) → (decoded k w ≡ NoNumber) ↔ NoNumberOf k w

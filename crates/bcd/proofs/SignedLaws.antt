@@ -8,7 +8,7 @@ use native.Mathlib.Nat.{pow-suc, one-le-pow, pow-le-pow-left, mul-comm, add-comm
 use native.Mathlib.Omega.{arith}
 use lib.Arith.{mod-mul, digits-div as split-div, digits-mod as split-mod}
 use borrow.Author.Tests.{lt-ltb, le-ltb, ne-eqb}
-use Rattle.laws.specs.Numbers.{minus}
+use Rattle.numbers.specs.Numbers.{minus}
 use Rattle.laws.specs.Digits.{digits, value}
 use Rattle.laws.proofs.Choice.{true-or, eq-or, lt-or, or-left, or-right, never}
 use Rattle.laws.proofs.DigitLaws.{above-some, some-above}

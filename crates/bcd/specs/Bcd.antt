@@ -4,7 +4,7 @@
 use Prim.Native.Nat.{ℕ, suc, _+_, _*_, _-_, _^_, _/_, _%_}
 use mathlib.Core.Bool.{Bool, cond, not, _&&_, _||_}
 use lib.Dec.{eqb, ltb}
-use Rattle.laws.specs.Numbers.{digitsPerRegister, signedDigits, minus}
+use Rattle.numbers.specs.Numbers.{digitsPerRegister, signedDigits, minus}
 use Rattle.laws.specs.Digits.{digits, value, below}
 use Rattle.bcd.specs.declared.Kind.{Kind}
 use Rattle.bcd.specs.declared.Kind.the-variants.{Width16, Width32, Signed16}

@@ -1,3 +1,5 @@
 pub mod Bcd
 pub mod Integers
 pub mod Words
+pub mod Plain
+pub mod Examples

@@ -5,7 +5,7 @@ ghost use Prim.Native.Nat.{_*_, _<_};
 ghost use lib.IntN.{natAbs};
 ghost use mir.Syntax.{w16};
 ghost use mir.Val.{toZ, ofZ};
-ghost use Rattle.laws.specs.Numbers.{digitsPerRegister, signedDigits};
+ghost use Rattle.numbers.specs.Numbers.{digitsPerRegister, signedDigits};
 ghost use Rattle.bcd.specs.Bcd.{packed, unpacked, decimal, encodedDigits, decodedDigits, encodedSigned, decodedSigned, registers, inRange, encoded, decoded};
 ghost use Rattle.bcd.specs.Integers.{InThreeDigits, withSign};
 

@@ -11,7 +11,7 @@ use Rattle.laws.proofs.FilterLaws.{filter-all}
 use Rattle.book.specs.Book.{Rules, Book, Event, Move, Good, Fits, apply, tell, fresh}
 use Rattle.book.specs.Ledger.{Ticket, Ledger, Apart, empty, post, posts, AllFair, Moved, whose, many}
 use Rattle.book.specs.Kept.{Kept, held}
-use Rattle.book.specs.Machine.{Machine, tells, applies, AllFit, after, history, Accounted}
+use Rattle.book.specs.Follower.{Follower, tells, applies, AllFit, after, history, Accounted, stateAfter, linesOf}
 use Rattle.book.specs.Desk.{Op, choose}
 use Rattle.book.proofs.PlaceLaws.{live-where}
 use Rattle.book.proofs.GoodLaws.{good-fresh, good-move}
@@ -83,10 +83,10 @@ module _ {R W N : Type 0} (r : Rules R) where
 truth-cast : {R W N : Type 0} (r : Rules R) (b b′ : Book R W N) (l l′ : Ledger W) → b ≡ b′ → l ≡ l′ → Truth r b′ l′ → Truth r b l
 truth-cast r b b′ l l′ p q t = subst₂ (λ x y. Truth r x y) (sym p) (sym q) t
 
-module _ {R : Type 0} {r : Rules R} {W N O : Type 0} {A : O → Type 0} {S : Type 0} (M : Machine r W N O A S) where
+module _ {R : Type 0} {r : Rules R} {W N O : Type 0} {A : O → Type 0} {S : Type 0} (M : Follower r W N O A S) where
   run : (s : S) (l : Ledger W) (os : List O) → M .Sound s → Truth r (M .bookOf s) l
       → Truth r (M .bookOf (after M s os)) (posts l (history M s os)) × AllFair l (history M s os) × M .Sound (after M s os)
-  unfolding after history posts AllFair
+  unfolding stateAfter linesOf posts AllFair
   run s l [] d t = (t, tt, d)
   run s l (o ∷ os) d t =
       let s′ = M .next s o in
@@ -104,27 +104,27 @@ module _ {R : Type 0} {r : Rules R} {W N O : Type 0} {A : O → Type 0} {S : Typ
 
   -- the state after some calls and then others, and after one more; and what calls say that come after others
   pub after-on : (s : S) (os us : List O) → after M s (os ++ us) ≡ after M (after M s os) us
-  unfolding after
+  unfolding stateAfter
   after-on s [] us = refl
   after-on s (o ∷ os) us = after-on (M .next s o) os us
 
   pub after-one : (s : S) (os : List O) (o : O) → after M s (os ++ (o ∷ [])) ≡ M .next (after M s os) o
-  unfolding after
+  unfolding stateAfter
   after-one s os o = after-on s os (o ∷ [])
 
   pub history-on : (s : S) (os us : List O) → history M s (os ++ us) ≡ history M s os ++ history M (after M s os) us
-  unfolding after history
+  unfolding stateAfter linesOf
   history-on s [] us = refl
   history-on s (o ∷ os) us = ap (λ vs. M .seen o (M .answer s o) ++ vs) (history-on (M .next s o) os us) ∙ sym (append-assoc (M .seen o (M .answer s o)) _ _)
 
   pub history-one : (s : S) (os : List O) (o : O) → history M s (os ++ (o ∷ [])) ≡ history M s os ++ M .seen o (M .answer (after M s os) o)
-  unfolding history
+  unfolding linesOf
   history-one s os o = history-on s os (o ∷ []) ∙ ap (λ vs. history M s os ++ vs) (append-nil (M .seen o (M .answer (after M s os) o)))
 
   -- every line of a history is seen at one of its calls
   pub seen-at : (s : S) (os : List O) (e : Event W) → List·Memᴰ e (history M s os)
       → (xs : List O) × (o : O) × (ys : List O) × (os ≡ xs ++ o ∷ ys) × List·Memᴰ e (M .seen o (M .answer (after M s xs) o))
-  unfolding after history
+  unfolding stateAfter linesOf
   seen-at s [] e m = absurd (List·Memᴰ·not-nil m)
   seen-at s (o ∷ os) e m =
       ⊎-elim
@@ -154,7 +154,7 @@ module _ {R W N : Type 0} (r : Rules R) (b : Book R W N) (vs : List (Event W)) (
   answers-exactly us v ws e = moved us v ws (subst (AllFair empty) e (a .answers))
 
 -- the desk is a machine that follows its book
-unfoldable pub desk : {R W N : Type 0} (r : Rules R) → R → Machine r W N (Op R W N) (λ o. Move R W N) (Book R W N)
+unfoldable pub desk : {R W N : Type 0} (r : Rules R) → R → Follower r W N (Op R W N) (λ o. Move R W N) (Book R W N)
 unfolding applies AllFit tells
 desk r x = record {
   made = x;

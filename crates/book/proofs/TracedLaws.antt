@@ -20,7 +20,7 @@ use Rattle.laws.proofs.LastLaws.{last-more, last-yes, last-no}
 use Rattle.book.specs.Book.{Rules, Party, Live, Book, Event, Move, Good, Fits, newEntry, hasId, liveIn, added, struck, marked, apply, tell}
 use Rattle.book.specs.Book.Move.{rest, pass, join, issue, reply, expire, strike, wipe, mark, adopt}
 use Rattle.book.specs.Book.Event.{passed, joined, issued, replied, expired, left, lost}
-use Rattle.book.specs.Machine.{Machine, tells, applies, AllFit, after, history}
+use Rattle.book.specs.Follower.{Follower, tells, applies, AllFit, after, history, stateAfter, linesOf}
 use Rattle.book.specs.Traced.{touches, issuedId, behind, Traced}
 use Rattle.book.proofs.PlaceLaws.{at-low, nothing-there, set-each, none-each, map-each, live-here, live-where, live-not, live-set, live-map}
 use Rattle.book.proofs.GoodLaws.{good-move}
@@ -157,9 +157,9 @@ module _ {R W N : Type 0} (r : Rules R) where
     cursor = t .1;
   }
 
-module _ {R : Type 0} {r : Rules R} {W N O : Type 0} {A : O → Type 0} {S : Type 0} (M : Machine r W N O A S) where
+module _ {R : Type 0} {r : Rules R} {W N O : Type 0} {A : O → Type 0} {S : Type 0} (M : Follower r W N O A S) where
   tracked-calls : (os : List O) → Tracked r (M .bookOf (after M (M .start) os)) (history M (M .start) os)
-  unfolding after history lastGiven
+  unfolding stateAfter linesOf lastGiven
   tracked-calls = grown (λ os. Tracked r (M .bookOf (after M (M .start) os)) (history M (M .start) os)) (rw (M .begins) (begun (r .places), refl)) (λ os o t.
       let s = after M (M .start) os in
       let g = always M os .good in

@@ -2,5 +2,5 @@ pub mod Book
 pub mod Ledger
 pub mod Traced
 pub mod Kept
-pub mod Machine
+pub mod Follower
 pub mod Desk

@@ -20,7 +20,7 @@ use Rattle.pdu.specs.declared.Asked.the-variants.{Read}
 use Rattle.pdu.proofs.SpoilingLaws.{read-spoils-none}
 use Rattle.cache.specs.Cache.{emptied, keptFrom, droppedBy}
 use Rattle.cache.proofs.CacheLaws.{emptied-sorted, dropped-sorted}
-use Rattle.caching.specs.Kept.{wordAt, cachedAt, cacheOf, Bytes, Sound, wordAfter, Drops}
+use Rattle.caching.specs.Kept.{wordAt, cachedAt, cacheOf, Bytes, SoundCache, wordAfter, Drops}
 
 -- an empty place stays empty
 pub after-none : (w : What) (held : ℕ) → held ≡ 0 → 0 ≡ wordAfter w held
@@ -54,7 +54,7 @@ dropped-read w cache t s q e = record {
 }
 
 -- Once the places below 64 are dropped, the cache has what is spoiled dropped, and the columns are sound.
-module _ (w : What) (cache₀ cache : List ℕ) (d : DroppedTo 64 w cache₀ cache) (shown : List ℕ) (s : Sound cache₀ shown) where
+module _ (w : What) (cache₀ cache : List ℕ) (d : DroppedTo 64 w cache₀ cache) (shown : List ℕ) (s : SoundCache cache₀ shown) where
   new-word : (k : ℕ) → k < 64 → wordAt cache k ≡ wordAfter w (wordAt cache₀ k)
   new-word k l = d .done k l (let b = s .long in omega arith)
 
@@ -71,7 +71,7 @@ module _ (w : What) (cache₀ cache : List ℕ) (d : DroppedTo 64 w cache₀ cac
   unfolding cacheOf droppedBy
   dropped-cache = tab-ext 64 _ _ dropped-at ∙ sym (map-tab (keptFrom w) 64 (cachedAt cache₀ shown))
 
-  dropped-sound : Sound cache shown
+  dropped-sound : SoundCache cache shown
   dropped-sound = record {
     long = d .long ∙ s .long;
     bytes = s .bytes;
@@ -97,7 +97,7 @@ pub zeros-emptied : (shown : List ℕ) → cacheOf (replicate 192 0) shown ≡ e
 unfolding cacheOf
 zeros-emptied shown = tab-ext 64 (cachedAt (replicate 192 0) shown) (λ k. none) (λ k l. rw (zero-at k)) ∙ tab-repeat 64 none
 
-pub zeros-sound : (shown : List ℕ) → Bytes shown → Sound (replicate 192 0) shown
+pub zeros-sound : (shown : List ℕ) → Bytes shown → SoundCache (replicate 192 0) shown
 zeros-sound shown b = record {
   long = length-replicate {A = ℕ} 192 0;
   bytes = b;

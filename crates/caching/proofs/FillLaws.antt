@@ -22,7 +22,7 @@ use Rattle.pdu.specs.Words.{whatOf}
 use Rattle.pdu.proofs.ReplyLaws.{excepts-exact, answers-exact, answering-room}
 use Rattle.cache.specs.Cache.{takenPlace, filledWith}
 use Rattle.cache.proofs.CacheLaws.{taken-low, filled-sorted}
-use Rattle.caching.specs.Kept.{wordAt, timeAt, bytesOf, replyTo, cached, cachedAt, cacheOf, Key, Fills, Sound}
+use Rattle.caching.specs.Kept.{wordAt, timeAt, bytesOf, replyTo, cached, cachedAt, cacheOf, Key, Fills, SoundCache}
 use Rattle.caching.proofs.KeptLaws.{key-asks, key-reads, key-bytes, word-there}
 
 -- PARTS OF A BUFFER
@@ -102,11 +102,11 @@ module _ (word : ℕ) (key : Key word) (f : List ℕ) (fills : Fills (whatOf wor
 -- THE COLUMNS
 
 -- the place that a reply to a key takes is a place
-pub taken-below : (cache shown : List ℕ) → Sound cache shown → (word time : ℕ) → Key word → takenPlace time (whatOf word) (cacheOf cache shown) < 64
+pub taken-below : (cache shown : List ℕ) → SoundCache cache shown → (word time : ℕ) → Key word → takenPlace time (whatOf word) (cacheOf cache shown) < 64
 taken-below cache shown s word time key = taken-low (cacheOf cache shown) (s .sorted) time (whatOf word) (key-reads word key)
 
 -- three numbers are stored, and bytes are laid from 256 times the place on
-module _ (cache shown : List ℕ) (s : Sound cache shown) (p word time life value : ℕ) (l : p < 64) (key : Key word) (short : life < 65536) (few : value < 4294967296) where
+module _ (cache shown : List ℕ) (s : SoundCache cache shown) (p word time life value : ℕ) (l : p < 64) (key : Key word) (short : life < 65536) (few : value < 4294967296) where
   abbrev numbers : List ℕ
   numbers = set (set (set cache p word) (64 + p) time) (128 + p) (value * 65536 + life)
 
@@ -171,7 +171,7 @@ module _ (cache shown : List ℕ) (s : Sound cache shown) (p word time life valu
           tab-set 64 p (cachedAt cache shown) (cachedAt numbers bytes) _ l held-here held-other
           ∙ ap (λ q. set (cacheOf cache shown) q (some (cached (whatOf word) time life value (laid 0 f)))) e
 
-      filled-sound : ((k : ℕ) → getD bytes k 0 < 256) → Sound numbers bytes
+      filled-sound : ((k : ℕ) → getD bytes k 0 < 256) → SoundCache numbers bytes
       filled-sound low = record {
         long = simp length-set (s .long);
         bytes = record { long = length-overAt (drop 9 f) (256 * p) shown room ∙ s .bytes .long; low = low };
@@ -187,5 +187,5 @@ module _ (cache shown : List ℕ) (s : Sound cache shown) (p word time life valu
       }
 
       -- The cache has the reply at the place that it takes, and the columns stay sound.
-      pub filled : ((k : ℕ) → getD bytes k 0 < 256) → (cacheOf numbers bytes ≡ filledWith (cached (whatOf word) time life value (laid 0 f)) (cacheOf cache shown)) × Sound numbers bytes
+      pub filled : ((k : ℕ) → getD bytes k 0 < 256) → (cacheOf numbers bytes ≡ filledWith (cached (whatOf word) time life value (laid 0 f)) (cacheOf cache shown)) × SoundCache numbers bytes
       filled low = (filled-cache, filled-sound low)

@@ -14,20 +14,20 @@ use Rattle.laws.proofs.Choice.{true-or, lt-or, or-left, same-test}
 use Rattle.laws.proofs.ListLaws.{getD-tab}
 use Rattle.laws.proofs.SearchLaws.{best-wins, best-stays, best-ext, best-some, best-none}
 use Rattle.pdu.specs.Reads.{equalReads}
-use Rattle.pdu.specs.Words.{keptIn, wordOf, whatOf, Lawful}
+use Rattle.pdu.specs.Words.{askedFrom, wordOf, whatOf, Lawful}
 use Rattle.pdu.specs.declared.Table.the-variants.{Registers}
 use Rattle.pdu.specs.declared.Asked.the-variants.{Read}
 use Rattle.pdu.proofs.RequestLaws.{class-read, known}
 use Rattle.pdu.proofs.ReadLaws.{equal-exact, equal-self}
 use Rattle.cache.specs.Cache.{inCache, hasKey, isFresh, hitPlace, ownPlace, sparePlace, oldestPlace, takenPlace}
 use Rattle.cache.proofs.CacheLaws.{hit-is-own}
-use Rattle.caching.specs.Kept.{wordAt, timeAt, bytesOf, cachedAt, cacheOf, Word, Key, Sound, hasWord, lasts, isSpare, isEarlier}
+use Rattle.caching.specs.Kept.{wordAt, timeAt, bytesOf, cachedAt, cacheOf, Word, Key, SoundCache, hasWord, lasts, isSpare, isEarlier}
 
 -- WHAT A KEY IS
 
 -- Its word asks for registers.
 pub key-asks : (n : ℕ) → Key n → whatOf n .asked ≡ Read Registers (n % 281474976710656 / 65536 % 65536) (n % 281474976710656 % 65536)
-unfolding whatOf keptIn
+unfolding whatOf askedFrom
 key-asks n key = rw (class-read (whatOf n .function) (key .reads))
 
 -- It is a read.
@@ -55,7 +55,7 @@ place-at cache shown k l = getD-tab 64 (cachedAt cache shown) k none l
 
 -- THE TESTS
 
-module _ (cache shown : List ℕ) (s : Sound cache shown) where
+module _ (cache shown : List ℕ) (s : SoundCache cache shown) where
   -- it has the key of a request exactly if it has its word
   same-key : (word : ℕ) → Word word → (k : ℕ) → k < 64 → hasKey (whatOf word) (cachedAt cache shown k) ≡ hasWord cache word k
   same-key word w k l =

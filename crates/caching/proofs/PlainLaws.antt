@@ -2,25 +2,24 @@
 -- Assumes nothing.
 use Prim.Native.Nat.{ℕ, _+_, _*_, _/_, _%_, _<_}
 use mathlib.Core.Path.{_≡_, refl, sym, _∙_, subst}
-use mathlib.Core.Logic.{_↔_, ⊎-elim, _⊎_}
+use mathlib.Core.Logic.{_↔_, ⊎-elim}
 use mathlib.Core.Bool.{true, false}
 use mathlib.Core.Option.{some, none, Option·none-ne-some}
-use mathlib.Core.List.{List, _∷_}
+use mathlib.Core.List.{List}
 use native.Mathlib.Omega.{arith}
-use lib.ListN.{length, getD, take, drop}
+use lib.ListN.{length, getD}
 use lib.Dec.{eqb}
 use borrow.Author.Tests.{eqb-true, eqb-false}
 use Rattle.laws.proofs.Choice.{true-or}
-use Rattle.pdu.specs.Words.{wordOf, whatOf, Proper}
-use Rattle.pdu.specs.declared.Table.the-variants.{Registers}
-use Rattle.pdu.specs.declared.Asked.the-variants.{Read}
+use Rattle.pdu.specs.Words.{whatOf}
 use Rattle.cache.specs.Cache.{Cached, inCache}
-use Rattle.caching.specs.Kept.{wordAt, bytesOf, replyTo, heldAt, cacheOf, Key, Sound}
+use Rattle.caching.specs.Kept.{wordAt, bytesOf, replyTo, heldAt, cacheOf, Key, SoundCache}
+use Rattle.caching.specs.Plain.{Stored}
 use Rattle.caching.proofs.KeptLaws.{key-bytes, place-at}
 use Rattle.caching.proofs.ShowLaws.{stands-held, stands-key}
 
 -- Three numbers and 256 bytes for each of 64 places.
-pub sizes : (cache shown : List ℕ) → Sound cache shown → (length cache ≡ 3 * 64) × (length shown ≡ 256 * 64) × ((k : ℕ) → getD shown k 0 < 256)
+pub sizes : (cache shown : List ℕ) → SoundCache cache shown → (length cache ≡ 3 * 64) × (length shown ≡ 256 * 64) × ((k : ℕ) → getD shown k 0 < 256)
 sizes cache shown s = (s .long, s .bytes .long, s .bytes .low)
 
 -- A place is empty exactly if its first number is 0.
@@ -32,20 +31,8 @@ empty-exactly cache shown k l =
     (λ (t : eqb (wordAt cache k) 0 ≡ false). rw t (λ h. absurd (Option·none-ne-some _ (sym h)), λ h. absurd (eqb-false _ _ t h)))
     (true-or (eqb (wordAt cache k) 0)))
 
--- what a place holds of a cached reply: the word of a read 03 or 04, the time of filling, life + 65,536 × count, no tag raw for partial cover; and the frame with id bytes 00 00, of which the registers are kept
-pub record Stored (cache shown : List ℕ) (k : ℕ) (e : Cached) : Type 0 where
-  pub proper : Proper (e .what)
-  pub reads : (e .what .function ≡ 3) ⊎ (e .what .function ≡ 4)
-  pub word : getD cache k 0 ≡ wordOf (e .what)
-  pub filled : getD cache (64 + k) 0 ≡ e .filled
-  pub counted : getD cache (128 + k) 0 ≡ e .life + 65536 * e .value
-  pub short : e .life < 65536
-  pub whole : e .partial ≡ 0
-  pub frame : (start quantity : ℕ) → e .what .asked ≡ Read Registers start quantity
-      → e .bytes ≡ 0 ∷ 0 ∷ 0 ∷ 0 ∷ 0 ∷ (3 + 2 * quantity) ∷ e .what .unit ∷ e .what .function ∷ 2 * quantity ∷ take (2 * quantity) (drop (256 * k) shown)
-
 -- What stands at a place is stored so.
-pub stored : (cache shown : List ℕ) → Sound cache shown → (k : ℕ) (e : Cached) → k < 64 → inCache (cacheOf cache shown) k ≡ some e → Stored cache shown k e
+pub stored : (cache shown : List ℕ) → SoundCache cache shown → (k : ℕ) (e : Cached) → k < 64 → inCache (cacheOf cache shown) k ≡ some e → Stored cache shown k e
 unfolding replyTo
 stored cache shown s k e l h = subst (λ x. Stored cache shown k x) (stands-held cache shown k e l h) held
   where

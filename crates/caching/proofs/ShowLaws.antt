@@ -18,7 +18,7 @@ use Rattle.laws.proofs.ByteLaws.{overAt-behind, overAt-over}
 use Rattle.wire.specs.Frame.{laid}
 use Rattle.pdu.specs.Words.{whatOf}
 use Rattle.cache.specs.Cache.{Cached, inCache}
-use Rattle.caching.specs.Kept.{wordAt, bytesOf, registersAt, replyTo, headOf, heldAt, cachedAt, cacheOf, Key, Sound}
+use Rattle.caching.specs.Kept.{wordAt, bytesOf, registersAt, replyTo, headOf, heldAt, cachedAt, cacheOf, Key, SoundCache}
 use Rattle.caching.proofs.KeptLaws.{key-bytes, place-at}
 
 -- What stands at a place is what its columns hold.
@@ -31,7 +31,7 @@ stands-held cache shown k e l h =
     (true-or (eqb (wordAt cache k) 0))
 
 -- Where something stands there is a key.
-pub stands-key : (cache shown : List ℕ) → Sound cache shown → (k : ℕ) → k < 64 → (inCache (cacheOf cache shown) k ≡ none → ⊥) → Key (wordAt cache k)
+pub stands-key : (cache shown : List ℕ) → SoundCache cache shown → (k : ℕ) → k < 64 → (inCache (cacheOf cache shown) k ≡ none → ⊥) → Key (wordAt cache k)
 stands-key cache shown s k l there = s .keys k l (λ z. there (place-at cache shown k l ∙ rw (eq-eqb (wordAt cache k) 0 z)))
 
 -- the frame under the id is the header and the registers
@@ -54,7 +54,7 @@ head-first h rs out =
     ∙ overAt-over (h ++ rs) out
 
 -- What stands at a place that is not empty, shown.
-module _ (cache shown : List ℕ) (s : Sound cache shown) (k : ℕ) (l : k < 64) (there : inCache (cacheOf cache shown) k ≡ none → ⊥) where
+module _ (cache shown : List ℕ) (s : SoundCache cache shown) (k : ℕ) (l : k < 64) (there : inCache (cacheOf cache shown) k ≡ none → ⊥) where
   abbrev word : ℕ
   word = wordAt cache k
 

@@ -89,7 +89,7 @@ pub record Bytes (shown : List ℕ) : Type 0 where
   pub low : (k : ℕ) → getD shown k 0 < 256
 
 -- what every call keeps: the columns have their lengths, a word is 0 or a key, counts fit 32 bits, and the cache is sorted
-pub record Sound (cache shown : List ℕ) : Type 0 where
+pub record SoundCache (cache shown : List ℕ) : Type 0 where
   pub long : length cache ≡ 192
   pub bytes : Bytes shown
   pub keys : (k : ℕ) → k < 64 → (wordAt cache k ≡ 0 → ⊥) → Key (wordAt cache k)
@@ -117,4 +117,4 @@ wordAfter w held = cond (spoils w (whatOf held)) 0 held
 
 -- the issue of w drops what it spoils, whatever bytes stand beside: the cache is the one with these dropped, and sound columns stay sound
 abbrev pub Drops : What → (cache cache′ : List ℕ) → Type 0
-Drops w cache cache′ = (shown : List ℕ) → Sound cache shown → (cacheOf cache′ shown ≡ droppedBy w (cacheOf cache shown)) × Sound cache′ shown
+Drops w cache cache′ = (shown : List ℕ) → SoundCache cache shown → (cacheOf cache′ shown ≡ droppedBy w (cacheOf cache shown)) × SoundCache cache′ shown

@@ -5,14 +5,14 @@ ghost use mathlib.Core.Option.{none, some};
 ghost use mathlib.Core.List.{List};
 ghost use Prim.Native.Nat.{ℕ, _+_, _*_, _≤_, _<_};
 ghost use lib.ListN.{length, getD, set};
-ghost use Rattle.laws.specs.Numbers.{frameBuffer};
+ghost use Rattle.numbers.specs.Numbers.{frameBuffer};
 ghost use Rattle.laws.specs.Bytes.{over, overAt};
 ghost use Rattle.laws.specs.Search.{best};
 ghost use Rattle.wire.specs.Frame.{laid};
 ghost use Rattle.pdu.specs.Replies.{What};
 ghost use Rattle.pdu.specs.Words.{whatOf};
 ghost use Rattle.cache.specs.Cache.{Cached, inCache, emptied, hitPlace, takenPlace, filledWith, droppedBy};
-ghost use Rattle.caching.specs.Kept.{headOf, cached, cacheOf, Word, Key, Fills, Bytes, Sound, hasWord, lasts, isSpare, isEarlier, wordAfter, Drops};
+ghost use Rattle.caching.specs.Kept.{headOf, cached, cacheOf, Word, Key, Fills, Bytes, SoundCache, hasWord, lasts, isSpare, isEarlier, wordAfter, Drops};
 use pdu::Asked;
 
 pub const PLACES: usize = 64;
@@ -66,7 +66,7 @@ fn is_fresh(cache: &[u64; CACHE], place: usize, time: u64) -> bool
 // The place that a request hits, and PLACES where there is none.
 pub fn hit_place(cache: &[u64; CACHE], word: u64, time: u64) -> usize
     requires { ⌜ Word word ⌝ }
-    ensures { λ r. ⌜ ((shown : List ℕ) → Sound (now (cache .entry)) shown → r ≡ hitPlace time (whatOf word) (cacheOf (now (cache .entry)) shown)) ⌝ }
+    ensures { λ r. ⌜ ((shown : List ℕ) → SoundCache (now (cache .entry)) shown → r ≡ hitPlace time (whatOf word) (cacheOf (now (cache .entry)) shown)) ⌝ }
 {
     let own = own_place(cache, word);
     if PLACES <= own {
@@ -110,7 +110,7 @@ fn oldest_place(cache: &[u64; CACHE]) -> usize
 // The place that a reply to a request takes: its own, else the lowest that is empty or expired, else the oldest.
 pub fn taken_place(cache: &[u64; CACHE], word: u64, time: u64) -> usize
     requires { ⌜ Word word ⌝ }
-    ensures { λ r. ⌜ ((shown : List ℕ) → Sound (now (cache .entry)) shown → r ≡ takenPlace time (whatOf word) (cacheOf (now (cache .entry)) shown)) ⌝ }
+    ensures { λ r. ⌜ ((shown : List ℕ) → SoundCache (now (cache .entry)) shown → r ≡ takenPlace time (whatOf word) (cacheOf (now (cache .entry)) shown)) ⌝ }
 {
     let own = own_place(cache, word);
     if own < PLACES {
@@ -173,7 +173,7 @@ pub fn drop_met(cache: &mut [u64; CACHE], unit: u8, what: Asked)
 
 // Nothing is cached any more.
 pub fn empty(cache: &mut [u64; CACHE])
-    ensures { λ r. ⌜ ((shown : List ℕ) → Bytes shown → (cacheOf (now (cache .exit)) shown ≡ emptied) × Sound (now (cache .exit)) shown) ⌝ }
+    ensures { λ r. ⌜ ((shown : List ℕ) → Bytes shown → (cacheOf (now (cache .exit)) shown ≡ emptied) × SoundCache (now (cache .exit)) shown) ⌝ }
 {
     *cache = [0u64; CACHE];
 }
@@ -207,10 +207,10 @@ pub fn fill<'a>(
     value: u32,
     frame: &[u8],
 )
-    requires { ⌜ Sound (now cache) (now shown) × (place ≡ takenPlace time (whatOf word) (cacheOf (now cache) (now shown))) ⌝ }
+    requires { ⌜ SoundCache (now cache) (now shown) × (place ≡ takenPlace time (whatOf word) (cacheOf (now cache) (now shown))) ⌝ }
     requires { ⌜ Key word × Fills (whatOf word) (now frame) ⌝ }
     ensures { λ r. ⌜ cacheOf (now (cache .exit)) (now (shown .exit)) ≡ filledWith (cached (whatOf word) time life value (laid 0 (now (frame .entry)))) (cacheOf (now (cache .entry)) (now (shown .entry))) ⌝ }
-    ensures { λ r. ⌜ Sound (now (cache .exit)) (now (shown .exit)) ⌝ }
+    ensures { λ r. ⌜ SoundCache (now (cache .exit)) (now (shown .exit)) ⌝ }
 {
     store(cache, place, word, time, value as u64 * LIVES + life as u64);
     lay(shown, ROOM * place, &frame[HEAD..]);
@@ -241,7 +241,7 @@ pub fn show(
     low: u8,
     out: &mut [u8],
 ) -> u32
-    requires { ⌜ Sound (now cache) (now shown) × (place < 64) × (inCache (cacheOf (now cache) (now shown)) place ≡ none → ⊥) ⌝ }
+    requires { ⌜ SoundCache (now cache) (now shown) × (place < 64) × (inCache (cacheOf (now cache) (now shown)) place ≡ none → ⊥) ⌝ }
     requires { ⌜ frameBuffer ≤ length (now out) ⌝ }
     ensures { λ r. ⌜ ((e : Cached) → inCache (cacheOf (now (cache .entry)) (now (shown .entry))) place ≡ some e → (r ≡ length (e .bytes)) × (now (out .exit) ≡ over (laid (high * 256 + low) (e .bytes)) (now (out .entry)))) ⌝ }
 {
@@ -256,7 +256,7 @@ pub fn show(
 
 // How many tags were raw for value in what stands at a place.
 pub fn value_at(cache: &[u64; CACHE], place: usize) -> u32
-    requires { ⌜ ((shown : List ℕ) × Sound (now cache) shown) × (place < 64) ⌝ }
+    requires { ⌜ ((shown : List ℕ) × SoundCache (now cache) shown) × (place < 64) ⌝ }
     ensures { λ r. ⌜ ((shown : List ℕ) (e : Cached) → inCache (cacheOf (now (cache .entry)) shown) place ≡ some e → r ≡ e .value) ⌝ }
 {
     (cache[2 * PLACES + place] / LIVES) as u32

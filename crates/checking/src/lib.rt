@@ -7,7 +7,7 @@ ghost use mathlib.Core.Path.{_≡_};
 ghost use Prim.Native.Nat.{_+_};
 ghost use mathlib.Core.Bool.{cond};
 ghost use lib.Dec.{ltb};
-ghost use Rattle.laws.specs.Numbers.{addresses, illegalAddress, illegalValue};
+ghost use Rattle.numbers.specs.Numbers.{addresses, illegalAddress, illegalValue};
 ghost use Rattle.pdu.specs.Requests.{checkedBy, checkedOf};
 use pdu::Asked;
 use pdu::Checked;
@@ -21,7 +21,7 @@ const BYTE_COUNT_AT: usize = 12;
 fn ends_past(start: u16, quantity: u16) -> bool
     ensures { λ r. ⌜ r ≡ ltb addresses (start + quantity) ⌝ }
 {
-    laws::ADDRESSES < start as u32 + quantity as u32
+    numbers::ADDRESSES < start as u32 + quantity as u32
 }
 
 // Behind refusal 6: exception 03, exception 02, legal.
@@ -29,10 +29,10 @@ fn judge(misvalued: bool, misranged: bool, asked: Asked) -> Checked
     ensures { λ r. ⌜ r ≡ cond misvalued (Checked.Excepted illegalValue) (cond misranged (Checked.Excepted illegalAddress) (Checked.Legal asked)) ⌝ }
 {
     if misvalued {
-        return Checked::Excepted(laws::ILLEGAL_VALUE);
+        return Checked::Excepted(numbers::ILLEGAL_VALUE);
     }
     if misranged {
-        return Checked::Excepted(laws::ILLEGAL_ADDRESS);
+        return Checked::Excepted(numbers::ILLEGAL_ADDRESS);
     }
     Checked::Legal(asked)
 }
@@ -41,7 +41,7 @@ fn judge(misvalued: bool, misranged: bool, asked: Asked) -> Checked
 fn check_read(table: Table, frame: &[u8]) -> Checked
     ensures { λ r. ⌜ r ≡ checkedBy (Class.Reads table) (now (frame .entry)) ⌝ }
 {
-    if wire::pdu_size(frame) != laws::SHORT_PDU {
+    if wire::pdu_size(frame) != numbers::SHORT_PDU {
         return Checked::BadLength;
     }
     let start = wire::pair_at(frame, pdu::START_AT);
@@ -61,7 +61,7 @@ fn check_read(table: Table, frame: &[u8]) -> Checked
 fn check_single_write(table: Table, frame: &[u8]) -> Checked
     ensures { λ r. ⌜ r ≡ checkedBy (Class.WritesOne table) (now (frame .entry)) ⌝ }
 {
-    if wire::pdu_size(frame) != laws::SHORT_PDU {
+    if wire::pdu_size(frame) != numbers::SHORT_PDU {
         return Checked::BadLength;
     }
     let address = wire::pair_at(frame, pdu::START_AT);
@@ -73,7 +73,7 @@ fn check_single_write(table: Table, frame: &[u8]) -> Checked
     };
     match table {
         Table::Bits => judge(
-            !((value == laws::COIL_OFF) | (value == laws::COIL_ON)),
+            !((value == numbers::COIL_OFF) | (value == numbers::COIL_ON)),
             false,
             asked,
         ),
@@ -87,7 +87,7 @@ fn check_multiple_write(table: Table, frame: &[u8]) -> Checked
 {
     let size = wire::pdu_size(frame);
     let count = laws::wide(wire::byte_at(frame, BYTE_COUNT_AT));
-    if (size < laws::MULTIPLE_PDU) | (size != laws::MULTIPLE_PDU + count) {
+    if (size < numbers::MULTIPLE_PDU) | (size != numbers::MULTIPLE_PDU + count) {
         return Checked::BadLength;
     }
     let start = wire::pair_at(frame, pdu::START_AT);
@@ -109,7 +109,7 @@ pub fn check_request(frame: &[u8]) -> Checked
     ensures { λ r. ⌜ r ≡ checkedOf (now (frame .entry)) ⌝ }
 {
     let function = wire::function_of(frame);
-    if (function == 0) | (laws::LAST_FUNCTION < function) {
+    if (function == 0) | (numbers::LAST_FUNCTION < function) {
         return Checked::BadFunction;
     }
     match pdu::class_of(function) {

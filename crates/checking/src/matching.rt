@@ -2,7 +2,7 @@
 ghost use mathlib.Core.Path.{_≡_};
 ghost use mathlib.Core.Bool.{_&&_};
 ghost use lib.Dec.{eqb};
-ghost use Rattle.laws.specs.Numbers.{shortPdu};
+ghost use Rattle.numbers.specs.Numbers.{shortPdu};
 ghost use Rattle.wire.specs.Frame.{pduSize};
 ghost use Rattle.pdu.specs.Requests.{startOf, quantityOf};
 ghost use Rattle.pdu.specs.Replies.{what, shaped, excepts, answering};
@@ -16,7 +16,7 @@ const REPLY_COUNT_AT: usize = 8;
 fn is_short(frame: &[u8], first: u16, second: u16) -> bool
     ensures { λ r. ⌜ r ≡ (eqb (pduSize (now (frame .entry))) shortPdu && (eqb (startOf (now (frame .entry))) first && eqb (quantityOf (now (frame .entry))) second)) ⌝ }
 {
-    (wire::pdu_size(frame) == laws::SHORT_PDU)
+    (wire::pdu_size(frame) == numbers::SHORT_PDU)
         & ((wire::pair_at(frame, pdu::START_AT) == first)
             & (wire::pair_at(frame, pdu::QUANTITY_AT) == second))
 }
@@ -42,7 +42,7 @@ fn is_shaped(asked: Asked, frame: &[u8]) -> bool
         } => match table {
             Table::Bits => is_short(frame, address, value),
             Table::Registers => {
-                (size == laws::SHORT_PDU) & (wire::pair_at(frame, pdu::START_AT) == address)
+                (size == numbers::SHORT_PDU) & (wire::pair_at(frame, pdu::START_AT) == address)
             }
         },
         Asked::MultipleWrite {
@@ -59,8 +59,8 @@ pub fn is_exception(function: u8, frame: &[u8]) -> bool
     ensures { λ r. ⌜ r ≡ excepts function (now (frame .entry)) ⌝ }
 {
     let told = laws::wide(wire::function_of(frame));
-    (told == laws::wide(function) + laws::wide(laws::EXCEPTION_BIT))
-        & (wire::pdu_size(frame) == laws::EXCEPTION_PDU)
+    (told == laws::wide(function) + laws::wide(numbers::EXCEPTION_BIT))
+        & (wire::pdu_size(frame) == numbers::EXCEPTION_PDU)
 }
 
 // Whether a reply answers a request to that unit, of that function, that asked this.

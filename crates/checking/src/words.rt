@@ -3,7 +3,7 @@ ghost use mathlib.Core.Path.{_≡_};
 ghost use Prim.Native.Nat.{_%_, _<_};
 ghost use Rattle.laws.specs.Bits.{has, with};
 ghost use Rattle.pdu.specs.Replies.{what};
-ghost use Rattle.pdu.specs.Words.{kept, keptIn, wordOf, whatOf, closedBit, whatIn, entryOf};
+ghost use Rattle.pdu.specs.Words.{askedBits, askedFrom, wordOf, whatOf, closedBit, whatIn, entryOf};
 use pdu::Asked;
 use pdu::Class;
 use pdu::Entry;
@@ -20,8 +20,8 @@ const KEPT: u64 = FIELDS * FIELDS * FIELDS;
 const CLOSED: u64 = FIELDS * FIELDS;
 
 // What a class keeps of what was asked, in 48 bits.
-fn kept_of(asked: Asked) -> u64
-    ensures { λ r. ⌜ (r ≡ kept asked) × (r < 281474976710656) ⌝ }
+fn asked_bits(asked: Asked) -> u64
+    ensures { λ r. ⌜ (r ≡ askedBits asked) × (r < 281474976710656) ⌝ }
 {
     match asked {
         Asked::Read {
@@ -47,8 +47,8 @@ fn kept_of(asked: Asked) -> u64
 pub fn word_of(unit: u8, function: u8, asked: Asked) -> u64
     ensures { λ r. ⌜ r ≡ wordOf (what unit function asked) ⌝ }
 {
-    let kept = kept_of(asked);
-    (unit as u64 * BYTES + function as u64) * KEPT + kept
+    let bits = asked_bits(asked);
+    (unit as u64 * BYTES + function as u64) * KEPT + bits
 }
 
 // The lowest 8 bits, and the lowest 16.
@@ -65,11 +65,11 @@ fn low_field(n: u64) -> u16
 }
 
 // What was asked, from what its class kept.
-fn kept_in(class: Class, kept: u64) -> Asked
-    ensures { λ r. ⌜ r ≡ keptIn class kept ⌝ }
+fn asked_from(class: Class, bits: u64) -> Asked
+    ensures { λ r. ⌜ r ≡ askedFrom class bits ⌝ }
 {
-    let first = low_field(kept / FIELDS);
-    let second = low_field(kept);
+    let first = low_field(bits / FIELDS);
+    let second = low_field(bits);
     match class {
         Class::Reads(table) => Asked::Read {
             table,
@@ -106,7 +106,7 @@ pub fn function_in(word: u64) -> u8
 pub fn asked_in(word: u64) -> Asked
     ensures { λ r. ⌜ r ≡ whatOf word .asked ⌝ }
 {
-    kept_in(pdu::class_of(function_in(word)), word % KEPT)
+    asked_from(pdu::class_of(function_in(word)), word % KEPT)
 }
 
 // Whether a word has bit 32, and the word with it.

@@ -1,5 +1,5 @@
 // A call made on a state, with buffers that are looked at as a whole afterwards.
-ghost use Rattle.state.specs.States.{Made};
+ghost use Rattle.state_by_value.specs.States.{MadeState};
 use parts::before;
 use parts::behind;
 use parts::field;
@@ -14,11 +14,11 @@ use scripts::naming::value_in;
 use scripts::telling::KEPT;
 use scripts::telling::KEPT_PLACE;
 use scripts::telling::tell;
-use state::State;
-use state::calls::Stepped;
+use state_by_value::State;
+use state_by_value::calls::Stepped;
 
 // How many places the list has of which a call is lent the start: some more than it needs.
-const LISTED: usize = laws::LIST_BUFFER + 4;
+const LISTED: usize = numbers::LIST_BUFFER + 4;
 
 // The state afterwards, and how far what came of the call is what must come of it.
 pub struct Ran {
@@ -33,29 +33,29 @@ fn number_in(call: &[u8], k: usize) -> u64 {
 
 // A call on the state; those that need none leave it, and are not made here.
 fn step(state: State, call: &[u8], frame: &[u8], out: &mut [u8], list: &mut [u16]) -> Stepped
-    requires { ⌜ Made state ⌝ }
-    ensures { λ r. ⌜ Made (r .state) ⌝ }
+    requires { ⌜ MadeState state ⌝ }
+    ensures { λ r. ⌜ MadeState (r .state) ⌝ }
 {
     let client = (number_in(call, 1) % 4294967296) as u32;
     let time = number_in(call, 2);
     match letter(call) {
-        b'f' => state::calls::fresh(value_in(call)),
-        b'a' => state::calls::attach(state, client),
-        b'd' => state::calls::detach(state, client),
-        b'Q' => requests::request(state, client, number_in(call, 3), frame, out),
-        b'P' => replies::reply(state, time, frame, out, list),
-        b't' => ticks::tick(state, time, out, list),
-        _ => state::calls::link_lost(state),
+        b'f' => state_by_value::calls::fresh(value_in(call)),
+        b'a' => state_by_value::calls::attach(state, client),
+        b'd' => state_by_value::calls::detach(state, client),
+        b'Q' => request_by_value::request(state, client, number_in(call, 3), frame, out),
+        b'P' => reply_by_value::reply(state, time, frame, out, list),
+        b't' => tick_by_value::tick(state, time, out, list),
+        _ => state_by_value::calls::link_lost(state),
     }
 }
 
 // Lends the start of each buffer to a call.
 fn lend(state: State, call: &[u8], frame: &[u8], out: &mut [u8], list: &mut [u16]) -> Stepped
-    requires { ⌜ Made state ⌝ }
-    ensures { λ r. ⌜ Made (r .state) ⌝ }
+    requires { ⌜ MadeState state ⌝ }
+    ensures { λ r. ⌜ MadeState (r .state) ⌝ }
 {
-    let lent = length_in(call, b'o', laws::FRAME_BUFFER, out.len());
-    let places = length_in(call, b'l', laws::LIST_BUFFER, list.len());
+    let lent = length_in(call, b'o', numbers::FRAME_BUFFER, out.len());
+    let places = length_in(call, b'l', numbers::LIST_BUFFER, list.len());
     step(
         state,
         head(call, b','),
@@ -67,8 +67,8 @@ fn lend(state: State, call: &[u8], frame: &[u8], out: &mut [u8], list: &mut [u16
 
 // A call on the state, in buffers that are filled before it and looked at as a whole behind it.
 fn run_call(state: State, right: &[u8], call: &[u8], bytes: &[u8]) -> Ran
-    requires { ⌜ Made state ⌝ }
-    ensures { λ r. ⌜ Made (r .state) ⌝ }
+    requires { ⌜ MadeState state ⌝ }
+    ensures { λ r. ⌜ MadeState (r .state) ⌝ }
 {
     let mut frame = [0u8; 300];
     let parsed = parse(bytes, &mut frame);
@@ -84,8 +84,8 @@ fn run_call(state: State, right: &[u8], call: &[u8], bytes: &[u8]) -> Ran
 
 // A call, with what came of it said.
 pub fn run(state: State, right: &[u8], row: &[u8]) -> Ran
-    requires { ⌜ Made state ⌝ }
-    ensures { λ r. ⌜ Made (r .state) ⌝ }
+    requires { ⌜ MadeState state ⌝ }
+    ensures { λ r. ⌜ MadeState (r .state) ⌝ }
 {
     let call = head(row, b':');
     let bytes = behind(rest(row, b':'), 1);

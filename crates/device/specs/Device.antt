@@ -8,14 +8,14 @@ use Rattle.machine.specs.Calls.{Call}
 use Rattle.machine.specs.declared.Report.{Report}
 use Rattle.machine.specs.declared.NextDeadline.{NextDeadline}
 use Rattle.machine.specs.Waiting.{nextDeadline}
-use Rattle.proxy.specs.State.{machineOf, Sounds}
+use Rattle.proxy.specs.State.{machineOf, SoundState}
 use Rattle.proxy.specs.Calls.{Told, FreshlyTold}
 use Rattle.device.specs.declared.Device.{Device}
 use Rattle.device.specs.Fields.{stateOf}
 
 -- every device that these calls made
-abbrev pub Made : Device → Type 0
-Made d = Sounds (stateOf d)
+abbrev pub MadeDevice : Device → Type 0
+MadeDevice d = SoundState (stateOf d)
 
 -- from the device d a call comes to this report, this device and these buffers, as document 01 says, and these calls made the device; a refusal leaves every field of the
 -- device as it was (a state has the fields of its device: `same-device`)

@@ -3,13 +3,13 @@
 use Prim.Native.Nat.{ℕ}
 use mathlib.Core.List.{List}
 use lib.ListN.{replicate}
-use Rattle.laws.specs.Numbers.{places, partyPlaces, mostTags}
+use Rattle.numbers.specs.Numbers.{places, partyPlaces, mostTags}
 use Rattle.proxy.specs.State.{State, lent}
 use Rattle.device.specs.declared.Device.{Device}
 
 -- a device of its fields
-abbrev pub device : (ids asked callers deadlines counts clients originals : List ℕ) (top cursor attached clock timeout join tagged : ℕ) (tags : List ℕ) → Device
-device ids asked callers deadlines counts clients originals top cursor attached clock timeout join tagged tags =
+abbrev pub device : (ids asked callers deadlines counts clients originals : List ℕ) (top cursor attached clock timeout join tagCount : ℕ) (tagWords : List ℕ) → Device
+device ids asked callers deadlines counts clients originals top cursor attached clock timeout join tagCount tagWords =
     record {
       ids = ids;
       asked = asked;
@@ -24,13 +24,13 @@ device ids asked callers deadlines counts clients originals top cursor attached 
       clock = clock;
       timeout = timeout;
       join = join;
-      tagged = tagged;
-      tags = tags;
+      «tag_count» = tagCount;
+      «tag_words» = tagWords;
     }
 
 -- the state that its columns and numbers are
 abbrev pub stateOf : Device → State
-stateOf d = lent (d .ids) (d .asked) (d .callers) (d .deadlines) (d .counts) (d .clients) (d .originals) (d .top) (d .cursor) (d .attached) (d .clock) (d .timeout) (d .join) (d .tagged) (d .tags)
+stateOf d = lent (d .ids) (d .asked) (d .callers) (d .deadlines) (d .counts) (d .clients) (d .originals) (d .top) (d .cursor) (d .attached) (d .clock) (d .timeout) (d .join) (d .«tag_count») (d .«tag_words»)
 
 -- the device that is all zeros
 abbrev pub zeros : Device

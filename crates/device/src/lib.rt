@@ -5,21 +5,21 @@ ghost use Rattle.device.specs.Fields.{stateSize};
 // The device's state, changed in place: C's struct zb_state.
 #[repr(C)]
 pub struct Device {
-    pub ids: [u32; laws::PLACES],
-    pub asked: [u64; laws::PLACES],
-    pub callers: [u8; laws::PLACES],
-    pub deadlines: [u64; laws::PLACES],
-    pub counts: [u8; laws::PLACES],
-    pub clients: [u8; laws::PARTY_PLACES],
-    pub originals: [u16; laws::PARTY_PLACES],
+    pub ids: [u32; numbers::PLACES],
+    pub asked: [u64; numbers::PLACES],
+    pub callers: [u8; numbers::PLACES],
+    pub deadlines: [u64; numbers::PLACES],
+    pub counts: [u8; numbers::PLACES],
+    pub clients: [u8; numbers::PARTY_PLACES],
+    pub originals: [u16; numbers::PARTY_PLACES],
     pub top: u32,
     pub cursor: u16,
     pub attached: u32,
     pub clock: u64,
     pub timeout: u32,
     pub join: u32,
-    pub tagged: u32,
-    pub tags: [u64; laws::MOST_TAGS],
+    pub tag_count: u32,
+    pub tag_words: [u64; numbers::MOST_TAGS],
 }
 
 // The fields lie in their order, each at a multiple of its element's size.

@@ -9,12 +9,12 @@ use native.Mathlib.Omega.{arith}
 use borrow.Author.Count.{below-more}
 use lib.ListN.{getD}
 use borrow.Author.Tests.{eqb-true}
-use Rattle.laws.specs.Numbers.{ids, places}
+use Rattle.numbers.specs.Numbers.{ids, places}
 use Rattle.laws.specs.Circle.{turn, gap}
 use Rattle.laws.proofs.Choice.{true-or, eq-or, or-second}
 use Rattle.laws.proofs.PigeonLaws.{crowd}
 use Rattle.laws.proofs.CircleLaws.{turn-inj, turn-gap, gap-low, turn-low, gap-none, gap-next}
-use Rattle.table.specs.Places.{holds, liveId, freeIdFrom}
+use Rattle.table.specs.inner.Places.{holds, liveId, freeIdFrom}
 use Rattle.laws.proofs.SearchLaws.{first-is}
 
 -- An id that stands at a place is live.

@@ -9,12 +9,12 @@ use native.Mathlib.Omega.{arith}
 use lib.ListN.{getD}
 use lib.Dec.{eqb, ltb, leb}
 use borrow.Author.Tests.{eq-eqb, ne-eqb, eqb-false, leb-true, not-true}
-use Rattle.laws.specs.Numbers.{places}
+use Rattle.numbers.specs.Numbers.{places}
 use Rattle.laws.specs.Search.{best}
 use Rattle.laws.proofs.Choice.{and-right}
 use Rattle.laws.proofs.SearchLaws.{best-in, best-wins, best-stays, first-cut}
 use Rattle.laws.proofs.SoonerLaws.{sooner-come, later-not, sooner-by, higher-not}
-use Rattle.table.specs.Places.{isFree, isTaken, isDue, isSooner, Topped}
+use Rattle.table.specs.inner.Places.{isFree, isTaken, isDue, isSooner, Topped}
 
 -- A place beats nothing: that it passes is enough.
 pub beats-none : {t r : Bool} (b : Bool) {found none : ℕ} → r ≡ t → found ≡ none → r ≡ (t && (eqb found none || b))

@@ -6,13 +6,13 @@ ghost use Prim.Native.Nat.{ℕ, _+_, _<_, _≤_};
 ghost use mathlib.Core.Bool.{cond, true, false, _&&_, _||_};
 ghost use lib.ListN.{getD};
 ghost use lib.Dec.{eqb, ltb, leb};
-ghost use Rattle.laws.specs.Numbers.{places};
+ghost use Rattle.numbers.specs.Numbers.{places};
 ghost use Rattle.laws.specs.Search.{best, first, least, count};
 ghost use Rattle.machine.specs.Waiting.{noDeadline};
-ghost use Rattle.table.specs.Places.{isFree, isTaken, holds, isOpen, isDue, isLower, isSooner, freeIdFrom, Topped};
+ghost use Rattle.table.specs.inner.Places.{isFree, isTaken, holds, isOpen, isDue, isLower, isSooner, freeIdFrom, Topped};
 
 // The place that is live under that id, and PLACES where none is.
-pub fn find(ids: &[u32; laws::PLACES], top: usize, id: ProxyId) -> usize
+pub fn find(ids: &[u32; numbers::PLACES], top: usize, id: ProxyId) -> usize
     requires { ⌜ top ≤ places ⌝ }
     ensures { λ r. ⌜ r ≡ best (holds (now (ids .entry)) (id .0)) (λ j k. false) places top ⌝ }
 {
@@ -24,11 +24,11 @@ pub fn find(ids: &[u32; laws::PLACES], top: usize, id: ProxyId) -> usize
         }
         k += 1;
     }
-    laws::PLACES
+    numbers::PLACES
 }
 
 // The deadline of a live place, and NO_DEADLINE of a free one.
-fn deadline_at(ids: &[u32; laws::PLACES], deadlines: &[u64; laws::PLACES], k: usize) -> u64
+fn deadline_at(ids: &[u32; numbers::PLACES], deadlines: &[u64; numbers::PLACES], k: usize) -> u64
     requires { ⌜ k < places ⌝ }
     ensures { λ r. ⌜ r ≡ cond (isTaken (now (ids .entry)) k) (getD (now (deadlines .entry)) k 0) noDeadline ⌝ }
 {
@@ -40,7 +40,11 @@ fn deadline_at(ids: &[u32; laws::PLACES], deadlines: &[u64; laws::PLACES], k: us
 }
 
 // The least deadline of the live places, and NO_DEADLINE where none is live.
-fn least_deadline(ids: &[u32; laws::PLACES], deadlines: &[u64; laws::PLACES], top: usize) -> u64
+fn least_deadline(
+    ids: &[u32; numbers::PLACES],
+    deadlines: &[u64; numbers::PLACES],
+    top: usize,
+) -> u64
     requires { ⌜ top ≤ places ⌝ }
     ensures { λ r. ⌜ r ≡ least (isTaken (now (ids .entry))) (λ k. getD (now (deadlines .entry)) k 0) noDeadline top ⌝ }
 {
@@ -57,7 +61,7 @@ fn least_deadline(ids: &[u32; laws::PLACES], deadlines: &[u64; laws::PLACES], to
 }
 
 // How many places are live.
-fn count_live(ids: &[u32; laws::PLACES], top: usize) -> u32
+fn count_live(ids: &[u32; numbers::PLACES], top: usize) -> u32
     requires { ⌜ top ≤ places ⌝ }
     ensures { λ r. ⌜ r ≡ count (isTaken (now (ids .entry))) top ⌝ }
 {
@@ -74,8 +78,8 @@ fn count_live(ids: &[u32; laws::PLACES], top: usize) -> u32
 
 // When the host has to tick next: the least deadline of the live places, and how many they are.
 pub fn next_deadline<'a>(
-    ids: &'a [u32; laws::PLACES],
-    deadlines: &'a [u64; laws::PLACES],
+    ids: &'a [u32; numbers::PLACES],
+    deadlines: &'a [u64; numbers::PLACES],
     top: &'a u32,
 ) -> NextDeadline
     requires { ⌜ now top ≤ places ⌝ }
@@ -87,7 +91,12 @@ pub fn next_deadline<'a>(
     NextDeadline { time, live }
 }
 
-fn is_due(ids: &[u32; laws::PLACES], deadlines: &[u64; laws::PLACES], time: u64, k: usize) -> bool
+fn is_due(
+    ids: &[u32; numbers::PLACES],
+    deadlines: &[u64; numbers::PLACES],
+    time: u64,
+    k: usize,
+) -> bool
     requires { ⌜ k < places ⌝ }
     ensures { λ r. ⌜ r ≡ isDue (now (ids .entry)) (now (deadlines .entry)) time k ⌝ }
 {
@@ -95,7 +104,7 @@ fn is_due(ids: &[u32; laws::PLACES], deadlines: &[u64; laws::PLACES], time: u64,
 }
 
 // A place from `from` on up to which every deadline is later: four a turn, and all that a tick with nothing due looks at.
-fn skip_later(deadlines: &[u64; laws::PLACES], from: usize, top: usize, latest: u64) -> usize
+fn skip_later(deadlines: &[u64; numbers::PLACES], from: usize, top: usize, latest: u64) -> usize
     requires { ⌜ (from ≤ top) × (top ≤ places) ⌝ }
     ensures { λ r. ⌜ (from ≤ r) × (r ≤ top) × ((j : ℕ) → from ≤ j → j < r → latest < getD (now (deadlines .entry)) j 0) ⌝ }
 {
@@ -115,8 +124,8 @@ fn skip_later(deadlines: &[u64; laws::PLACES], from: usize, top: usize, latest: 
 
 // The first place that is due, and top where none is.
 fn first_due(
-    ids: &[u32; laws::PLACES],
-    deadlines: &[u64; laws::PLACES],
+    ids: &[u32; numbers::PLACES],
+    deadlines: &[u64; numbers::PLACES],
     top: usize,
     time: u64,
 ) -> usize
@@ -135,8 +144,8 @@ fn first_due(
 
 // Every place passes that is live with an earlier deadline, or with that one and an id up to the highest.
 fn may_be_sooner(
-    ids: &[u32; laws::PLACES],
-    deadlines: &[u64; laws::PLACES],
+    ids: &[u32; numbers::PLACES],
+    deadlines: &[u64; numbers::PLACES],
     latest: u64,
     highest: u32,
     k: usize,
@@ -149,8 +158,8 @@ fn may_be_sooner(
 
 // A place from `from` on up to which none passes that: four a turn, for many that are due together.
 fn skip_higher(
-    ids: &[u32; laws::PLACES],
-    deadlines: &[u64; laws::PLACES],
+    ids: &[u32; numbers::PLACES],
+    deadlines: &[u64; numbers::PLACES],
     from: usize,
     top: usize,
     latest: u64,
@@ -175,8 +184,8 @@ fn skip_higher(
 
 // The place is live with an earlier deadline, or with that one and an id up to the highest.
 fn is_sooner(
-    ids: &[u32; laws::PLACES],
-    deadlines: &[u64; laws::PLACES],
+    ids: &[u32; numbers::PLACES],
+    deadlines: &[u64; numbers::PLACES],
     latest: u64,
     highest: u32,
     k: usize,
@@ -189,8 +198,8 @@ fn is_sooner(
 
 // The next place that is live and sooner than the one that was found, and top where none is.
 fn next_sooner(
-    ids: &[u32; laws::PLACES],
-    deadlines: &[u64; laws::PLACES],
+    ids: &[u32; numbers::PLACES],
+    deadlines: &[u64; numbers::PLACES],
     top: usize,
     found: usize,
 ) -> usize
@@ -214,15 +223,15 @@ fn next_sooner(
 
 // Of the places that are due, the earliest, ties to the smallest id; PLACES where none is.
 pub fn earliest(
-    ids: &[u32; laws::PLACES],
-    deadlines: &[u64; laws::PLACES],
+    ids: &[u32; numbers::PLACES],
+    deadlines: &[u64; numbers::PLACES],
     top: usize,
     time: u64,
 ) -> usize
     requires { ⌜ top ≤ places ⌝ }
     ensures { λ r. ⌜ r ≡ best (isDue (now (ids .entry)) (now (deadlines .entry)) time) (isSooner (now (ids .entry)) (now (deadlines .entry))) places top ⌝ }
 {
-    let mut found: usize = laws::PLACES;
+    let mut found: usize = numbers::PLACES;
     let mut next = first_due(ids, deadlines, top, time);
     while next < top {
         found = next;
@@ -238,10 +247,10 @@ pub struct Seats {
 }
 
 fn is_open(
-    ids: &[u32; laws::PLACES],
-    asked: &[u64; laws::PLACES],
-    deadlines: &[u64; laws::PLACES],
-    counts: &[u8; laws::PLACES],
+    ids: &[u32; numbers::PLACES],
+    asked: &[u64; numbers::PLACES],
+    deadlines: &[u64; numbers::PLACES],
+    counts: &[u8; numbers::PLACES],
     word: u64,
     time: u64,
     k: usize,
@@ -249,15 +258,16 @@ fn is_open(
     requires { ⌜ k < places ⌝ }
     ensures { λ r. ⌜ r ≡ isOpen (now (ids .entry)) (now (asked .entry)) (now (deadlines .entry)) (now (counts .entry)) word time k ⌝ }
 {
-    (ids[k] != 0) & ((asked[k] == word) & ((counts[k] < laws::ROOM as u8) & (time < deadlines[k])))
+    (ids[k] != 0)
+        & ((asked[k] == word) & ((counts[k] < numbers::ROOM as u8) & (time < deadlines[k])))
 }
 
 // The place may be joined, and has a smaller id than what was found so far.
 fn is_lowest_open(
-    ids: &[u32; laws::PLACES],
-    asked: &[u64; laws::PLACES],
-    deadlines: &[u64; laws::PLACES],
-    counts: &[u8; laws::PLACES],
+    ids: &[u32; numbers::PLACES],
+    asked: &[u64; numbers::PLACES],
+    deadlines: &[u64; numbers::PLACES],
+    counts: &[u8; numbers::PLACES],
     word: u64,
     time: u64,
     k: usize,
@@ -266,7 +276,7 @@ fn is_lowest_open(
     requires { ⌜ (k < places) × (found ≤ places) ⌝ }
     ensures { λ r. ⌜ r ≡ (isOpen (now (ids .entry)) (now (asked .entry)) (now (deadlines .entry)) (now (counts .entry)) word time k && (eqb found places || isLower (now (ids .entry)) k found)) ⌝ }
 {
-    if found == laws::PLACES {
+    if found == numbers::PLACES {
         is_open(ids, asked, deadlines, counts, word, time, k)
     } else {
         is_open(ids, asked, deadlines, counts, word, time, k) & (ids[k] < ids[found])
@@ -274,7 +284,7 @@ fn is_lowest_open(
 }
 
 // The lowest free place: where none is below top, it is top itself.
-fn lowest_free(ids: &[u32; laws::PLACES], top: usize) -> usize
+fn lowest_free(ids: &[u32; numbers::PLACES], top: usize) -> usize
     requires { ⌜ Topped (now ids) top ⌝ }
     ensures { λ r. ⌜ r ≡ best (isFree (now (ids .entry))) (λ j k. false) places places ⌝ }
 {
@@ -290,10 +300,10 @@ fn lowest_free(ids: &[u32; laws::PLACES], top: usize) -> usize
 
 // Both places in one scan.
 fn open_and_free(
-    ids: &[u32; laws::PLACES],
-    asked: &[u64; laws::PLACES],
-    deadlines: &[u64; laws::PLACES],
-    counts: &[u8; laws::PLACES],
+    ids: &[u32; numbers::PLACES],
+    asked: &[u64; numbers::PLACES],
+    deadlines: &[u64; numbers::PLACES],
+    counts: &[u8; numbers::PLACES],
     top: usize,
     word: u64,
     time: u64,
@@ -302,7 +312,7 @@ fn open_and_free(
     ensures { λ r. ⌜ (r .open ≡ best (isOpen (now (ids .entry)) (now (asked .entry)) (now (deadlines .entry)) (now (counts .entry)) word time) (isLower (now (ids .entry))) places top)
         × (r .free ≡ best (isFree (now (ids .entry))) (λ j k. false) places places) ⌝ }
 {
-    let mut open: usize = laws::PLACES;
+    let mut open: usize = numbers::PLACES;
     let mut free: usize = top;
     let mut k: usize = 0;
     while k < top {
@@ -319,10 +329,10 @@ fn open_and_free(
 
 // Where a request that asks `word` would be kept: a request that may not join looks for a free place only.
 pub fn find_seats(
-    ids: &[u32; laws::PLACES],
-    asked: &[u64; laws::PLACES],
-    deadlines: &[u64; laws::PLACES],
-    counts: &[u8; laws::PLACES],
+    ids: &[u32; numbers::PLACES],
+    asked: &[u64; numbers::PLACES],
+    deadlines: &[u64; numbers::PLACES],
+    counts: &[u8; numbers::PLACES],
     top: usize,
     joining: bool,
     word: u64,
@@ -336,14 +346,14 @@ pub fn find_seats(
         open_and_free(ids, asked, deadlines, counts, top, word, time)
     } else {
         Seats {
-            open: laws::PLACES,
+            open: numbers::PLACES,
             free: lowest_free(ids, top),
         }
     }
 }
 
 // The first id that is not live, from the cursor upward, past the last to 0.
-pub fn free_id(ids: &[u32; laws::PLACES], top: usize, cursor: ProxyId) -> ProxyId
+pub fn free_id(ids: &[u32; numbers::PLACES], top: usize, cursor: ProxyId) -> ProxyId
     requires { ⌜ top ≤ places ⌝ }
     ensures { λ r. ⌜ r .0 ≡ freeIdFrom (now (ids .entry)) top (cursor .0) ⌝ }
 {

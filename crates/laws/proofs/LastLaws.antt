@@ -5,7 +5,7 @@ use mathlib.Core.Logic.{⊎-elim, _⊎_, inl, inr, _↔_}
 use mathlib.Core.Bool.{Bool, true, false, cond}
 use mathlib.Core.Option.{Option, some, none, orElse, Option·none-ne-some, Option·some-ne-none, Option·some-injective}
 use mathlib.Core.List.{List, [], _∷_, _++_, List·Memᴰ, List·Memᴰ·head, List·Memᴰ·tail, List·Memᴰ·not-nil, List·Memᴰ·cases-cons}
-use Rattle.laws.specs.Lists.{lastGiven, lastOf}
+use Rattle.laws.specs.Lists.{lastGiven, lastOf, Silent, Last}
 use Rattle.laws.proofs.Choice.{cond-first, cond-second}
 
 module _ {B : Type 0} where
@@ -35,47 +35,39 @@ module _ {A B : Type 0} (f : A → Option B) where
   unfolding lastGiven orElse
   last-more xs x = last-append xs (x ∷ [])
 
-  -- f gives nothing along the list
-  abbrev pub Silent : List A → Type 0
-  Silent zs = (z : A) → List·Memᴰ z zs → f z ≡ none
-
-  silent-last : (zs : List A) → Silent zs → lastGiven f zs ≡ none
+  silent-last : (zs : List A) → Silent f zs → lastGiven f zs ≡ none
   unfolding lastGiven orElse
   silent-last [] h = refl
   silent-last (z ∷ zs) h = rw (silent-last zs (λ y m. h y (List·Memᴰ·tail m))) (h z (List·Memᴰ·head refl))
 
-  last-silent : (zs : List A) → lastGiven f zs ≡ none → Silent zs
+  last-silent : (zs : List A) → lastGiven f zs ≡ none → Silent f zs
   unfolding lastGiven
   last-silent [] e z m = absurd (List·Memᴰ·not-nil m)
   last-silent (y ∷ zs) e z m =
       let w = neither (lastGiven f zs) (f y) e in
       ⊎-elim (λ (q : z ≡ y). ap f q ∙ w .1) (λ (n : List·Memᴰ z zs). last-silent zs (w .0) z n) (List·Memᴰ·cases-cons m)
 
-  -- an element gives b, and nothing is given behind it
-  abbrev pub Last : List A → B → Type 0
-  Last xs b = (ys : List A) × (x : A) × (zs : List A) × (xs ≡ ys ++ x ∷ zs) × (f x ≡ some b) × Silent zs
-
   -- seen from one element before
-  earlier : (x : A) (xs : List A) (b : B) (o : Option B) → lastGiven f xs ≡ o → (lastGiven f xs ≡ some b → Last xs b) → orElse o (f x) ≡ some b → Last (x ∷ xs) b
+  earlier : (x : A) (xs : List A) (b : B) (o : Option B) → lastGiven f xs ≡ o → (lastGiven f xs ≡ some b → Last f xs b) → orElse o (f x) ≡ some b → Last f (x ∷ xs) b
   unfolding orElse
   earlier x xs b none e i h = ([], x, xs, refl, h, last-silent xs e)
   earlier x xs b (some c) e i h = let w = i (e ∙ h) in (x ∷ w .0, w .1, w .2, ap (x ∷_) (w .3), w .4, w .5)
 
-  found : (xs : List A) (b : B) → lastGiven f xs ≡ some b → Last xs b
+  found : (xs : List A) (b : B) → lastGiven f xs ≡ some b → Last f xs b
   unfolding lastGiven
   found [] b e = absurd (Option·none-ne-some b e)
   found (x ∷ xs) b e = earlier x xs b (lastGiven f xs) refl (found xs b) e
 
-  given : (ys : List A) (x : A) (zs : List A) (b : B) → f x ≡ some b → Silent zs → lastGiven f (ys ++ x ∷ zs) ≡ some b
+  given : (ys : List A) (x : A) (zs : List A) (b : B) → f x ≡ some b → Silent f zs → lastGiven f (ys ++ x ∷ zs) ≡ some b
   unfolding lastGiven orElse
   given [] x zs b e n = rw (silent-last zs n) e
   given (y ∷ ys) x zs b e n = rw (given ys x zs b e n) refl
 
   -- the last value is b exactly if an element gives it and nothing is given behind that; there is none exactly if nothing is given
-  pub last-exactly : (xs : List A) (b : B) → (lastGiven f xs ≡ some b) ↔ Last xs b
+  pub last-exactly : (xs : List A) (b : B) → (lastGiven f xs ≡ some b) ↔ Last f xs b
   last-exactly xs b = (found xs b, λ w. ap (lastGiven f) (w .3) ∙ given (w .0) (w .1) (w .2) b (w .4) (w .5))
 
-  pub none-exactly : (xs : List A) → (lastGiven f xs ≡ none) ↔ Silent xs
+  pub none-exactly : (xs : List A) → (lastGiven f xs ≡ none) ↔ Silent f xs
   none-exactly xs = (last-silent xs, silent-last xs)
 
 module _ {A : Type 0} (p : A → Bool) where

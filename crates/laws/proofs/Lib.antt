@@ -1,4 +1,3 @@
-pub mod DocumentLaws
 pub mod Choice
 pub mod TestLaws
 pub mod ListLaws

@@ -1,4 +1,3 @@
-pub mod Numbers
 pub mod Lists
 pub mod Search
 pub mod Circle

@@ -10,7 +10,7 @@ use native.Mathlib.Omega.{arith}
 use lib.ListN.{length, getD, set}
 use lib.Seq.{getD-set-same}
 use borrow.Author.Tests.{not-false}
-use Rattle.laws.specs.Numbers.{places, noResponse}
+use Rattle.numbers.specs.Numbers.{places, noResponse}
 use Rattle.laws.specs.Bytes.{over}
 use Rattle.laws.proofs.Choice.{eq-or, lt-or}
 use Rattle.wire.specs.Frame.{idOf, laid, exception}
@@ -26,19 +26,20 @@ use Rattle.rewrite.specs.Frames.{returned}
 use Rattle.rewrite.specs.Plain.{Rewrites}
 use Rattle.rewrite.proofs.FrameLaws.{returned-read}
 use Rattle.rewrite.proofs.TurnedLaws.{stands-rewritten}
-use Rattle.book.specs.Book.{Live, Good, NothingDue, at, book}
+use Rattle.book.specs.Book.{Live, Good, NothingDue, at}
 use Rattle.book.specs.Book.Move.{pass}
 use Rattle.book.specs.Desk.{duePlace, idPlace}
 use Rattle.book.proofs.GoodLaws.{good-move}
 use Rattle.book.proofs.DeskLaws.{due-found, due-none, id-found}
 use Rattle.book.proofs.PlaceLaws.{at-low}
-use Rattle.machine.specs.Machine.{Machine, Note, Live-book, machine, rules, settings, clocked}
+use Rattle.machine.specs.Machine.{Machine, Note, Live-book, rules, settings, clocked}
 use Rattle.machine.specs.Calls.{Outcome, done}
 use Rattle.machine.specs.Calls.Call.{reply, tick}
 use Rattle.machine.specs.Refusals.{rows, refusal, entryFor, isMismatched}
 use Rattle.machine.specs.Replies.{pairs, answeredTo, answered, expiredTo, ticked}
 use Rattle.machine.specs.Outcomes.{granted, outcome}
 use Rattle.machine.specs.declared.Answer.the-variants as answer
+use Rattle.machine.specs.Answered.{Answers, Expires, showing}
 use Rattle.machine.proofs.RefusalLaws.{refusal-changes-nothing}
 use Rattle.machine.proofs.LowestLaws.{none-applies}
 use Rattle.machine.proofs.OutcomeLaws.{granted-is, reply-finds, clocked-at}
@@ -47,21 +48,6 @@ use Rattle.machine.proofs.Follows.{same-entry}
 -- a reply that is not refused answers the entry that it finds
 matched : (f : List ℕ) (q : Option (Live What Note)) (e : Live What Note) → isMismatched f q ≡ false → q ≡ some e → answering (e .what) f ≡ true
 matched f q e n h = not-false (answering (e .what) f) (sym (ap (isMismatched f) h) ∙ n)
-
--- what a reply that is not refused does: the entry under its id, which it answers, is gone; what is said; its whole frame and list
-pub record Answers (m : Machine) (f o l : List ℕ) (d : Outcome) : Type 0 where
-  pub place : ℕ
-  pub entry : Live What Note
-  pub there : at (m .book) place ≡ some entry
-  pub same : entry .id ≡ idOf f
-  pub matches : answering (entry .what) f ≡ true
-  pub gone : at (d .after .book) place ≡ none
-  pub says : d .says ≡ answer.Answered (record { 0 = entry .id }) (length f) (length (entry .parties)) (returned (settings m .tags) (entry .what) f .partial) (returned (settings m .tags) (entry .what) f .value)
-  pub frame : d .written ≡ over (laid 0 (returned (settings m .tags) (entry .what) f .bytes)) o
-  -- of a reply to a read of registers that is no exception: every register, turned to binary by its tag or as it came, and what the counts are
-  pub rewritten : (s q : ℕ) → entry .what .asked ≡ Read Registers s q → excepts (entry .what .function) f ≡ false
-      → Rewrites ToBinary (settings m .tags) f (d .written) (returned (settings m .tags) (entry .what) f .partial) (returned (settings m .tags) (entry .what) f .value) 9 s q
-  pub list : d .listed ≡ over (pairs (entry .parties)) l
 
 answered-frame : (m : Machine) (k : ℕ) (f o l : List ℕ) (e : Live What Note)
     → (answeredTo m k f o l (some e) .written ≡ over (laid 0 (returned (settings m .tags) (e .what) f .bytes)) o) × (answeredTo m k f o l (some e) .listed ≡ over (pairs (e .parties)) l)
@@ -112,18 +98,6 @@ reply-answers m t f o l g h =
       rewritten = λ s n y z. rw frame (read-rewritten (settings m .tags) (e .0 .what) f o matches s n y z);
       list = ap (λ (y : Outcome). y .listed) q ∙ answered-frame (clocked m t) k f o l (e .0) .1;
     }
-
--- what a tick that ends an entry does: the entry was due, no other was due before it, and it is gone; what is said; its whole frame and list
-pub record Expires (m : Machine) (t : ℕ) (o l : List ℕ) (d : Outcome) : Type 0 where
-  pub place : ℕ
-  pub entry : Live What Note
-  pub there : at (m .book) place ≡ some entry
-  pub due : entry .deadline ≤ t
-  pub earliest : (k : ℕ) (e : Live What Note) → at (m .book) k ≡ some e → e .deadline ≤ t → (entry .deadline < e .deadline) ⊎ ((entry .deadline ≡ e .deadline) × (entry .id ≤ e .id))
-  pub gone : at (d .after .book) place ≡ none
-  pub says : d .says ≡ answer.TimedOut (record { 0 = entry .id }) (length (entry .parties))
-  pub frame : d .written ≡ over (exception 0 (entry .what .unit) (entry .what .function) noResponse) o
-  pub list : d .listed ≡ over (pairs (entry .parties)) l
 
 expired-says : (m : Machine) (k : ℕ) (o l : List ℕ) (e : Live What Note) → (expiredTo m k o l (some e) .says ≡ answer.NothingDue → ⊥)
     × (expiredTo m k o l (some e) .written ≡ over (exception 0 (e .what .unit) (e .what .function) noResponse) o) × (expiredTo m k o l (some e) .listed ≡ over (pairs (e .parties)) l)
@@ -177,10 +151,6 @@ tick-expires m t o l g h n =
     (spot b k)
 
 -- WHERE NOTHING IS DUE
-
--- m, with its clock at t
-abbrev pub showing : Machine → ℕ → Machine
-showing m t = machine (book (settings m) (m .book .places) (m .book .cursor) t) (m .attached)
 
 -- no live entry of m is due at t
 abbrev pub NoneDue : Machine → ℕ → Type 0

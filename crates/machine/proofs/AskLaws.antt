@@ -5,13 +5,12 @@ use mathlib.Core.Path.{_≡_, refl, ap, sym, _∙_}
 use mathlib.Core.Logic.{⊎-elim, _⊎_, inl, inr}
 use mathlib.Core.Bool.{Bool, true, false, true≢false}
 use mathlib.Core.Option.{Option, some, none, Option·map}
-use mathlib.Core.List.{List, [], _∷_, _++_, map}
+use mathlib.Core.List.{List, map}
 use native.Mathlib.Omega.{arith}
 use lib.ListN.{length, getD, set, drop, length-append, length-drop, List·getD-map}
 use lib.Seq.{getD-append-add, getD-drop, getD-set-same, getD-set-other}
 use borrow.Author.Tests.{ltb-false}
-use Rattle.laws.specs.Numbers.{ids, places, frameBuffer, deviceFailure}
-use Rattle.laws.specs.Circle.{turn}
+use Rattle.numbers.specs.Numbers.{places, frameBuffer, deviceFailure}
 use Rattle.laws.specs.Bytes.{over}
 use Rattle.laws.proofs.Choice.{eq-or, never}
 use Rattle.wire.specs.Frame.{laid, exception}
@@ -32,7 +31,7 @@ use Rattle.rewrite.specs.Plain.{OfBits, Rewrites}
 use Rattle.rewrite.specs.Plain.OfBits.{coils-read, discrete-read, coil-written, coils-written}
 use Rattle.rewrite.proofs.FrameLaws.{length-forwarded, stands-under}
 use Rattle.rewrite.proofs.TurnedLaws.{stands-rewritten}
-use Rattle.book.specs.Book.{Live, Next, Good, at, newEntry, marked}
+use Rattle.book.specs.Book.{Live, Good, at, newEntry, marked}
 use Rattle.book.specs.Desk.{freePlace, freeId}
 use Rattle.book.proofs.PlaceLaws.{at-low}
 use Rattle.book.proofs.DeskLaws.{free-found, next-free}
@@ -42,18 +41,14 @@ use Rattle.machine.specs.Calls.Call.{request}
 use Rattle.machine.specs.Refusals.{refusal}
 use Rattle.machine.specs.Requests.{wanted, partyOf, closing, excepted, joinedTo, issuedTo}
 use Rattle.machine.specs.Outcomes.{outcome}
-use Rattle.machine.specs.Spelled.{asker, spelled, asking}
+use Rattle.machine.specs.Spelled.{spelled, asking}
 use Rattle.machine.specs.declared.Answer.the-variants as answer
+use Rattle.machine.specs.Requested.{MayJoin, NoneToJoin, Carries, Issues, Joins, Excepts}
+use Rattle.machine.specs.Requested.Carries.{single, multiple}
 use Rattle.machine.proofs.SpelledLaws.{party-spelled, asked-spelled, wanted-spelled}
-use Rattle.machine.proofs.JoinLaws.{MayJoin}
 use Rattle.machine.proofs.OutcomeLaws.{clocked-at, not-refused}
 use Rattle.machine.proofs.RequestLaws.Comes.{faulty, joining, full, issuing}
-use Rattle.machine.proofs.RequestLaws.{NoneToJoin, Comes, comes, request-passes, fault-checked}
-
--- which registers a write carries: from which byte on, of which addresses; a write of coils carries none
-pub data Carries : Asked → (base start quantity : ℕ) → Type 0 where
-  single : {a v : ℕ} → Carries (SingleWrite Registers a v) 10 a 1
-  multiple : {s q : ℕ} → Carries (MultipleWrite Registers s q) 13 s q
+use Rattle.machine.proofs.RequestLaws.{Comes, comes, request-passes, fault-checked}
 
 -- what carries registers, and that 01, 02, 05 and 15 carry none
 carrying : Asked → Bool
@@ -80,76 +75,6 @@ spelled-none n a b coils-written = refl
 pub bits-carry-none : (f : List ℕ) → OfBits (getD f 7 0) → (base start quantity : ℕ) → Carries (asking f .asked) base start quantity → ⊥
 unfolding asking
 bits-carry-none f b base start quantity c = true≢false (sym (carries-some c) ∙ spelled-none (getD f 7 0) _ _ b)
-
--- A request that goes out. It is legal, and nothing is there that it may join.
-pub record Issues (m : Machine) (c t : ℕ) (f o : List ℕ) (d : Outcome) : Type 0 where
-  pub is-legal : legal (settings m) f ≡ true
-  pub alone : NoneToJoin m t f
-  -- the answer: the first id from the cursor on that is not live, the frame's length, and how many tags stay raw for partial cover and for value
-  pub id : ℕ
-  pub partial : ℕ
-  pub value : ℕ
-  pub next : Next rules (m .book) id
-  pub says : d .says ≡ answer.Issued (record { 0 = id }) (length f) partial value
-  -- the buffer: the id, the frame with its registers rewritten, and behind it what was there
-  pub high : getD (d .written) 0 0 ≡ id / 256
-  pub low : getD (d .written) 1 0 ≡ id % 256
-  pub rewritten : (base start quantity : ℕ) → Carries (asking f .asked) base start quantity → Rewrites ToBcd (settings m .tags) f (d .written) partial value base start quantity
-  pub unchanged : ((base start quantity : ℕ) → Carries (asking f .asked) base start quantity → ⊥)
-      → ((k : ℕ) → 2 ≤ k → k < length f → getD (d .written) k 0 ≡ getD f k 0) × (partial ≡ 0) × (value ≡ 0)
-  pub behind : (k : ℕ) → length f ≤ k → getD (d .written) k 0 ≡ getD o k 0
-  pub size : length (d .written) ≡ length o
-  -- all of it at once, by the definition of what is forwarded
-  pub frame : d .written ≡ over (laid id (forwarded (settings m .tags) (asking f .asked) f .bytes)) o
-  pub listed : d .listed ≡ []
-  -- the machine: a place that was free holds the request, which is open, every other place has what it had, but that a read which the request spoils is closed, and the cursor stands
-  -- behind the id
-  pub place : ℕ
-  pub free : at (m .book) place ≡ none
-  pub entered : at (d .after .book) place ≡ some (record { id = id; what = asking f; by = c; note = opened; deadline = t + settings m .timeout; parties = asker c f ∷ [] })
-  pub others : (k : ℕ) → (k ≡ place → ⊥) → at (d .after .book) k ≡ Option·map (marked (closing (asking f))) (at (m .book) k)
-  pub cursor : d .after .book .cursor ≡ turn ids (id + 1)
-  pub clock : d .after .book .clock ≡ t
-  pub attached : d .after .attached ≡ m .attached
-  pub rule : settings (d .after) ≡ settings m
-
--- A request that joins. It is legal, and the entry has the smallest id of those that it may join.
-pub record Joins (m : Machine) (c t : ℕ) (f o : List ℕ) (d : Outcome) : Type 0 where
-  pub is-legal : legal (settings m) f ≡ true
-  pub place : ℕ
-  pub entry : Live What Note
-  pub there : at (m .book) place ≡ some entry
-  pub may : MayJoin m t f entry
-  pub smallest : (k : ℕ) (e : Live What Note) → at (m .book) k ≡ some e → MayJoin m t f e → entry .id ≤ e .id
-  -- the answer is that id, and the buffer is as it came
-  pub says : d .says ≡ answer.Joined (record { 0 = entry .id })
-  pub written : d .written ≡ o
-  pub listed : d .listed ≡ []
-  -- the machine: the entry has one party more, the last
-  pub added : at (d .after .book) place
-      ≡ some (record { id = entry .id; what = entry .what; by = entry .by; note = entry .note; deadline = entry .deadline; parties = entry .parties ++ (asker c f ∷ []) })
-  pub others : (k : ℕ) → (k ≡ place → ⊥) → at (d .after .book) k ≡ at (m .book) k
-  pub cursor : d .after .book .cursor ≡ m .book .cursor
-  pub clock : d .after .book .clock ≡ t
-  pub attached : d .after .attached ≡ m .attached
-  pub rule : settings (d .after) ≡ settings m
-
--- A request that gets an exception: 02 or 03, which the check of its bytes gives, or 04.
-pub record Excepts (m : Machine) (t : ℕ) (f o : List ℕ) (d : Outcome) : Type 0 where
-  pub code : ℕ
-  pub codes : (code ≡ 2) ⊎ ((code ≡ 3) ⊎ (code ≡ 4))
-  pub checked : (code ≡ 4 → ⊥) → checkedOf f ≡ check.Excepted code
-  pub says : d .says ≡ answer.Excepted code
-  -- the buffer: nine bytes for the caller, under its own id, and behind them what was there
-  pub frame : ((k : ℕ) → getD f k 0 < 256) → d .written ≡ (getD f 0 0 ∷ getD f 1 0 ∷ 0 ∷ 0 ∷ 0 ∷ 3 ∷ getD f 6 0 ∷ (getD f 7 0 + 128) ∷ code ∷ drop 9 o)
-  pub size : length (d .written) ≡ length o
-  pub listed : d .listed ≡ []
-  -- the machine: only the clock is set
-  pub places : d .after .book .places ≡ m .book .places
-  pub cursor : d .after .book .cursor ≡ m .book .cursor
-  pub clock : d .after .book .clock ≡ t
-  pub attached : d .after .attached ≡ m .attached
-  pub rule : settings (d .after) ≡ settings m
 
 -- BYTES
 

@@ -11,7 +11,7 @@ use mathlib.Core.List.{List, [], _∷_, _++_, append-assoc, List·Memᴰ, List·
 use native.Mathlib.Omega.{arith}
 use lib.ListN.{length, getD, take}
 use borrow.Author.Tests.{eqb-true}
-use Rattle.laws.specs.Numbers.{places, ids, distance, latestTime}
+use Rattle.numbers.specs.Numbers.{places, ids, distance, latestTime}
 use Rattle.laws.specs.Lists.{filter, lastGiven, lastOf}
 use Rattle.laws.specs.Bits.{has}
 use Rattle.laws.specs.Bytes.{over}
@@ -40,7 +40,7 @@ use Rattle.book.specs.Book.Event.{passed, issued, left, lost}
 use Rattle.book.specs.Ledger.{Ticket, Apart, Differing, Anew, under, partiesOf}
 use Rattle.book.specs.Traced.{touches, issuedId, behind, Outstanding, Holds}
 use Rattle.book.specs.Desk.{AllLive}
-use Rattle.book.specs.Machine.{Accounted, history}
+use Rattle.book.specs.Follower.{Accounted, history, linesOf}
 use Rattle.book.proofs.History.{always-sound, ids-come-round-late, after-on, after-one, history-on}
 use Rattle.book.proofs.SpacedLaws.{apart-exactly}
 use Rattle.book.proofs.TracedLaws.{traced}
@@ -49,34 +49,38 @@ use Rattle.machine.specs.Machine.{Machine, Note, made, rules, settings}
 use Rattle.machine.specs.Calls.{Call, Outcome, done, outOf, listOf, timeOf}
 use Rattle.machine.specs.Calls.Call.{attach, detach, request, reply, tick, linkLost}
 use Rattle.machine.specs.Refusals.{rows, lowest, refusal}
-use Rattle.machine.specs.Numbers.{numbers}
+use Rattle.machine.specs.Numbers.{numbers, Tells}
 use Rattle.machine.specs.Requests.{wanted, partyOf}
 use Rattle.machine.specs.Outcomes.{granted, outcome}
 use Rattle.machine.specs.Granted.{grantedCalls, concerns}
-use Rattle.machine.specs.Waiting.{nextDeadline}
-use Rattle.machine.specs.Spelled.{asker, asking}
-use Rattle.machine.specs.Histories.{seenOf, events, told}
+use Rattle.machine.specs.Waiting.{nextDeadline, Waits}
+use Rattle.machine.specs.Spelled.{asker, asking, AskedBy}
+use Rattle.machine.specs.Histories.{seenOf, events, told, afterCalls, toldBy, toldSince, ledgerOf, Origin}
 use Rattle.machine.specs.Closed.{Unspoiled, Joinable, Meets}
 use Rattle.machine.specs.declared.Answer.{Answer}
 use Rattle.machine.specs.declared.Answer.the-variants as answer
-use Rattle.machine.proofs.RefusalLaws.{table, Applies, refused-exactly}
+use Rattle.machine.specs.RefusalTable.{table, Applies}
+use Rattle.machine.specs.Requested.{NoneToJoin, Carries, Issues, Joins, Excepts, Accepts, Stands}
+use Rattle.machine.specs.Requested.Carries.{single}
+use Rattle.machine.specs.Answered.{Answers, Expires, showing, Lent, tickAt, ticksAt}
+use Rattle.machine.specs.PartysFrames.{EachItsFrame}
+use Rattle.machine.proofs.RefusalLaws.{refused-exactly}
 use Rattle.machine.proofs.OutcomeLaws.{says-refusal, refused-is, granted-is}
-use Rattle.machine.proofs.NumberLaws.{Tells, numbers-tell}
-use Rattle.machine.proofs.SpelledLaws.{AskedBy, asked-spelled, kept-as-asked, asking-says}
-use Rattle.machine.proofs.RequestLaws.{NoneToJoin, codeOf, no-other-exception, exception-04 as said-exactly}
-use Rattle.machine.proofs.AskLaws.Carries.{single}
+use Rattle.machine.proofs.NumberLaws.{numbers-tell}
+use Rattle.machine.proofs.SpelledLaws.{asked-spelled, kept-as-asked, asking-says}
+use Rattle.machine.proofs.RequestLaws.{codeOf, no-other-exception, exception-04 as said-exactly}
 use Rattle.machine.proofs.Follows.{same-entry}
-use Rattle.machine.proofs.AskLaws.{Carries, bits-carry-none, Issues, Joins, Excepts, request-comes-to, issue-is, join-is, exception-is}
-use Rattle.machine.proofs.PartyLaws.{Accepts, Stands, accepted-stands}
-use Rattle.machine.proofs.AnswerLaws.{Answers, Expires, reply-answers, tick-expires, showing, idle-is, idle-when}
+use Rattle.machine.proofs.AskLaws.{bits-carry-none, request-comes-to, issue-is, join-is, exception-is}
+use Rattle.machine.proofs.PartyLaws.{accepted-stands}
+use Rattle.machine.proofs.AnswerLaws.{reply-answers, tick-expires, idle-is, idle-when}
 use Rattle.machine.proofs.ReadBack.{comes-back}
 use Rattle.machine.proofs.EchoBack.{echo-comes-back, own-frame, sent-id}
-use Rattle.machine.proofs.TickLaws.{Lent, tickAt, ticksAt, ticking-ends}
-use Rattle.machine.proofs.WaitingLaws.{Waits, waits, outstanding-due, none-waits, next-tick}
-use Rattle.machine.proofs.FrameOfParty.{EachItsFrame, reply-frame, always-known, timeout-frame}
-use Rattle.machine.proofs.Histories.{product, afterCalls, toldBy, toldSince, ledgerOf, accounted}
+use Rattle.machine.proofs.TickLaws.{ticking-ends}
+use Rattle.machine.proofs.WaitingLaws.{waits, outstanding-due, none-waits, next-tick}
+use Rattle.machine.proofs.FrameOfParty.{reply-frame, always-known, timeout-frame}
+use Rattle.machine.proofs.Histories.{product, accounted}
 use Rattle.machine.proofs.ClosedLaws.{open-exactly, not-stale, not-stale-in-bytes, joins-exactly}
-use Rattle.machine.proofs.StateLaws.{Origin, attached-exactly, clock-exactly, issue-origin}
+use Rattle.machine.proofs.StateLaws.{attached-exactly, clock-exactly, issue-origin}
 
 -- Tender 3, the sum: accepted = answered by a reply + answered by timeout + dropped by a leaving + dropped by a lost link + held in the party places; each accepted
 -- request is in one group and there once; the held ones are, entry by entry and in order, the parties in the places; each answer's list is exactly those that it answers.
@@ -112,7 +116,7 @@ module _ (v : Value) (xs : List Call) where
   the-settings-in-force-stay = always-sound (product v) xs
 
   -- Tender 1: a call refuses by the numbers in document 01. It says the refusal n exactly if row n of the document's table applies to it and no lower row does; the
-  -- table in plain words is `table` of RefusalLaws.
+  -- table in plain words is `table` of specs/RefusalTable.antt.
   pub refuses-by-the-table : (x : Call) (n : ℕ) → (n ≡ 0 → ⊥)
       → (outcome (afterCalls v xs) x .says ≡ answer.Refused n) ↔ (Applies (table (afterCalls v xs) x) n × ((k : ℕ) → k < n → Applies (table (afterCalls v xs) x) k → ⊥))
   refuses-by-the-table = says-refusal (afterCalls v xs) good
@@ -349,7 +353,7 @@ ticking-comes-to-an-end v xs t late c bs p b =
 -- an issue tells its time and itself
 issue-told : (v : Value) (m : Machine) (c t : ℕ) (f o : List ℕ) (ys : List Call) (i : ProxyId) (n p w : ℕ) → outcome m (request c t f o) .says ≡ answer.Issued i n p w
     → history (product v) m (request c t f o ∷ ys) ≡ passed t ∷ issued (i .0) (asking f) (t + v .timeout) (asker c f) ∷ history (product v) (outcome m (request c t f o) .after) ys
-unfolding history events told numbers
+unfolding linesOf events told numbers
 issue-told v m c t f o ys i n p w e =
     let d = outcome m (request c t f o) in
     ap (λ (a : Answer). events v (request c t f o) (record { report = numbers a; frame = d .written; list = d .listed }) ++ history (product v) (d .after) ys) e
@@ -419,18 +423,18 @@ an-echo-comes-back v right xs c t f o bytes six i n p w e ys t′ o′ l h clien
 -- a leaving and a lost link tell just that
 leaving-told : (v : Value) (m : Machine) (c : ℕ) (ys : List Call) → refusal m (detach c) ≡ 0
     → history (product v) m (detach c ∷ ys) ≡ left c ∷ history (product v) (outcome m (detach c) .after) ys
-unfolding history events told granted numbers
+unfolding linesOf events told granted numbers
 leaving-told v m c ys h = ap (λ (d : Outcome). events v (detach c) (seenOf d) ++ history (product v) (outcome m (detach c) .after) ys) (granted-is m (detach c) h)
 
 loss-told : (v : Value) (m : Machine) (ys : List Call) → history (product v) m (linkLost ∷ ys) ≡ lost ∷ history (product v) (outcome m linkLost .after) ys
-unfolding history events told granted numbers
+unfolding linesOf events told granted numbers
 loss-told v m ys = ap (λ (d : Outcome). events v linkLost (seenOf d) ++ history (product v) (outcome m linkLost .after) ys) (granted-is m linkLost (never-refused m))
 
 -- Tender 3: a client number that is attached again gets nothing that its predecessor asked. Whatever calls come after a client's leaving, what is answered to its number is what
 -- was answered before it left, or was accepted since.
 pub a-successor-gets-nothing-old : (v : Value) (xs : List Call) (c : ℕ) (ys : List Call) → refusal (afterCalls v xs) (detach c) ≡ 0
     → Anew c (ledgerOf v (xs ++ detach c ∷ [])) (ledgerOf v (xs ++ detach c ∷ ys))
-unfolding history
+unfolding linesOf
 a-successor-gets-nothing-old v xs c ys h =
     let m = afterCalls v xs in
     rw (
@@ -440,7 +444,7 @@ a-successor-gets-nothing-old v xs c ys h =
 
 -- And the same after a lost link, of any client number.
 pub nor-after-a-lost-link : (v : Value) (xs : List Call) (c : ℕ) (ys : List Call) → Anew c (ledgerOf v (xs ++ linkLost ∷ [])) (ledgerOf v (xs ++ linkLost ∷ ys))
-unfolding history
+unfolding linesOf
 nor-after-a-lost-link v xs c ys =
     let m = afterCalls v xs in
     rw (

@@ -11,7 +11,7 @@ use native.Mathlib.Omega.{arith}
 use lib.ListN.{length, getD, set}
 use lib.Dec.{eqb}
 use borrow.Author.Tests.{eq-eqb, ne-eqb}
-use Rattle.laws.specs.Numbers.{places}
+use Rattle.numbers.specs.Numbers.{places}
 use Rattle.laws.specs.Lists.{lastOf}
 use Rattle.laws.proofs.Choice.{true-or, or-left}
 use Rattle.laws.proofs.ListLaws.{grown}
@@ -27,7 +27,7 @@ use Rattle.book.specs.Book.Move.{rest, pass, join, issue, reply as replies, exp
 use Rattle.book.specs.Book.Event.{passed, joined, issued, replied, expired, left}
 use Rattle.book.specs.Desk.{duePlace}
 use Rattle.book.specs.Traced.{touches}
-use Rattle.book.specs.Machine.{tells, applies, AllFit, after, history}
+use Rattle.book.specs.Follower.{tells, applies, AllFit, stateAfter, linesOf}
 use Rattle.book.proofs.PlaceLaws.{at-low, nothing-there, set-each, none-each, map-each, live-not}
 use Rattle.book.proofs.GoodLaws.{good-move}
 use Rattle.book.proofs.History.{always, always-sound, after-one, history-one}
@@ -40,13 +40,14 @@ use Rattle.machine.specs.Outcomes.{outcome}
 use Rattle.machine.specs.Spelled.{asking}
 use Rattle.machine.specs.declared.Answer.the-variants as answer
 use Rattle.machine.specs.Closed.{closes, concernsRead, Unspoiled, Joinable, Meets}
+use Rattle.machine.specs.Requested.{MayJoin}
+use Rattle.machine.specs.Histories.{afterCalls, toldBy}
 use Rattle.machine.proofs.MeetsLaws.{spoils-in-bytes}
-use Rattle.machine.proofs.JoinLaws.{MayJoin}
 use Rattle.machine.proofs.RequestLaws.Comes.{faulty, joining, full, issuing}
 use Rattle.machine.proofs.RequestLaws.{Comes, comes}
 use Rattle.machine.proofs.AskLaws.{join-is}
 use Rattle.machine.proofs.Follows.{Moves, joining as joins, serving, ending, grantedMoves, moves, follows, fits, honest}
-use Rattle.machine.proofs.Histories.{product, afterCalls, toldBy}
+use Rattle.machine.proofs.Histories.{product}
 
 abbrev Entries : Type 0
 Entries = List (Option (Live What Note))
@@ -171,7 +172,7 @@ paired m x = both (eqb (refusal m x) 0) (granted x) done
 
 -- Over any history a live entry is open exactly if nothing that spoils it was issued since its issue.
 pub open-exactly : (v : Value) (xs : List Call) (k : ℕ) (e : Live What Note) → at (afterCalls v xs .book) k ≡ some e → Marks (toldBy v xs) e
-unfolding after history
+unfolding stateAfter linesOf
 open-exactly v =
     let M = product v in
     grown (λ xs. AllMark (afterCalls v xs .book .places) (toldBy v xs)) (λ k e z. absurd (nothing-there places k e z)) (λ xs x a.

@@ -19,7 +19,7 @@ use Rattle.pdu.specs.declared.Table.the-variants.{Registers}
 use Rattle.pdu.specs.declared.Asked.{Asked}
 use Rattle.pdu.specs.declared.Asked.the-variants.{SingleWrite}
 use Rattle.rewrite.specs.declared.Way.the-variants.{ToBcd}
-use Rattle.rewrite.specs.Rewriting.{Rewritten, outcome as rewritten, rewriting}
+use Rattle.rewrite.specs.Rewriting.{Rewritten, withCounts, rewriting}
 use Rattle.rewrite.specs.Frames.{forwarded, returned}
 use Rattle.rewrite.proofs.FrameLaws.{front, length-forwarded, rewriting-other}
 use Rattle.rewrite.proofs.EchoLaws.{echo-back}
@@ -31,9 +31,9 @@ use Rattle.machine.specs.Calls.Call.{request, reply}
 use Rattle.machine.specs.Outcomes.{outcome}
 use Rattle.machine.specs.Spelled.{asking}
 use Rattle.machine.specs.declared.Answer.the-variants as answer
+use Rattle.machine.specs.Requested.{Issues}
+use Rattle.machine.specs.Answered.{Answers}
 use Rattle.machine.proofs.SpelledLaws.{asked-spelled, asking-says}
-use Rattle.machine.proofs.AskLaws.{Issues}
-use Rattle.machine.proofs.AnswerLaws.{Answers}
 
 -- a request 06, and the frame that is sent of it, are no exception
 plain : (tags : List Tag) (f : List ℕ) (a v : ℕ) → getD f 7 0 ≡ 6 → excepts 6 (forwarded tags (SingleWrite Registers a v) f .bytes) ≡ false
@@ -65,10 +65,10 @@ echo-comes-back tags asc m same c t f o bytes room six x m′ same′ t′ g o�
     x .frame ∙ ap (λ (y : List Tag). over (laid id (forwarded y (asking f .asked) f .bytes)) o) same ∙ ap (λ (y : Asked). over (laid id (forwarded tags y f .bytes)) o) q in
     let came : g ≡ laid id out = sent ∙ ap (take (length f)) written ∙ ap (λ (n : ℕ). take n (over (laid id out) o)) (sym long) ∙ front (laid id out) o in
     let six′ : asking f .function ≡ 6 = asking-says c f .function ∙ six in
-    let back : returned tags (asking f) (laid id out) ≡ rewritten 0 0 (laid id f) =
+    let back : returned tags (asking f) (laid id out) ≡ withCounts 0 0 (laid id f) =
     returned-laid tags (asking f) id out (rw (length-forwarded tags f (SingleWrite Registers at v)) (omega arith))
     ∙ ap (laidOver id) (echo-back tags asc f bytes room at (asking f) q (rw six′ (plain tags f at v six))) in
-    let r : returned (settings m′ .tags) (a .entry .what) g ≡ rewritten 0 0 (laid id f) = rw (same′, asks, came) back in
+    let r : returned (settings m′ .tags) (a .entry .what) g ≡ withCounts 0 0 (laid id f) = rw (same′, asks, came) back in
     let n : length g ≡ length f = ap length came ∙ long in (
       a .says ∙ rw (r, n),
       a .frame ∙ ap (λ (y : Rewritten). over (laid 0 (y .bytes)) o′) r,

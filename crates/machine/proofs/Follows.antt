@@ -11,7 +11,7 @@ use lib.ListN.{length, take, drop}
 use lib.Seq.{take-at}
 use lib.Dec.{eqb, ltb}
 use borrow.Author.Tests.{eq-eqb, ne-eqb, ltb-true}
-use Rattle.laws.specs.Numbers.{places}
+use Rattle.numbers.specs.Numbers.{places}
 use Rattle.laws.specs.Bytes.{over}
 use Rattle.laws.proofs.Choice.{true-or, eq-or}
 use Rattle.settings.specs.Grammar.{Value}
@@ -22,7 +22,7 @@ use Rattle.book.specs.Book.{Party, Live, Move, Good, at}
 use Rattle.book.specs.Book.Move.{pass, join, issue, reply as replies, expire, strike, wipe, mark}
 use Rattle.book.specs.Book.Event.{passed, replied, expired, left, lost}
 use Rattle.book.specs.Desk.{Open, freePlace, freeId, idPlace, duePlace}
-use Rattle.book.specs.Machine.{tells, applies, AllFit}
+use Rattle.book.specs.Follower.{tells, applies, AllFit}
 use Rattle.book.proofs.PlaceLaws.{at-low}
 use Rattle.book.proofs.GoodLaws.{good-move}
 use Rattle.book.proofs.DeskLaws.{join-found, free-found, due-found, next-free}

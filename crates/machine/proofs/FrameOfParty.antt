@@ -1,31 +1,30 @@
 -- The frame that a party is handed: whoever a reply or a timeout answers gets a frame that is not refused, carries its own id, and answers what it asked.
 -- Assumes nothing.
-use Prim.Native.Nat.{ℕ, _+_, _/_, _%_, _≤_, _<_}
+use Prim.Native.Nat.{ℕ, _+_, _≤_, _<_}
 use mathlib.Core.Path.{_≡_, refl, ap, _∙_}
-use mathlib.Core.Logic.{⊎-elim, _⊎_, inl, inr}
+use mathlib.Core.Logic.{⊎-elim, inl, inr}
 use mathlib.Core.Bool.{true, false}
 use mathlib.Core.Option.{Option, some, none, Option·none-ne-some, Option·some-injective}
-use mathlib.Core.List.{List, [], _∷_, List·Memᴰ}
+use mathlib.Core.List.{List, [], _∷_}
 use native.Mathlib.Omega.{arith}
-use lib.ListN.{length, getD, take, drop, set}
+use lib.ListN.{length, getD, drop, set}
 use lib.Seq.{take-at, set-out}
 use lib.Dec.{eqb}
-use Rattle.laws.specs.Numbers.{places, noResponse}
-use Rattle.laws.specs.Lists.{filter}
+use Rattle.numbers.specs.Numbers.{places, noResponse}
 use Rattle.laws.proofs.Choice.{true-or, eq-or, lt-or}
 use Rattle.settings.specs.Grammar.{Value}
 use Rattle.wire.specs.Frame.{functionOf, misframed, laid, exception}
 use Rattle.wire.proofs.FrameLaws.{framed, exception-framed, length-laid, laid-framed}
 use Rattle.pdu.specs.Requests.{badFunction, faultOf}
 use Rattle.pdu.specs.Replies.{What, answering}
-use Rattle.pdu.proofs.RequestLaws.{Known, known}
+use Rattle.pdu.specs.Plain.{Known}
+use Rattle.pdu.proofs.RequestLaws.{known}
 use Rattle.pdu.proofs.ReplyLaws.{excepts-exact, answers-exact, exception-excepts}
 use Rattle.rewrite.specs.Frames.{returned}
 use Rattle.rewrite.proofs.FrameLaws.{length-returned, returned-framed, returned-answers, laid-answers}
 use Rattle.book.specs.Book.{Party, Live, at, newEntry, struck, marked}
 use Rattle.book.specs.Desk.{freePlace, freeId, duePlace}
-use Rattle.book.specs.Ledger.{Ticket, Ledger, under}
-use Rattle.book.specs.Machine.{after}
+use Rattle.book.specs.Follower.{after, stateAfter}
 use Rattle.book.proofs.PlaceLaws.{set-cases, map-each, nothing-there}
 use Rattle.machine.specs.Machine.{Machine, Note, opened, made, rules, settings, clocked}
 use Rattle.machine.specs.Calls.{Call}
@@ -35,31 +34,14 @@ use Rattle.machine.specs.Requests.{wanted, partyOf, closing, joiningPlac
 use Rattle.machine.specs.Replies.{answeredTo, answered, expiredTo, ticked}
 use Rattle.machine.specs.Outcomes.{granted, outcome}
 use Rattle.machine.specs.Numbers.{numbers}
-use Rattle.machine.specs.Histories.{Seen, seenOf}
+use Rattle.machine.specs.Histories.{seenOf, afterCalls}
 use Rattle.machine.specs.declared.Answer.{Answer}
+use Rattle.machine.specs.Answered.{Answers, Expires}
+use Rattle.machine.specs.PartysFrames.{PartysFrame, frameFor}
 use Rattle.machine.proofs.RefusalLaws.{refusal-changes-nothing}
 use Rattle.machine.proofs.LowestLaws.{none-applies}
 use Rattle.machine.proofs.OutcomeLaws.{granted-is, reply-finds}
-use Rattle.machine.proofs.AnswerLaws.{Answers, Expires}
-use Rattle.machine.proofs.Histories.{product, afterCalls}
-
--- g is a frame for the party p, which asked w: it is not refused as a frame, carries the party's id, comes from the unit that it asked and is of the function that it asked, or
--- that + 128, and answers what it asked
-pub record PartysFrame (w : What) (p : Party) (g : List ℕ) : Type 0 where
-  pub framed : misframed g ≡ false
-  pub high : getD g 0 0 ≡ p .original / 256
-  pub low : getD g 1 0 ≡ p .original % 256
-  pub unit : getD g 6 0 ≡ w .unit
-  pub function : (getD g 7 0 ≡ w .function) ⊎ (getD g 7 0 ≡ w .function + 128)
-  pub answers : answering w g ≡ true
-
--- what a host makes of what it sees for a party: as many bytes as the report says, with the party's id laid over bytes 0 and 1
-abbrev pub frameFor : Party → Seen → List ℕ
-frameFor p s = laid (p .original) (take (s .report .length) (s .frame))
-
--- that is a frame for each request which waits under the id that the report names
-abbrev pub EachItsFrame : Ledger What → Seen → Type 0
-EachItsFrame l s = (k : Ticket What) → List·Memᴰ k (filter (under (s .report .id)) (l .waiting)) → PartysFrame (k .what) (k .party) (frameFor (k .party) s)
+use Rattle.machine.proofs.Histories.{product}
 
 -- a frame that is not refused and answers, under a party's id
 partys : (w : What) (p : Party) (f : List ℕ) → misframed f ≡ false → answering w f ≡ true → PartysFrame w p (laid (p .original) f)
@@ -165,7 +147,7 @@ granted-known m (tick t o l) h a = due (at (clocked m t .book) (duePlace rules (
 granted-known m linkLost h a = λ k e z. absurd (nothing-there places k e z)
 
 after-known : (v : Value) (m : Machine) (xs : List Call) → AllKnown (m .book .places) → AllKnown (after (product v) m xs .book .places)
-unfolding after
+unfolding stateAfter
 after-known v m [] a = a
 after-known v m (x ∷ xs) a =
     after-known v (outcome m x .after) xs (⊎-elim

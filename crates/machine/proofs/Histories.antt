@@ -4,14 +4,12 @@ use mathlib.Core.Path.{_≡_, refl, _∙_}
 use mathlib.Core.List.{List}
 use Rattle.settings.specs.Grammar.{Value}
 use Rattle.pdu.specs.Replies.{What}
-use Rattle.book.specs.Book.{Event}
-use Rattle.book.specs.Ledger.{Ledger, empty, posts}
-use Rattle.book.specs.Machine.{Machine as Follower, Accounted, after, history}
+use Rattle.book.specs.Follower.{Follower, Accounted}
 use Rattle.book.proofs.History.{always}
 use Rattle.machine.specs.Machine.{Machine, Note, made, rules, settings}
 use Rattle.machine.specs.Calls.{Call}
 use Rattle.machine.specs.Outcomes.{outcome}
-use Rattle.machine.specs.Histories.{Seen, seenOf, events}
+use Rattle.machine.specs.Histories.{Seen, seenOf, events, afterCalls, toldBy, ledgerOf}
 use Rattle.machine.proofs.Follows.{moves, follows, fits, honest, rule-stays}
 
 -- the machine as one that follows its book
@@ -33,19 +31,6 @@ product v =
       fits = λ m x s g. fits m x g;
       honest = λ m x s g. honest v m x g s;
     }
-
--- the machine after some calls, what they tell, what the calls ys tell that come after the calls xs, and the ledger of what some calls tell
-abbrev pub afterCalls : Value → List Call → Machine
-afterCalls v xs = after (product v) (made v) xs
-
-abbrev pub toldBy : Value → List Call → List (Event What)
-toldBy v xs = history (product v) (made v) xs
-
-abbrev pub toldSince : Value → List Call → List Call → List (Event What)
-toldSince v xs ys = history (product v) (afterCalls v xs) ys
-
-abbrev pub ledgerOf : Value → List Call → Ledger What
-ledgerOf v xs = posts empty (toldBy v xs)
 
 pub accounted : (v : Value) (xs : List Call) → Accounted rules (afterCalls v xs .book) (toldBy v xs) (ledgerOf v xs)
 accounted v xs = always (product v) xs

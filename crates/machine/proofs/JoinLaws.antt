@@ -1,14 +1,13 @@
 -- What a request joins: nothing but what it asks itself and is not closed, and only a read with joining on; and what that is in plain numbers and bytes.
 -- Assumes nothing.
-use Prim.Native.Nat.{ℕ, _<_}
+use Prim.Native.Nat.{ℕ}
 use mathlib.Core.Path.{_≡_, ap, sym, _∙_}
 use mathlib.Core.Logic.{⊎-elim, _⊎_, inl, inr, _↔_}
 use mathlib.Core.Bool.{Bool, true, false, cond, not, _||_, true≢false, and-true, and-false}
 use mathlib.Core.List.{List}
-use lib.ListN.{length, getD}
+use lib.ListN.{getD}
 use lib.Dec.{eqb}
 use borrow.Author.Tests.{eq-eqb, eqb-true}
-use Rattle.laws.specs.Numbers.{room}
 use Rattle.laws.proofs.Choice.{true-or, and-left, and-right, never}
 use Rattle.laws.proofs.TestLaws.{holds-eq, holds-not, holds-and, holds-or}
 use Rattle.settings.specs.Grammar.{Value}
@@ -23,6 +22,7 @@ use Rattle.book.specs.Desk.{Open}
 use Rattle.machine.specs.Machine.{Machine, Note, rules, settings, clocked}
 use Rattle.machine.specs.Requests.{wanted, alike, joins}
 use Rattle.machine.specs.Spelled.{spelled, asking}
+use Rattle.machine.specs.Requested.{MayJoin}
 use Rattle.machine.proofs.SpelledLaws.{asked-spelled, wanted-spelled, kept-as-asked}
 
 alike-exact : (v : Value) (w u : What) → alike v w u ≡ true → w ≡ u
@@ -58,16 +58,6 @@ joins-read v w t s q e = rw (equal-self w t s q e) (and-true (eqb (v .join) 1))
 pub joins-other : (v : Value) (w u : What) → ((t : Table) (s q : ℕ) → w .asked ≡ Read t s q → ⊥) → alike v w u ≡ false
 unfolding alike
 joins-other v w u other = simp (equal-other w u other, and-false)
-
--- the entry may be joined by the request f at the time t: joining is on, f is a read (01 to 04), the entry is not closed, asks what f asks, has room for one more party, and is due
--- later; when an entry is closed is said of the history in ClosedLaws
-pub record MayJoin (m : Machine) (t : ℕ) (f : List ℕ) (e : Live What Note) : Type 0 where
-  pub on : settings m .join ≡ 1
-  pub reads : ((getD f 7 0 ≡ 1) ⊎ (getD f 7 0 ≡ 2)) ⊎ ((getD f 7 0 ≡ 3) ⊎ (getD f 7 0 ≡ 4))
-  pub unclosed : e .note .closed ≡ false
-  pub same : e .what ≡ asking f
-  pub fewer : length (e .parties) < room
-  pub later : t < e .deadline
 
 alike-on : (v : Value) (w u : What) → alike v w u ≡ true → v .join ≡ 1
 unfolding alike

@@ -12,13 +12,14 @@ use Rattle.pdu.specs.Replies.{What}
 use Rattle.pdu.specs.Spoiling.{spoils}
 use Rattle.pdu.specs.declared.Table.{Table}
 use Rattle.pdu.specs.declared.Table.the-variants.{Bits, Registers}
+use Rattle.pdu.specs.Plain.{Reading, Writing, Neither, Common, Meeting, Ranging}
 use Rattle.pdu.proofs.RequestLaws.{legal-checked}
-use Rattle.pdu.proofs.SpoilingLaws.{Reading, Writing, Neither, Common, Meeting, Ranging, legal-ranges, spoils-exactly}
+use Rattle.pdu.proofs.SpoilingLaws.{legal-ranges, spoils-exactly}
 use Rattle.book.specs.Book.{Party}
-use Rattle.machine.specs.Spelled.{asking}
+use Rattle.machine.specs.Spelled.{asking, AskedBy}
 use Rattle.machine.specs.Closed.{numberAt, Meets}
 use Rattle.machine.specs.Closed.Meets.{coil, coils, register, registers, other}
-use Rattle.machine.proofs.SpelledLaws.{AskedBy, asking-says, wanted-spelled}
+use Rattle.machine.proofs.SpelledLaws.{asking-says, wanted-spelled}
 
 module _ {c c′ : ℕ} {g f : List ℕ} {p p′ : Party} {w r : What} (a : AskedBy c g p w) (b : AskedBy c′ f p′ r) where
   -- 05, 06, 15 and 16 by their ranges, and "other"

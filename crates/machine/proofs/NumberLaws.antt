@@ -2,33 +2,19 @@
 -- Assumes nothing.
 use Prim.Native.Nat.{ℕ}
 use mathlib.Core.Path.{_≡_, refl, ap, sym, _∙_}
-use mathlib.Core.Logic.{⊎-elim, _⊎_, inl, inr, _↔_}
+use mathlib.Core.Logic.{⊎-elim, inl, inr, _↔_}
 use mathlib.Core.Bool.{false, true≢false}
 use native.Mathlib.Omega.{arith}
 use Rattle.laws.proofs.Choice.{eq-or}
-use Rattle.pdu.specs.declared.ProxyId.{ProxyId}
 use Rattle.machine.specs.Machine.{Machine}
 use Rattle.machine.specs.Calls.{Call, Outcome}
 use Rattle.machine.specs.Refusals.{refusal}
 use Rattle.machine.specs.Outcomes.{outcome}
-use Rattle.machine.specs.Numbers.{ten, numbers, isDone, isIssued, isJoined, isException, isAnswered, isTimedOut, isNothingDue}
+use Rattle.machine.specs.Numbers.{numbers, isJoined, isException, Plainly, Tells}
 use Rattle.machine.specs.declared.Answer.{Answer}
 use Rattle.machine.specs.declared.Answer.the-variants.{Refused, Done, Issued, Joined, Excepted, Answered, TimedOut, NothingDue, Lost}
-use Rattle.machine.specs.declared.Report.{Report}
 use Rattle.machine.proofs.RefusalLaws.{refusal-changes-nothing}
 use Rattle.machine.proofs.OutcomeLaws.{isRefusal, granted-no-refusal, granted-is}
-
--- the report of each answer: refusal, line, outcome, length, parties, partial, value, set, id and code
-pub record Plainly : Type 0 where
-  pub refused : (n : ℕ) → numbers (Refused n) ≡ ten n 0 0 0 0 0 0 0 0 0
-  pub done : numbers Done ≡ ten 0 0 1 0 0 0 0 0 0 0
-  pub issued : (i : ProxyId) (n p v : ℕ) → numbers (Issued i n p v) ≡ ten 0 0 2 n 0 p v 0 (i .0) 0
-  pub joined : (i : ProxyId) → numbers (Joined i) ≡ ten 0 0 3 0 0 0 0 0 (i .0) 0
-  pub excepted : (c : ℕ) → numbers (Excepted c) ≡ ten 0 0 4 9 0 0 0 0 0 c
-  pub answered : (i : ProxyId) (n k p v : ℕ) → numbers (Answered i n k p v) ≡ ten 0 0 5 n k p v 0 (i .0) 0
-  pub timed-out : (i : ProxyId) (k : ℕ) → numbers (TimedOut i k) ≡ ten 0 0 6 9 k 0 0 0 (i .0) 0
-  pub nothing-due : numbers NothingDue ≡ ten 0 0 7 0 0 0 0 0 0 0
-  pub lost : (s : ℕ) → numbers (Lost s) ≡ ten 0 0 1 0 0 0 0 s 0 0
 
 -- All ten numbers of every answer, in plain numbers.
 pub numbers-plainly : Plainly
@@ -45,17 +31,6 @@ numbers-plainly =
       nothing-due = refl;
       lost = λ s. refl;
     }
-
--- what a report says of the answer
-pub record Tells (r : Report) (a : Answer) : Type 0 where
-  pub refused : (r .refusal ≡ 0 → ⊥) → a ≡ Refused (r .refusal)
-  pub done : r .outcome ≡ isDone → (a ≡ Lost (r .set)) ⊎ ((a ≡ Done) × (r .set ≡ 0))
-  pub issued : r .outcome ≡ isIssued → a ≡ Issued (record { 0 = r .id }) (r .length) (r .partial) (r .value)
-  pub joined : r .outcome ≡ isJoined → a ≡ Joined (record { 0 = r .id })
-  pub excepted : r .outcome ≡ isException → a ≡ Excepted (r .code)
-  pub answered : r .outcome ≡ isAnswered → a ≡ Answered (record { 0 = r .id }) (r .length) (r .parties) (r .partial) (r .value)
-  pub timed-out : r .outcome ≡ isTimedOut → a ≡ TimedOut (record { 0 = r .id }) (r .parties)
-  pub nothing-due : r .outcome ≡ isNothingDue → a ≡ NothingDue
 
 tells-refused : (a : Answer) → (numbers a .refusal ≡ 0 → ⊥) → a ≡ Refused (numbers a .refusal)
 unfolding numbers

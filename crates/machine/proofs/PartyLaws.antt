@@ -1,13 +1,12 @@
 -- Where requests stand: an accepted one stands in the party places afterwards, a mismatched reply leaves its entry, a tick ends at most one, a client that left is nowhere.
 -- Assumes nothing.
-use Prim.Native.Nat.{ℕ, _≤_}
+use Prim.Native.Nat.{ℕ}
 use mathlib.Core.Path.{_≡_, refl, ap, sym, _∙_}
-use mathlib.Core.Logic.{⊎-elim, _⊎_, inl, inr}
+use mathlib.Core.Logic.{⊎-elim, inl, inr}
 use mathlib.Core.Bool.{not, true≢false}
 use mathlib.Core.Option.{Option, some, none}
-use mathlib.Core.List.{List, [], _∷_, _++_, List·Memᴰ}
+use mathlib.Core.List.{List, [], List·Memᴰ}
 use native.Mathlib.Omega.{arith}
-use lib.ListN.{getD}
 use lib.Seq.{getD-set-same, getD-set-other}
 use borrow.Author.Tests.{not-true, eq-eqb}
 use Rattle.laws.proofs.Choice.{eq-or}
@@ -19,41 +18,20 @@ use Rattle.book.specs.Desk.{duePlace}
 use Rattle.book.proofs.GoodLaws.{good-move}
 use Rattle.book.proofs.PlaceLaws.{at-low, map-cases}
 use Rattle.book.proofs.DeskLaws.{due-found}
-use Rattle.machine.specs.Machine.{Machine, Note, Live-book, rules, clocked}
+use Rattle.machine.specs.Machine.{Machine, Note, rules, clocked}
 use Rattle.machine.specs.Calls.{Outcome, done, outOf, listOf}
 use Rattle.machine.specs.Calls.Call.{detach, request, reply, tick}
 use Rattle.machine.specs.Refusals.{refusal}
 use Rattle.machine.specs.Spelled.{asker, asking}
 use Rattle.machine.specs.Replies.{expiredTo, ticked}
 use Rattle.machine.specs.Outcomes.{granted, outcome}
-use Rattle.machine.specs.declared.Answer.{Answer}
 use Rattle.machine.specs.declared.Answer.the-variants as answer
+use Rattle.machine.specs.Requested.{Issues, Joins, Excepts, Stands, Accepts}
+use Rattle.machine.specs.Answered.{Ended}
 use Rattle.machine.proofs.RefusalLaws.{refusal-changes-nothing}
 use Rattle.machine.proofs.OutcomeLaws.{granted-is, clocked-at}
 use Rattle.machine.proofs.Follows.{same-entry}
-use Rattle.machine.proofs.AskLaws.{Issues, Joins, Excepts, request-comes-to}
-
--- a live entry under that id asks w and has the party as its latest
-pub record Stands (b : Live-book) (id : ℕ) (w : What) (p : Party) : Type 0 where
-  pub place : ℕ
-  pub entry : Live What Note
-  pub before : List Party
-  pub there : at b place ≡ some entry
-  pub same : entry .id ≡ id
-  pub asks : entry .what ≡ w
-  pub latest : entry .parties ≡ before ++ (p ∷ [])
-
--- the id under which an answer says that a request was accepted
-unfoldable pub Accepts : Answer → ℕ → Type 0
-Accepts (answer.Refused n) id = ⊥
-Accepts answer.Done id = ⊥
-Accepts (answer.Issued i n p v) id = i .0 ≡ id
-Accepts (answer.Joined i) id = i .0 ≡ id
-Accepts (answer.Excepted c) id = ⊥
-Accepts (answer.Answered i n k p v) id = ⊥
-Accepts (answer.TimedOut i k) id = ⊥
-Accepts answer.NothingDue id = ⊥
-Accepts (answer.Lost s) id = ⊥
+use Rattle.machine.proofs.AskLaws.{request-comes-to}
 
 -- A request that is joined or issued stands in the party places afterwards, as the latest party of a live entry that asks what it asks.
 pub accepted-stands : (m : Machine) (c t : ℕ) (f o : List ℕ) → Good rules (m .book) → (id : ℕ)
@@ -76,12 +54,6 @@ accepted-stands m c t f o g id a =
 pub mismatch-leaves : (m : Machine) (t : ℕ) (f o l : List ℕ) → refusal m (reply t f o l) ≡ 8 → outcome m (reply t f o l) ≡ done (answer.Refused 8) m o l
 unfolding outOf listOf
 mismatch-leaves m t f o l e = refusal-changes-nothing m (reply t f o l) (λ z. omega arith) ∙ ap (λ (n : ℕ). done (answer.Refused n) m o l) e
-
--- a table with at most one entry ended, and that one due at t
-pub record Ended (t : ℕ) (ps qs : List (Option (Live What Note))) : Type 0 where
-  pub place : ℕ
-  pub others : (j : ℕ) → (j ≡ place → ⊥) → getD qs j none ≡ getD ps j none
-  pub due : (getD qs place none ≡ getD ps place none) ⊎ ((e : Live What Note) × (getD ps place none ≡ some e) × (e .deadline ≤ t) × (getD qs place none ≡ none))
 
 none-ended : (t : ℕ) (ps : List (Option (Live What Note))) → Ended t ps ps
 none-ended t ps = record { place = 0; others = λ j n. refl; due = inl refl }

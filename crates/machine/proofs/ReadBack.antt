@@ -22,8 +22,8 @@ use Rattle.machine.specs.Machine.{Machine, settings}
 use Rattle.machine.specs.Calls.Call.{request, reply}
 use Rattle.machine.specs.Outcomes.{outcome}
 use Rattle.machine.specs.Spelled.{asking}
-use Rattle.machine.proofs.AnswerLaws.{Answers}
-use Rattle.machine.proofs.AskLaws.{Carries, Issues}
+use Rattle.machine.specs.Requested.{Carries, Issues}
+use Rattle.machine.specs.Answered.{Answers}
 
 registers-ext : (k n : ℕ) (d e : List ℕ) → ((j : ℕ) → k ≤ j → j < k + 2 * n → getD d j 0 ≡ getD e j 0) → registersAt k n d ≡ registersAt k n e
 unfolding registersAt

@@ -10,14 +10,15 @@ use native.Mathlib.Omega.{arith}
 use lib.ListN.{length}
 use lib.Dec.{eqb, ltb, leb}
 use borrow.Author.Tests.{eq-eqb, ne-eqb, lt-ltb, ltb-true, le-leb, leb-true, eqb-true, eqb-false, not-true}
-use Rattle.laws.specs.Numbers.{clients, latestTime, leastFrame, mostFrame, uncounted, frameBuffer, listBuffer, lastFunction}
+use Rattle.numbers.specs.Numbers.{clients, latestTime, leastFrame, mostFrame, uncounted, frameBuffer, listBuffer, lastFunction}
 use Rattle.laws.specs.Bits.{has}
 use Rattle.laws.proofs.Choice.{true-or, lt-or}
-use Rattle.wire.specs.Frame.{misframed, unitOf, functionOf, idOf, protocolOf, lengthOf}
+use Rattle.wire.specs.Frame.{misframed, functionOf, idOf, protocolOf, lengthOf}
 use Rattle.pdu.specs.Requests.{classOf, badFunction, badLength}
 use Rattle.pdu.specs.Replies.{What, answering}
-use Rattle.pdu.proofs.RequestLaws.{Sized, sized}
-use Rattle.pdu.proofs.ReplyLaws.{Exception, Shaped, answers-exact}
+use Rattle.pdu.specs.Plain.{Sized}
+use Rattle.pdu.proofs.RequestLaws.{sized}
+use Rattle.pdu.proofs.ReplyLaws.{answers-exact}
 use Rattle.book.specs.Book.{Live, Good, at}
 use Rattle.book.specs.Desk.{idPlace}
 use Rattle.book.proofs.PlaceLaws.{at-low}
@@ -28,59 +29,7 @@ use Rattle.machine.specs.Calls.Call.{attach, detach, request, reply, tic
 use Rattle.machine.specs.Refusals.{Row, row, rows, lowest, refusal, entryFor, isDead, isMismatched}
 use Rattle.machine.specs.Outcomes.{outcome}
 use Rattle.machine.specs.declared.Answer.the-variants.{Refused}
-
--- a row in plain words: its number, and what must hold for it
-pub record Plain : Type 1 where
-  pub number : ℕ
-  pub holds : Type 0
-
-abbrev pub says : ℕ → Type 0 → Plain
-says n p = record { number = n; holds = p }
-
--- size not 8 to 260, protocol not 0, or length field not size − 6
-abbrev pub Misframed : List ℕ → Type 0
-Misframed f = (length f < leastFrame) ⊎ ((mostFrame < length f) ⊎ ((protocolOf f ≡ 0 → ⊥) ⊎ (lengthOf f + uncounted ≡ length f → ⊥)))
-
--- time above 2^63 − 1, or below the state's clock
-abbrev pub Untimely : Machine → ℕ → Type 0
-Untimely m t = (latestTime < t) ⊎ (t < m .book .clock)
-
--- client number above 31, or not attached
-abbrev pub Stranger : Machine → ℕ → Type 0
-Stranger m c = (clients ≤ c) ⊎ (has (m .attached) c ≡ false)
-
--- the reply answers what was asked: the unit is equal, and it is an exception reply, or the function is equal and the shape is right
-abbrev pub Fitting : What → List ℕ → Type 0
-Fitting w f = (unitOf f ≡ w .unit) × (Exception (w .function) f ⊎ ((functionOf f ≡ w .function) × Shaped (w .asked) f))
-
--- no live entry has the reply's id; one has it, but the reply does not answer its request
-abbrev pub NotLive : Machine → List ℕ → Type 0
-NotLive m f = (k : ℕ) (e : Live What Note) → at (m .book) k ≡ some e → e .id ≡ idOf f → ⊥
-
-abbrev pub NoAnswer : Machine → List ℕ → Type 0
-NoAnswer m f = (k : ℕ) × (e : Live What Note) × (at (m .book) k ≡ some e) × (e .id ≡ idOf f) × (Fitting (e .what) f → ⊥)
-
--- the table, for each call the rows that it knows
-abbrev pub table : Machine → Call → List Plain
-table m (attach c) = says 2 (clients ≤ c) ∷ says 9 (has (m .attached) c ≡ true) ∷ []
-table m (detach c) = says 2 (Stranger m c) ∷ []
-table m (request c t f o) =
-    says 1 (length o < frameBuffer)
-    ∷ says 2 (Stranger m c)
-    ∷ says 3 (Untimely m t)
-    ∷ says 4 (Misframed f)
-    ∷ says 5 ((functionOf f ≡ 0) ⊎ (lastFunction < functionOf f))
-    ∷ says 6 (Sized (classOf (functionOf f)) f → ⊥)
-    ∷ []
-table m (reply t f o l) =
-    says 1 ((length o < frameBuffer) ⊎ (length l < listBuffer)) ∷ says 3 (Untimely m t) ∷ says 4 (Misframed f) ∷ says 7 (NotLive m f) ∷ says 8 (NoAnswer m f) ∷ []
-table m (tick t o l) = says 1 ((length o < frameBuffer) ⊎ (length l < listBuffer)) ∷ says 3 (Untimely m t) ∷ []
-table m linkLost = []
-
--- row n is in the table and applies
-unfoldable pub Applies : List Plain → ℕ → Type 0
-Applies [] n = ⊥
-Applies (p ∷ ps) n = ((n ≡ p .number) × p .holds) ⊎ Applies ps n
+use Rattle.machine.specs.RefusalTable.{Plain, says, Misframed, Untimely, Stranger, NotLive, NoAnswer, table, Applies}
 
 -- the tests of rows decide what the plain rows say, and the numbers ascend from above n
 data Decides : ℕ → List Row → List Plain → Type 1 where

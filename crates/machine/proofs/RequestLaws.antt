@@ -9,7 +9,7 @@ use mathlib.Core.List.{List}
 use native.Mathlib.Omega.{arith}
 use lib.Dec.{eqb, ltb}
 use borrow.Author.Tests.{ltb-true, ltb-false}
-use Rattle.laws.specs.Numbers.{places, deviceFailure}
+use Rattle.numbers.specs.Numbers.{places, deviceFailure}
 use Rattle.laws.proofs.Choice.{true-or, eq-or, never}
 use Rattle.wire.specs.Frame.{misframed, functionOf}
 use Rattle.pdu.specs.Requests.{classOf, badFunction, badLength, badValue, badAddress, faultOf, checkedBy, checkedOf, legal}
@@ -29,10 +29,11 @@ use Rattle.machine.specs.Replies.{answeredTo, answered, expiredTo, ticke
 use Rattle.machine.specs.Outcomes.{granted, outcome}
 use Rattle.machine.specs.declared.Answer.{Answer}
 use Rattle.machine.specs.declared.Answer.the-variants as answer
+use Rattle.machine.specs.Requested.{MayJoin, NoneToJoin}
 use Rattle.machine.proofs.RefusalLaws.{refusal-changes-nothing}
 use Rattle.machine.proofs.LowestLaws.{none-applies}
 use Rattle.machine.proofs.OutcomeLaws.{granted-is, not-refused, reply-finds, clocked-at}
-use Rattle.machine.proofs.JoinLaws.{MayJoin, may-join}
+use Rattle.machine.proofs.JoinLaws.{may-join}
 
 -- the code of a request's own fault is 02 or 03
 pub fault-small : (f : List ℕ) → faultOf f < 4
@@ -65,10 +66,6 @@ legal-faultless m c t f o h = let p = request-passes m c t f o h in rw (p .1, p 
 pub fault-checked : (m : Machine) (c t : ℕ) (f o : List ℕ) → refusal m (request c t f o) ≡ 0 → legal (settings m) f ≡ false → checkedOf f ≡ check.Excepted (faultOf f)
 unfolding checkedOf checkedBy faultOf
 fault-checked m c t f o h z = let p = request-passes m c t f o h in rw (p .2, p .3, sym (legal-faultless m c t f o h) ∙ z)
-
--- no live entry may be joined
-abbrev pub NoneToJoin : Machine → ℕ → List ℕ → Type 0
-NoneToJoin m t f = (k : ℕ) (e : Live What Note) → at (m .book) k ≡ some e → MayJoin m t f e → ⊥
 
 -- what a request that is not refused comes to: an exception for its own fault; else a join; else an issue, or exception 04 where no place is free
 pub data Comes (m : Machine) (c t : ℕ) (f o : List ℕ) : Outcome → Type 0 where

@@ -2,7 +2,7 @@
 -- Assumes nothing.
 use Prim.Native.Nat.{ℕ, _+_, _*_}
 use mathlib.Core.Path.{_≡_, refl, ap, sym, subst₂}
-use mathlib.Core.Logic.{⊎-elim, _⊎_}
+use mathlib.Core.Logic.{⊎-elim}
 use mathlib.Core.Bool.{Bool, true, false, cond, _||_}
 use mathlib.Core.List.{List}
 use native.Mathlib.Omega.{arith}
@@ -10,13 +10,12 @@ use lib.ListN.{getD}
 use lib.Dec.{eqb}
 use borrow.Author.Tests.{ne-eqb}
 use Rattle.pdu.specs.Requests.{classOf, startOf, quantityOf, askedBy, askedOf}
-use Rattle.pdu.specs.Replies.{What, what}
+use Rattle.pdu.specs.Replies.{what}
 use Rattle.pdu.specs.declared.Table.the-variants.{Bits, Registers}
 use Rattle.pdu.specs.declared.Class.the-variants.{Reads, WritesOne, WritesMany, Others}
 use Rattle.pdu.specs.declared.Asked.the-variants.{Read, SingleWrite, MultipleWrite, Other}
-use Rattle.book.specs.Book.{Party}
 use Rattle.machine.specs.Requests.{wanted, partyOf}
-use Rattle.machine.specs.Spelled.{asker, spelled, asking}
+use Rattle.machine.specs.Spelled.{asker, spelled, asking, AskedBy}
 
 -- The party is the client under the id that it sent.
 pub party-spelled : (c : ℕ) (f : List ℕ) → partyOf c f ≡ asker c f
@@ -45,21 +44,6 @@ asked-spelled f = let n = getD f 7 0 in by-class f _ _ (omega arith) (omega arit
 pub wanted-spelled : (f : List ℕ) → wanted f ≡ asking f
 unfolding asking
 wanted-spelled f = ap (what _ _) (asked-spelled f)
-
--- who asks what, in numbers: client c under the id that it sent; the unit, the function, and what is behind it
-pub record AskedBy (c : ℕ) (f : List ℕ) (p : Party) (w : What) : Type 0 where
-  pub client : p .client ≡ c
-  pub original : p .original ≡ 256 * getD f 0 0 + getD f 1 0
-  pub unit : w .unit ≡ getD f 6 0
-  pub function : w .function ≡ getD f 7 0
-  pub reads-bits : (getD f 7 0 ≡ 1) ⊎ (getD f 7 0 ≡ 2) → w .asked ≡ Read Bits (256 * getD f 8 0 + getD f 9 0) (256 * getD f 10 0 + getD f 11 0)
-  pub reads : (getD f 7 0 ≡ 3) ⊎ (getD f 7 0 ≡ 4) → w .asked ≡ Read Registers (256 * getD f 8 0 + getD f 9 0) (256 * getD f 10 0 + getD f 11 0)
-  pub writes-coil : getD f 7 0 ≡ 5 → w .asked ≡ SingleWrite Bits (256 * getD f 8 0 + getD f 9 0) (256 * getD f 10 0 + getD f 11 0)
-  pub writes-one : getD f 7 0 ≡ 6 → w .asked ≡ SingleWrite Registers (256 * getD f 8 0 + getD f 9 0) (256 * getD f 10 0 + getD f 11 0)
-  pub writes-coils : getD f 7 0 ≡ 15 → w .asked ≡ MultipleWrite Bits (256 * getD f 8 0 + getD f 9 0) (256 * getD f 10 0 + getD f 11 0)
-  pub writes-many : getD f 7 0 ≡ 16 → w .asked ≡ MultipleWrite Registers (256 * getD f 8 0 + getD f 9 0) (256 * getD f 10 0 + getD f 11 0)
-  pub other : (getD f 7 0 ≡ 1 → ⊥) → (getD f 7 0 ≡ 2 → ⊥) → (getD f 7 0 ≡ 3 → ⊥) → (getD f 7 0 ≡ 4 → ⊥) → (getD f 7 0 ≡ 5 → ⊥) → (getD f 7 0 ≡ 6 → ⊥) → (getD f 7 0 ≡ 15 → ⊥) → (getD f 7 0 ≡ 16 → ⊥)
-      → w .asked ≡ Other
 
 -- The bytes spell that.
 pub asking-says : (c : ℕ) (f : List ℕ) → AskedBy c f (asker c f) (asking f)

@@ -1,6 +1,6 @@
 -- The machine after any list of calls, told from the calls: who is attached, what the clock shows, and which request each issue is.
 -- Assumes nothing.
-use Prim.Native.Nat.{ℕ, _+_}
+use Prim.Native.Nat.{ℕ}
 use mathlib.Core.Path.{_≡_, refl, ap, sym, _∙_}
 use mathlib.Core.Logic.{⊎-elim, _↔_}
 use mathlib.Core.Bool.{true, false, or-false, or-true, false≢true, true≢false}
@@ -20,7 +20,7 @@ use Rattle.pdu.specs.Replies.{What}
 use Rattle.book.specs.Book.{Party, Event, at}
 use Rattle.book.specs.Book.Event.{passed, issued}
 use Rattle.book.specs.Desk.{duePlace}
-use Rattle.book.specs.Machine.{after}
+use Rattle.book.specs.Follower.{after, stateAfter}
 use Rattle.book.proofs.History.{seen-at}
 use Rattle.machine.specs.Machine.{Machine, made, rules, clocked}
 use Rattle.machine.specs.Calls.{Call, Outcome, timeOf}
@@ -31,18 +31,17 @@ use Rattle.machine.specs.Replies.{answeredTo, answered, expiredTo, ticke
 use Rattle.machine.specs.Outcomes.{granted, outcome}
 use Rattle.machine.specs.Granted.{grantedFrom, grantedCalls, concerns}
 use Rattle.machine.specs.Numbers.{numbers, isIssued, isJoined, isTimedOut}
-use Rattle.machine.specs.Spelled.{asker, asking}
-use Rattle.machine.specs.Histories.{Seen, seenOf, told, events}
+use Rattle.machine.specs.Histories.{Seen, seenOf, told, events, afterCalls, toldBy, Origin, IssuedBy}
 use Rattle.machine.specs.declared.Answer.the-variants as answer
 use Rattle.machine.proofs.RefusalLaws.{refusal-changes-nothing}
 use Rattle.machine.proofs.OutcomeLaws.{granted-is, reply-finds, served-cases, expired-cases, clock-set, clock-stays}
 use Rattle.machine.proofs.NumberLaws.{numbers-tell}
-use Rattle.machine.proofs.Histories.{product, afterCalls, toldBy}
+use Rattle.machine.proofs.Histories.{product}
 
 -- what every call that is not refused keeps of the machine and of the calls that were not refused before, any list of calls keeps
 by-calls : (P : Machine → List Call → Type 0) → ((m : Machine) (gs : List Call) (x : Call) → refusal m x ≡ 0 → P m gs → P (outcome m x .after) (gs ++ (x ∷ [])))
     → (v : Value) (m : Machine) (gs xs : List Call) → P m gs → P (after (product v) m xs) (gs ++ grantedFrom m xs)
-unfolding after grantedFrom
+unfolding stateAfter grantedFrom
 by-calls P step v m gs [] h = rw (append-nil gs) h
 by-calls P step v m gs (x ∷ xs) h =
     ⊎-elim
@@ -120,31 +119,11 @@ clock-exactly v xs =
 
 -- WHICH REQUEST AN ISSUE IS
 
--- an issue says what a request's frame asks, whose it is, and its time plus the timeout
-abbrev pub Spells : Value → (c t : ℕ) (f : List ℕ) (w : What) (d : ℕ) (p : Party) → Type 0
-Spells v c t f w d p = (w ≡ asking f) × (p ≡ asker c f) × (d ≡ t + v .timeout)
-
--- the request among the calls xs that an issue comes from: it was answered Issued under that id, and the issue says what it asked
-pub record Origin (v : Value) (xs : List Call) (id : ℕ) (w : What) (d : ℕ) (p : Party) : Type 0 where
-  pub before : List Call
-  pub client : ℕ
-  pub time : ℕ
-  pub frame : List ℕ
-  pub out : List ℕ
-  pub later : List Call
-  pub call : xs ≡ before ++ request client time frame out ∷ later
-  pub says : (n : ℕ) × (a : ℕ) × (b : ℕ) × (outcome (afterCalls v before) (request client time frame out) .says ≡ answer.Issued (record { 0 = id }) n a b)
-  pub spells : Spells v client time frame w d p
-
 module _ (v : Value) (s : Seen) (id : ℕ) (w : What) (d : ℕ) (p : Party) where
-  -- the call tells the issue: it is a request that was answered so
-  abbrev pub IssuedBy : Call → Type 0
-  IssuedBy x = (c : ℕ) × (t : ℕ) × (f : List ℕ) × (o : List ℕ) × (x ≡ request c t f o) × (s .report .outcome ≡ isIssued) × (s .report .id ≡ id) × Spells v c t f w d p
-
   behind-time : (t : ℕ) (vs : List (Event What)) → List·Memᴰ (issued id w d p) (passed t ∷ vs) → List·Memᴰ (issued id w d p) vs
   behind-time t vs m = ⊎-elim (λ (e : issued id w d p ≡ passed t). never (cc)) (λ n. n) (List·Memᴰ·cases-cons m)
 
-  told-issue : (x : Call) → List·Memᴰ (issued id w d p) (told v x s) → IssuedBy x
+  told-issue : (x : Call) → List·Memᴰ (issued id w d p) (told v x s) → IssuedBy v s id w d p x
   unfolding told
   told-issue (attach c) m = absurd (List·Memᴰ·not-nil m)
   told-issue (detach c) m = let e = List·Memᴰ·eq-of-singleton m in never (cc)
@@ -164,7 +143,7 @@ module _ (v : Value) (s : Seen) (id : ℕ) (w : What) (d : ℕ) (p : Party) wher
       (mem-cond (issued id w d p) (eqb (s .report .outcome) isTimedOut) _ [] (behind-time t _ m))
   told-issue linkLost m = let e = List·Memᴰ·eq-of-singleton m in never (cc)
 
-  pub seen-issue : (x : Call) → List·Memᴰ (issued id w d p) (events v x s) → IssuedBy x
+  pub seen-issue : (x : Call) → List·Memᴰ (issued id w d p) (events v x s) → IssuedBy v s id w d p x
   unfolding events
   seen-issue x m = ⊎-elim (λ j. told-issue x (j .1)) (λ j. absurd (List·Memᴰ·not-nil (j .1))) (mem-cond (issued id w d p) (eqb (s .report .refusal) 0) (told v x s) [] m)
 

@@ -3,46 +3,33 @@
 use Prim.Native.Nat.{ℕ, _≤_}
 use mathlib.Core.Path.{_≡_, refl, ap, sym, subst, _∙_}
 use mathlib.Core.Option.{Option, some, none}
-use mathlib.Core.List.{List, [], _∷_, map}
+use mathlib.Core.List.{List, [], _∷_}
 use native.Mathlib.Omega.{arith}
 use native.Mathlib.Nat.{max-eq-right}
 use lib.ListN.{length}
 use borrow.Author.Tests.{le-ltb}
-use Rattle.laws.specs.Numbers.{places, latestTime, frameBuffer, listBuffer}
+use Rattle.numbers.specs.Numbers.{places, latestTime, frameBuffer, listBuffer}
 use Rattle.settings.specs.Grammar.{Value}
 use Rattle.pdu.specs.Replies.{What}
 use Rattle.book.specs.Book.{Live, Good, NothingDue, at, apply}
 use Rattle.book.specs.Book.Move.{pass}
 use Rattle.book.specs.Desk.{duePlace, expireAt, choose, ticks}
 use Rattle.book.specs.Desk.Op.{tick as ticking}
-use Rattle.book.specs.Machine.{after}
+use Rattle.book.specs.Follower.{after, stateAfter}
 use Rattle.book.proofs.GoodLaws.{good-move}
 use Rattle.book.proofs.TickLaws.{ticks-good, drains}
 use Rattle.machine.specs.Machine.{Machine, Note, Live-book, machine, rules, clocked}
-use Rattle.machine.specs.Calls.{Call, Outcome}
+use Rattle.machine.specs.Calls.{Outcome}
 use Rattle.machine.specs.Calls.Call.{tick}
 use Rattle.machine.specs.Refusals.{rows, refusal}
 use Rattle.machine.specs.Replies.{expiredTo}
 use Rattle.machine.specs.Outcomes.{outcome}
 use Rattle.machine.specs.declared.Answer.the-variants as answer
+use Rattle.machine.specs.Answered.{Lent, tickAt, ticksAt}
 use Rattle.machine.proofs.OutcomeLaws.{clock-set}
 use Rattle.machine.proofs.LowestLaws.{passes, none-left}
 use Rattle.machine.proofs.AnswerLaws.{ticked-is, idle-found}
 use Rattle.machine.proofs.Histories.{product}
-
--- the buffers that a host lends a tick: whatever they hold, they are as long as document 01 asks
-pub record Lent : Type 0 where
-  pub out : List ℕ
-  pub list : List ℕ
-  pub long : frameBuffer ≤ length out
-  pub longList : listBuffer ≤ length list
-
--- a tick, and ticks one after another at one time, each with buffers of its own
-abbrev pub tickAt : ℕ → Lent → Call
-tickAt t b = tick t (b .out) (b .list)
-
-abbrev pub ticksAt : ℕ → List Lent → List Call
-ticksAt t bs = map (tickAt t) bs
 
 expired-after : (m : Machine) (k : ℕ) (o l : List ℕ) (q : Option (Live What Note)) → expiredTo m k o l q .after ≡ machine (apply rules (m .book) (expireAt k q)) (m .attached)
 unfolding expiredTo
@@ -73,7 +60,7 @@ module _ (v : Value) (t : ℕ) (late : t ≤ latestTime) where
   -- ticks leave the clock at their time, and the book as the book's own ticks do
   many-ticks : (bs : List Lent) (m : Machine) → m .book .clock ≤ t
       → (after (product v) m (ticksAt t bs) .book .clock ≤ t) × (clocked (after (product v) m (ticksAt t bs)) t .book ≡ ticks rules (length bs) (clocked m t .book))
-  unfolding after ticks
+  unfolding stateAfter ticks
   many-ticks [] m c = (c, refl)
   many-ticks (b ∷ bs) m c =
       let h = timely m b c in

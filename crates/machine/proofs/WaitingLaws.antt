@@ -2,15 +2,14 @@
 -- Assumes nothing.
 use Prim.Native.Nat.{ℕ, _+_, _≤_, _<_}
 use mathlib.Core.Path.{_≡_, refl, ap, sym, _∙_}
-use mathlib.Core.Logic.{⊎-elim, _⊎_, inl, inr, _↔_}
+use mathlib.Core.Logic.{⊎-elim, inl, inr, _↔_}
 use mathlib.Core.Bool.{Bool, true, false}
 use mathlib.Core.Option.{Option, some, none}
 use mathlib.Core.List.{List, List·Memᴰ·head, Memᴰ·append-right}
 use native.Mathlib.Omega.{arith}
 use lib.Dec.{ltb}
 use borrow.Author.Tests.{ltb-false}
-use Rattle.laws.specs.Numbers.{places, latestTime}
-use Rattle.laws.specs.Search.{count}
+use Rattle.numbers.specs.Numbers.{places, latestTime}
 use Rattle.laws.proofs.LeastLaws.{least-low, least-taken}
 use Rattle.laws.proofs.Choice.{or-left}
 use Rattle.laws.proofs.LastLaws.{last-of-exactly}
@@ -26,23 +25,13 @@ use Rattle.machine.specs.Calls.{Call, Outcome}
 use Rattle.machine.specs.Calls.Call.{request, tick}
 use Rattle.machine.specs.Refusals.{rows, refusal, isStranger, isUntimely}
 use Rattle.machine.specs.Outcomes.{outcome}
-use Rattle.machine.specs.Waiting.{noDeadline, deadlineOf, nextDeadline}
+use Rattle.machine.specs.Waiting.{noDeadline, deadlineOf, nextDeadline, Waits}
 use Rattle.machine.specs.declared.Answer.the-variants as answer
-use Rattle.machine.specs.declared.NextDeadline.{NextDeadline}
 use Rattle.machine.proofs.LowestLaws.{none-applies}
 use Rattle.machine.proofs.OutcomeLaws.{not-refused}
-use Rattle.machine.proofs.Histories.{toldBy}
-use Rattle.machine.proofs.StateLaws.{Origin, issue-origin}
+use Rattle.machine.specs.Histories.{toldBy, Origin}
+use Rattle.machine.proofs.StateLaws.{issue-origin}
 use Rattle.machine.proofs.AnswerLaws.{idle-is, idle-when, tick-expires}
-
--- the numbers of a next deadline, in plain words
-pub record Waits (m : Machine) (n : NextDeadline) : Type 0 where
-  -- no live request is due before it
-  pub first : (k : ℕ) (e : Live What Note) → at (m .book) k ≡ some e → n .time ≤ e .deadline
-  -- it is the deadline of a live request, or 2^64 − 1
-  pub taken : (n .time ≡ 18446744073709551615) ⊎ ((k : ℕ) × (e : Live What Note) × (at (m .book) k ≡ some e) × (e .deadline ≡ n .time))
-  -- so many places are live
-  pub many : n .live ≡ count (λ k. isLive (at (m .book) k)) places
 
 live-entry : (o : Option (Live What Note)) → isLive o ≡ true → (e : Live What Note) × (o ≡ some e)
 live-entry none t = absurd (let z : _≡_ {A = ℕ} 0 1 = cc in omega arith)

@@ -7,7 +7,7 @@ use mathlib.Core.Bool.{Bool, false, _||_}
 use mathlib.Core.Option.{some}
 use mathlib.Core.List.{List}
 use lib.ListN.{length, getD}
-use Rattle.laws.specs.Numbers.{room}
+use Rattle.numbers.specs.Numbers.{room}
 use Rattle.laws.specs.Lists.{lastOf}
 use Rattle.pdu.specs.Replies.{What}
 use Rattle.pdu.specs.Spoiling.{spoils}

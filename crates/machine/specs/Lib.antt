@@ -10,3 +10,7 @@ pub mod Numbers
 pub mod Spelled
 pub mod Histories
 pub mod Closed
+pub mod RefusalTable
+pub mod Requested
+pub mod Answered
+pub mod PartysFrames

@@ -3,7 +3,7 @@
 use Prim.Native.Nat.{ℕ, _<_}
 use mathlib.Core.Bool.{Bool, false}
 use lib.Dec.{lit<}
-use Rattle.laws.specs.Numbers.{ids, places, room}
+use Rattle.numbers.specs.Numbers.{ids, places, room}
 use Rattle.settings.specs.Grammar.{Value}
 use Rattle.pdu.specs.Replies.{What}
 use Rattle.book.specs.Book.{Rules, Book, Move, fresh, apply}

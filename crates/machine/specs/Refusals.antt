@@ -6,7 +6,7 @@ use mathlib.Core.Option.{Option, some, none}
 use mathlib.Core.List.{List, [], _∷_}
 use lib.ListN.{length}
 use lib.Dec.{ltb, leb}
-use Rattle.laws.specs.Numbers.{clients, latestTime, frameBuffer, listBuffer}
+use Rattle.numbers.specs.Numbers.{clients, latestTime, frameBuffer, listBuffer}
 use Rattle.laws.specs.Bits.{has}
 use Rattle.wire.specs.Frame.{misframed, functionOf, idOf}
 use Rattle.pdu.specs.Requests.{classOf, badFunction, badLength}

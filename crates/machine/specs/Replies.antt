@@ -4,7 +4,7 @@ use Prim.Native.Nat.{ℕ}
 use mathlib.Core.Option.{Option, some, none}
 use mathlib.Core.List.{List, [], _∷_, flatMap}
 use lib.ListN.{length}
-use Rattle.laws.specs.Numbers.{noResponse}
+use Rattle.numbers.specs.Numbers.{noResponse}
 use Rattle.laws.specs.Bytes.{over}
 use Rattle.wire.specs.Frame.{idOf, laid, exception}
 use Rattle.pdu.specs.Replies.{What}

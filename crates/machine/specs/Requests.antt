@@ -6,7 +6,7 @@ use mathlib.Core.Option.{Option, some, none}
 use mathlib.Core.List.{List, []}
 use lib.ListN.{length}
 use lib.Dec.{eqb, ltb}
-use Rattle.laws.specs.Numbers.{places, deviceFailure}
+use Rattle.numbers.specs.Numbers.{places, deviceFailure}
 use Rattle.laws.specs.Bytes.{over}
 use Rattle.wire.specs.Frame.{idOf, unitOf, functionOf, laid, exception}
 use Rattle.settings.specs.Grammar.{Value}

@@ -1,6 +1,8 @@
 -- Who asks what, spelled from the bytes of a request: nothing of the machine's own reading of a frame is used here, so that the ledger's lines say what a client sent.
 -- Assumes nothing.
 use Prim.Native.Nat.{ℕ, _+_, _*_}
+use mathlib.Core.Path.{_≡_}
+use mathlib.Core.Logic.{_⊎_}
 use mathlib.Core.Bool.{cond, _||_}
 use mathlib.Core.List.{List}
 use lib.ListN.{getD}
@@ -29,3 +31,18 @@ spelled n a b =
 -- byte 6 is the unit, byte 7 the function; the numbers at bytes 8 and 10 are what is behind it
 unfoldable pub asking : List ℕ → What
 asking f = what (getD f 6 0) (getD f 7 0) (spelled (getD f 7 0) (256 * getD f 8 0 + getD f 9 0) (256 * getD f 10 0 + getD f 11 0))
+
+-- who asks what, in numbers: client c under the id that it sent; the unit, the function, and what is behind it
+pub record AskedBy (c : ℕ) (f : List ℕ) (p : Party) (w : What) : Type 0 where
+  pub client : p .client ≡ c
+  pub original : p .original ≡ 256 * getD f 0 0 + getD f 1 0
+  pub unit : w .unit ≡ getD f 6 0
+  pub function : w .function ≡ getD f 7 0
+  pub reads-bits : (getD f 7 0 ≡ 1) ⊎ (getD f 7 0 ≡ 2) → w .asked ≡ Read Bits (256 * getD f 8 0 + getD f 9 0) (256 * getD f 10 0 + getD f 11 0)
+  pub reads : (getD f 7 0 ≡ 3) ⊎ (getD f 7 0 ≡ 4) → w .asked ≡ Read Registers (256 * getD f 8 0 + getD f 9 0) (256 * getD f 10 0 + getD f 11 0)
+  pub writes-coil : getD f 7 0 ≡ 5 → w .asked ≡ SingleWrite Bits (256 * getD f 8 0 + getD f 9 0) (256 * getD f 10 0 + getD f 11 0)
+  pub writes-one : getD f 7 0 ≡ 6 → w .asked ≡ SingleWrite Registers (256 * getD f 8 0 + getD f 9 0) (256 * getD f 10 0 + getD f 11 0)
+  pub writes-coils : getD f 7 0 ≡ 15 → w .asked ≡ MultipleWrite Bits (256 * getD f 8 0 + getD f 9 0) (256 * getD f 10 0 + getD f 11 0)
+  pub writes-many : getD f 7 0 ≡ 16 → w .asked ≡ MultipleWrite Registers (256 * getD f 8 0 + getD f 9 0) (256 * getD f 10 0 + getD f 11 0)
+  pub other : (getD f 7 0 ≡ 1 → ⊥) → (getD f 7 0 ≡ 2 → ⊥) → (getD f 7 0 ≡ 3 → ⊥) → (getD f 7 0 ≡ 4 → ⊥) → (getD f 7 0 ≡ 5 → ⊥) → (getD f 7 0 ≡ 6 → ⊥) → (getD f 7 0 ≡ 15 → ⊥) → (getD f 7 0 ≡ 16 → ⊥)
+      → w .asked ≡ Other

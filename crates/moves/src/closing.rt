@@ -2,9 +2,9 @@
 use pdu::Asked;
 ghost use mathlib.Core.Path.{_≡_};
 ghost use Prim.Native.Nat.{ℕ, _≤_};
-ghost use Rattle.laws.specs.Numbers.{places};
+ghost use Rattle.numbers.specs.Numbers.{places};
 ghost use Rattle.pdu.specs.Words.{whatOf};
-ghost use Rattle.table.specs.Changes.{wordAfter, Closes};
+ghost use Rattle.table.specs.inner.Changes.{wordAfter, Closes};
 
 // The word of a place once a request to `unit` that asks `what` was issued: closed, where the place is live and what is asked there is spoiled.
 fn word_after(unit: u8, what: Asked, id: u32, held: u64) -> u64
@@ -18,8 +18,8 @@ fn word_after(unit: u8, what: Asked, id: u32, held: u64) -> u64
 
 // Closes what the request spoils at the places below top.
 fn close_met<'a>(
-    ids: &'a [u32; laws::PLACES],
-    asked: &'a mut [u64; laws::PLACES],
+    ids: &'a [u32; numbers::PLACES],
+    asked: &'a mut [u64; numbers::PLACES],
     top: usize,
     unit: u8,
     what: Asked,
@@ -36,8 +36,8 @@ fn close_met<'a>(
 
 // Closes what a request to `unit` that asks `what` spoils; a read spoils nothing, and no place is looked at.
 pub fn close<'a>(
-    ids: &'a [u32; laws::PLACES],
-    asked: &'a mut [u64; laws::PLACES],
+    ids: &'a [u32; numbers::PLACES],
+    asked: &'a mut [u64; numbers::PLACES],
     top: usize,
     unit: u8,
     what: Asked,

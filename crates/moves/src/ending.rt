@@ -2,14 +2,14 @@
 ghost use mathlib.Core.Path.{_≡_};
 ghost use Prim.Native.Nat.{_+_, _≤_, _<_};
 ghost use lib.ListN.{length, getD, set};
-ghost use Rattle.laws.specs.Numbers.{places, room, listBuffer};
+ghost use Rattle.numbers.specs.Numbers.{places, room, listBuffer};
 ghost use Rattle.laws.specs.Bytes.{over};
 ghost use Rattle.machine.specs.Replies.{pairs};
 ghost use Rattle.table.specs.Columns.{partiesAt};
-ghost use Rattle.table.specs.Changes.{reach};
+ghost use Rattle.table.specs.inner.Changes.{reach};
 
 // One past the last live place below top.
-fn last_live(ids: &[u32; laws::PLACES], top: u32) -> u32
+fn last_live(ids: &[u32; numbers::PLACES], top: u32) -> u32
     requires { ⌜ top ≤ places ⌝ }
     ensures { λ r. ⌜ r ≡ reach (now (ids .entry)) top ⌝ }
 {
@@ -25,7 +25,7 @@ fn last_live(ids: &[u32; laws::PLACES], top: u32) -> u32
 }
 
 // Frees the place; the scans then stop at the last place that is still live.
-fn remove<'a>(ids: &'a mut [u32; laws::PLACES], top: &'a mut u32, place: usize)
+fn remove<'a>(ids: &'a mut [u32; numbers::PLACES], top: &'a mut u32, place: usize)
     requires { ⌜ (place < places) × (now top ≤ places) ⌝ }
     ensures { λ r. ⌜ (now (ids .exit) ≡ set (now (ids .entry)) place 0) × (now (top .exit) ≡ reach (now (ids .exit)) (now (top .entry))) ⌝ }
 {
@@ -44,9 +44,9 @@ fn put_pair(list: &mut [u16], at: usize, client: u16, original: u16)
 
 // Writes the parties of the place over the start of the list, in joining order; how many there are.
 fn hand_out<'a>(
-    counts: &'a [u8; laws::PLACES],
-    clients: &'a [u8; laws::PARTY_PLACES],
-    originals: &'a [u16; laws::PARTY_PLACES],
+    counts: &'a [u8; numbers::PLACES],
+    clients: &'a [u8; numbers::PARTY_PLACES],
+    originals: &'a [u16; numbers::PARTY_PLACES],
     place: usize,
     list: &mut [u16],
 ) -> u32
@@ -55,7 +55,7 @@ fn hand_out<'a>(
         × (now (list .exit) ≡ over (pairs (partiesAt (now (counts .entry)) (now (clients .entry)) (now (originals .entry)) place)) (now (list .entry))) ⌝ }
 {
     let count = laws::wide(counts[place]);
-    let base = place * laws::ROOM;
+    let base = place * numbers::ROOM;
     let mut j: usize = 0;
     while j < count {
         let at = base + j;
@@ -69,10 +69,10 @@ fn hand_out<'a>(
 
 // Ends the entry of a place: its parties go into the list, then the place is free; how many parties there were.
 pub fn end_at<'a>(
-    ids: &'a mut [u32; laws::PLACES],
-    counts: &'a [u8; laws::PLACES],
-    clients: &'a [u8; laws::PARTY_PLACES],
-    originals: &'a [u16; laws::PARTY_PLACES],
+    ids: &'a mut [u32; numbers::PLACES],
+    counts: &'a [u8; numbers::PLACES],
+    clients: &'a [u8; numbers::PARTY_PLACES],
+    originals: &'a [u16; numbers::PARTY_PLACES],
     top: &'a mut u32,
     place: usize,
     list: &mut [u16],

@@ -2,19 +2,19 @@
 ghost use mathlib.Core.Path.{_≡_};
 ghost use Prim.Native.Nat.{_+_, _≤_};
 ghost use lib.ListN.{length};
-ghost use Rattle.laws.specs.Numbers.{places, partyPlaces};
-ghost use Rattle.table.specs.Changes.{Runs, Closed, Struck};
+ghost use Rattle.numbers.specs.Numbers.{places, partyPlaces};
+ghost use Rattle.table.specs.inner.Changes.{Runs, StruckOut, Struck};
 
 // Strikes the client out of a run of n parties that starts at base, and closes the gaps; how many stay.
 fn strike_run<'a>(
-    clients: &'a mut [u8; laws::PARTY_PLACES],
-    originals: &'a mut [u16; laws::PARTY_PLACES],
+    clients: &'a mut [u8; numbers::PARTY_PLACES],
+    originals: &'a mut [u16; numbers::PARTY_PLACES],
     base: usize,
     n: usize,
     client: u8,
 ) -> usize
     requires { ⌜ (base + n ≤ partyPlaces) × (length (now clients) ≡ partyPlaces) × (length (now originals) ≡ partyPlaces) ⌝ }
-    ensures { λ r. ⌜ Closed base n client r (now (clients .entry)) (now (originals .entry)) (now (clients .exit)) (now (originals .exit)) ⌝ }
+    ensures { λ r. ⌜ StruckOut base n client r (now (clients .entry)) (now (originals .entry)) (now (clients .exit)) (now (originals .exit)) ⌝ }
 {
     let mut kept: usize = 0;
     let mut j: usize = 0;
@@ -35,9 +35,9 @@ fn strike_run<'a>(
 
 // Strikes the client out of every place below top: its room is free again, the order of the rest stays.
 pub fn strike<'a>(
-    counts: &'a mut [u8; laws::PLACES],
-    clients: &'a mut [u8; laws::PARTY_PLACES],
-    originals: &'a mut [u16; laws::PARTY_PLACES],
+    counts: &'a mut [u8; numbers::PLACES],
+    clients: &'a mut [u8; numbers::PARTY_PLACES],
+    originals: &'a mut [u16; numbers::PARTY_PLACES],
     top: u32,
     client: u8,
 )
@@ -49,7 +49,7 @@ pub fn strike<'a>(
     let mut k: usize = 0;
     while k < end {
         let n = laws::wide(counts[k]);
-        let kept = strike_run(clients, originals, k * laws::ROOM, n, client);
+        let kept = strike_run(clients, originals, k * numbers::ROOM, n, client);
         counts[k] = kept as u8;
         k += 1;
     }

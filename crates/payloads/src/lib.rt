@@ -5,9 +5,9 @@ ghost use mathlib.Core.Path.{_≡_};
 ghost use mathlib.Core.Bool.{false};
 ghost use Prim.Native.Nat.{ℕ};
 ghost use Rattle.pdu.specs.Replies.{what, excepts};
-ghost use Rattle.rewrite.specs.Rewriting.{outcome};
+ghost use Rattle.rewrite.specs.Rewriting.{withCounts};
 ghost use Rattle.rewrite.specs.Frames.{singleBase, passing, forwarded, returnedBy, returned, under};
-ghost use Rattle.rewrite.specs.Lent.{tagsOf, TagWords, Run, RunOf, Sent, Brought, Framed};
+ghost use Rattle.rewrite.specs.inner.Lent.{tagsOf, TagWords, Run, RunOf, Sent, Brought, Framed};
 use pdu::Asked;
 use pdu::ProxyId;
 use pdu::Table;
@@ -29,24 +29,24 @@ fn pass(
     start: u16,
     quantity: u16,
     way: Way,
-    tags: &[u64; laws::MOST_TAGS],
-    tagged: usize,
+    words: &[u64; numbers::MOST_TAGS],
+    count: usize,
 ) -> Raw
     requires { ⌜ RunOf table base start quantity (now frame) ⌝ }
-    requires { ⌜ TagWords tagged (now tags) ⌝ }
-    ensures { λ r. ⌜ outcome (r .partial) (r .value) (now (frame .exit)) ≡ passing table way base start quantity (tagsOf tagged (now (tags .entry))) (now (frame .entry)) ⌝ }
+    requires { ⌜ TagWords count (now words) ⌝ }
+    ensures { λ r. ⌜ withCounts (r .partial) (r .value) (now (frame .exit)) ≡ passing table way base start quantity (tagsOf count (now (words .entry))) (now (frame .entry)) ⌝ }
 {
     match table {
         Table::Bits => rewrite::NOT_RAW,
-        Table::Registers => registers::rewrite(frame, base, start, quantity, way, tags, tagged),
+        Table::Registers => registers::rewrite(frame, base, start, quantity, way, words, count),
     }
 }
 
 // A request's registers to BCD, in its own frame.
-fn send(frame: &mut [u8], asked: Asked, tags: &[u64; laws::MOST_TAGS], tagged: usize) -> Raw
+fn send(frame: &mut [u8], asked: Asked, words: &[u64; numbers::MOST_TAGS], count: usize) -> Raw
     requires { ⌜ Sent asked (now frame) ⌝ }
-    requires { ⌜ TagWords tagged (now tags) ⌝ }
-    ensures { λ r. ⌜ outcome (r .partial) (r .value) (now (frame .exit)) ≡ forwarded (tagsOf tagged (now (tags .entry))) asked (now (frame .entry)) ⌝ }
+    requires { ⌜ TagWords count (now words) ⌝ }
+    ensures { λ r. ⌜ withCounts (r .partial) (r .value) (now (frame .exit)) ≡ forwarded (tagsOf count (now (words .entry))) asked (now (frame .entry)) ⌝ }
 {
     let way = Way::ToBcd;
     match asked {
@@ -54,7 +54,7 @@ fn send(frame: &mut [u8], asked: Asked, tags: &[u64; laws::MOST_TAGS], tagged: u
             table,
             address,
             value: _,
-        } => pass(frame, table, SINGLE_BASE, address, 1, way, tags, tagged),
+        } => pass(frame, table, SINGLE_BASE, address, 1, way, words, count),
         Asked::MultipleWrite {
             table,
             start,
@@ -66,8 +66,8 @@ fn send(frame: &mut [u8], asked: Asked, tags: &[u64; laws::MOST_TAGS], tagged: u
             start,
             quantity,
             way,
-            tags,
-            tagged,
+            words,
+            count,
         ),
         Asked::Read {
             table: _,
@@ -83,15 +83,15 @@ fn bring_echo(
     frame: &mut [u8],
     address: u16,
     value: u16,
-    tags: &[u64; laws::MOST_TAGS],
-    tagged: usize,
+    words: &[u64; numbers::MOST_TAGS],
+    count: usize,
 ) -> Raw
     requires { ⌜ Run singleBase address 1 (now frame) ⌝ }
-    requires { ⌜ TagWords tagged (now tags) ⌝ }
-    ensures { λ r. ⌜ outcome (r .partial) (r .value) (now (frame .exit)) ≡ returnedBy (tagsOf tagged (now (tags .entry))) (Asked.SingleWrite Table.Registers address value) (now (frame .entry)) ⌝ }
+    requires { ⌜ TagWords count (now words) ⌝ }
+    ensures { λ r. ⌜ withCounts (r .partial) (r .value) (now (frame .exit)) ≡ returnedBy (tagsOf count (now (words .entry))) (Asked.SingleWrite Table.Registers address value) (now (frame .entry)) ⌝ }
 {
-    if registers::is_reencoded(tags, tagged, address, value) {
-        return registers::rewrite(frame, SINGLE_BASE, address, 1, Way::ToBinary, tags, tagged);
+    if registers::is_reencoded(words, count, address, value) {
+        return registers::rewrite(frame, SINGLE_BASE, address, 1, Way::ToBinary, words, count);
     }
     rewrite::NOT_RAW
 }
@@ -101,12 +101,12 @@ fn bring(
     frame: &mut [u8],
     function: u8,
     asked: Asked,
-    tags: &[u64; laws::MOST_TAGS],
-    tagged: usize,
+    words: &[u64; numbers::MOST_TAGS],
+    count: usize,
 ) -> Raw
     requires { ⌜ (excepts function (now frame) ≡ false → Brought asked (now frame)) ⌝ }
-    requires { ⌜ TagWords tagged (now tags) ⌝ }
-    ensures { λ r. ⌜ ((unit : ℕ) → outcome (r .partial) (r .value) (now (frame .exit)) ≡ returned (tagsOf tagged (now (tags .entry))) (what unit function asked) (now (frame .entry))) ⌝ }
+    requires { ⌜ TagWords count (now words) ⌝ }
+    ensures { λ r. ⌜ ((unit : ℕ) → withCounts (r .partial) (r .value) (now (frame .exit)) ≡ returned (tagsOf count (now (words .entry))) (what unit function asked) (now (frame .entry))) ⌝ }
 {
     if checking::matching::is_exception(function, frame) {
         return rewrite::NOT_RAW;
@@ -123,8 +123,8 @@ fn bring(
             start,
             quantity,
             Way::ToBinary,
-            tags,
-            tagged,
+            words,
+            count,
         ),
         Asked::SingleWrite {
             table,
@@ -132,7 +132,7 @@ fn bring(
             value,
         } => match table {
             Table::Bits => rewrite::NOT_RAW,
-            Table::Registers => bring_echo(frame, address, value, tags, tagged),
+            Table::Registers => bring_echo(frame, address, value, words, count),
         },
         Asked::MultipleWrite {
             table: _,
@@ -149,17 +149,17 @@ pub fn forward(
     frame: &[u8],
     id: ProxyId,
     asked: Asked,
-    tags: &[u64; laws::MOST_TAGS],
-    tagged: usize,
+    words: &[u64; numbers::MOST_TAGS],
+    count: usize,
 ) -> Raw
     requires { ⌜ Framed (now frame) (now out) ⌝ }
     requires { ⌜ Sent asked (now frame) ⌝ }
-    requires { ⌜ TagWords tagged (now tags) ⌝ }
-    ensures { λ r. ⌜ outcome (r .partial) (r .value) (now (out .exit)) ≡ under (id .0) (now (out .entry)) (forwarded (tagsOf tagged (now (tags .entry))) asked (now (frame .entry))) ⌝ }
+    requires { ⌜ TagWords count (now words) ⌝ }
+    ensures { λ r. ⌜ withCounts (r .partial) (r .value) (now (out .exit)) ≡ under (id .0) (now (out .entry)) (forwarded (tagsOf count (now (words .entry))) asked (now (frame .entry))) ⌝ }
 {
     let n = frame.len();
     wire::copy(out, frame);
-    let raw = send(&mut out[..n], asked, tags, tagged);
+    let raw = send(&mut out[..n], asked, words, count);
     wire::frames::lay_id(out, id.0);
     raw
 }
@@ -170,17 +170,17 @@ pub fn give_back(
     frame: &[u8],
     function: u8,
     asked: Asked,
-    tags: &[u64; laws::MOST_TAGS],
-    tagged: usize,
+    words: &[u64; numbers::MOST_TAGS],
+    count: usize,
 ) -> Raw
     requires { ⌜ Framed (now frame) (now out) ⌝ }
     requires { ⌜ (excepts function (now frame) ≡ false → Brought asked (now frame)) ⌝ }
-    requires { ⌜ TagWords tagged (now tags) ⌝ }
-    ensures { λ r. ⌜ ((unit : ℕ) → outcome (r .partial) (r .value) (now (out .exit)) ≡ under 0 (now (out .entry)) (returned (tagsOf tagged (now (tags .entry))) (what unit function asked) (now (frame .entry)))) ⌝ }
+    requires { ⌜ TagWords count (now words) ⌝ }
+    ensures { λ r. ⌜ ((unit : ℕ) → withCounts (r .partial) (r .value) (now (out .exit)) ≡ under 0 (now (out .entry)) (returned (tagsOf count (now (words .entry))) (what unit function asked) (now (frame .entry)))) ⌝ }
 {
     let n = frame.len();
     wire::copy(out, frame);
-    let raw = bring(&mut out[..n], function, asked, tags, tagged);
+    let raw = bring(&mut out[..n], function, asked, words, count);
     wire::frames::lay_id(out, 0);
     raw
 }

@@ -7,9 +7,10 @@ ghost use Rattle.laws.specs.Bytes.{pairAt};
 ghost use Rattle.laws.specs.Search.{first};
 ghost use Rattle.bcd.specs.Bcd.{registers};
 ghost use Rattle.settings.specs.TagWords.{tagOf, kindOf};
-ghost use Rattle.rewrite.specs.Rewriting.{turned, outcome, rewriting};
+ghost use Rattle.rewrite.specs.Rewriting.{turned, withCounts, rewriting};
 ghost use Rattle.rewrite.specs.Frames.{reencoded};
-ghost use Rattle.rewrite.specs.Lent.{tagsOf, TagWords, Run, reaches, numberIn, counted, wholeLaid};
+ghost use Rattle.rewrite.specs.inner.Lent.{tagsOf, TagWords, Run, reaches, wholeLaid};
+ghost use Rattle.payloads.specs.inner.TagSteps.{numberIn, counted};
 use bcd::Decoded;
 use bcd::Encoded;
 use bcd::Kind;
@@ -24,25 +25,25 @@ use values::tagwords::tag_kind;
 const WORDS: u32 = 65536;
 
 // The first tag that does not end before start.
-fn first_tag(tags: &[u64; laws::MOST_TAGS], tagged: usize, start: usize) -> usize
-    requires { ⌜ TagWords tagged (now tags) ⌝ }
-    ensures { λ r. ⌜ r ≡ first (reaches (now (tags .entry)) start) tagged ⌝ }
+fn first_tag(words: &[u64; numbers::MOST_TAGS], count: usize, start: usize) -> usize
+    requires { ⌜ TagWords count (now words) ⌝ }
+    ensures { λ r. ⌜ r ≡ first (reaches (now (words .entry)) start) count ⌝ }
 {
     // A run below the tags or behind them needs no search.
-    if tagged == 0 {
+    if count == 0 {
         return 0;
     }
-    if start <= tag_address(tags[0]) as usize {
+    if start <= tag_address(words[0]) as usize {
         return 0;
     }
-    if rewrite::last_of(tags[tagged - 1]) < start {
-        return tagged;
+    if rewrite::last_of(words[count - 1]) < start {
+        return count;
     }
     let mut low: usize = 0;
-    let mut high = tagged;
+    let mut high = count;
     while low < high {
         let middle = low + (high - low) / 2;
-        if rewrite::last_of(tags[middle]) < start {
+        if rewrite::last_of(words[middle]) < start {
             low = middle + 1;
         } else {
             high = middle;
@@ -60,16 +61,21 @@ fn register_at(d: &[u8], k: usize) -> u32
 }
 
 // Whether a request 06 that writes the value to the address is re-encoded: its register is a whole tag, whose range has the value.
-pub fn is_reencoded(tags: &[u64; laws::MOST_TAGS], tagged: usize, address: u16, value: u16) -> bool
-    requires { ⌜ TagWords tagged (now tags) ⌝ }
-    ensures { λ r. ⌜ r ≡ reencoded (tagsOf tagged (now (tags .entry))) address value ⌝ }
+pub fn is_reencoded(
+    words: &[u64; numbers::MOST_TAGS],
+    count: usize,
+    address: u16,
+    value: u16,
+) -> bool
+    requires { ⌜ TagWords count (now words) ⌝ }
+    ensures { λ r. ⌜ r ≡ reencoded (tagsOf count (now (words .entry))) address value ⌝ }
 {
     let at = address as usize;
-    let i = first_tag(tags, tagged, at);
-    if tagged <= i {
+    let i = first_tag(words, count, at);
+    if count <= i {
         return false;
     }
-    let word = tags[i];
+    let word = words[i];
     if (tag_address(word) as usize != at) | (rewrite::last_of(word) != at) {
         return false;
     }
@@ -174,19 +180,19 @@ pub fn rewrite(
     start: u16,
     quantity: u16,
     way: Way,
-    tags: &[u64; laws::MOST_TAGS],
-    tagged: usize,
+    words: &[u64; numbers::MOST_TAGS],
+    count: usize,
 ) -> Raw
     requires { ⌜ Run base start quantity (now d) ⌝ }
-    requires { ⌜ TagWords tagged (now tags) ⌝ }
-    ensures { λ r. ⌜ outcome (r .partial) (r .value) (now (d .exit)) ≡ rewriting way base start quantity (tagsOf tagged (now (tags .entry))) (now (d .entry)) ⌝ }
+    requires { ⌜ TagWords count (now words) ⌝ }
+    ensures { λ r. ⌜ withCounts (r .partial) (r .value) (now (d .exit)) ≡ rewriting way base start quantity (tagsOf count (now (words .entry))) (now (d .entry)) ⌝ }
 {
     let end = start as usize + quantity as usize;
     let mut partial: u32 = 0;
     let mut value: u32 = 0;
-    let mut i = first_tag(tags, tagged, start as usize);
-    while i < tagged {
-        let word = tags[i];
+    let mut i = first_tag(words, count, start as usize);
+    while i < count {
+        let word = words[i];
         if end <= tag_address(word) as usize {
             break;
         }

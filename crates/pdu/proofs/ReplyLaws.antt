@@ -8,29 +8,18 @@ use mathlib.Core.List.{List}
 use native.Mathlib.Omega.{arith}
 use lib.ListN.{length}
 use lib.Dec.{eqb}
-use Rattle.laws.specs.Numbers.{lastFunction, shortPdu}
+use Rattle.numbers.specs.Numbers.{lastFunction, shortPdu}
 use Rattle.wire.specs.Frame.{unitOf, functionOf, pduSize, exception}
 use Rattle.wire.proofs.FrameLaws.{exception-function}
-use Rattle.pdu.specs.Requests.{startOf, quantityOf, valueOf, bytesFor}
+use Rattle.pdu.specs.Requests.{startOf, quantityOf, bytesFor}
 use Rattle.pdu.specs.Replies.{What, replyCountOf, shaped, excepts, answering}
 use Rattle.pdu.specs.Words.{Proper}
 use Rattle.pdu.specs.declared.Table.the-variants.{Bits, Registers}
 use Rattle.pdu.specs.declared.Asked.{Asked}
 use Rattle.pdu.specs.declared.Asked.the-variants.{Read, SingleWrite, MultipleWrite, Other}
 use Rattle.laws.proofs.TestLaws.{holds-eq, holds-and, holds-or, holds-always}
+use Rattle.pdu.specs.Plain.{Exception, Shaped}
 use Rattle.pdu.proofs.RequestLaws.{known}
-
--- an exception reply: function + 128, and a PDU of 2 bytes
-abbrev pub Exception : ℕ → List ℕ → Type 0
-Exception n f = (functionOf f ≡ n + 128) × (pduSize f ≡ 2)
-
--- the shape of a reply of the same function
-abbrev pub Shaped : Asked → List ℕ → Type 0
-Shaped (Read t s q) f = (replyCountOf f ≡ bytesFor t q) × (pduSize f ≡ 2 + bytesFor t q)
-Shaped (SingleWrite Bits a v) f = (pduSize f ≡ shortPdu) × ((startOf f ≡ a) × (valueOf f ≡ v))
-Shaped (SingleWrite Registers a v) f = (pduSize f ≡ shortPdu) × (startOf f ≡ a)
-Shaped (MultipleWrite t s q) f = (pduSize f ≡ shortPdu) × ((startOf f ≡ s) × (quantityOf f ≡ q))
-Shaped Other f = Unit {0}
 
 -- A frame is an exception reply exactly where it is function + 128 with a PDU of 2 bytes.
 pub excepts-exact : (n : ℕ) (f : List ℕ) → (excepts n f ≡ true) ↔ Exception n f

@@ -11,14 +11,14 @@ use lib.Arith.{digits-div, digits-mod}
 use lib.ListN.{length, getD}
 use lib.Dec.{eqb, ltb}
 use borrow.Author.Tests.{ne-eqb}
-use Rattle.laws.specs.Numbers.{lastFunction, coilOff, coilOn, shortPdu, multiplePdu, addresses, illegalAddress, illegalValue}
+use Rattle.numbers.specs.Numbers.{lastFunction, coilOff, coilOn, shortPdu, multiplePdu, addresses, illegalAddress, illegalValue}
 use Rattle.laws.specs.Bytes.{pairAt}
 use Rattle.laws.proofs.Choice.{eq-or, lt-or}
 use Rattle.wire.specs.Frame.{unitOf, functionOf, pduSize, misframed}
 use Rattle.settings.specs.Grammar.{Value}
 use Rattle.pdu.specs.Requests.{classOf, startOf, quantityOf, valueOf, byteCountOf, bytesFor, mostReadOf, mostWrittenOf, badFunction, badLength, badValue, badAddress, askedBy, askedOf, faultBy, faultOf, checkedBy, checkedOf, legal}
 use Rattle.pdu.specs.Replies.{what}
-use Rattle.pdu.specs.Words.{kept, keptIn, Lawful, Proper}
+use Rattle.pdu.specs.Words.{askedBits, askedFrom, Lawful, Proper}
 use Rattle.pdu.specs.declared.Table.{Table}
 use Rattle.pdu.specs.declared.Table.the-variants.{Bits, Registers}
 use Rattle.pdu.specs.declared.Class.{Class}
@@ -28,43 +28,8 @@ use Rattle.pdu.specs.declared.Asked.the-variants.{Read, SingleWrite, Mul
 use Rattle.pdu.specs.declared.Checked.{Checked}
 use Rattle.pdu.specs.declared.Checked.the-variants.{BadFunction, BadLength, Excepted, Legal}
 use Rattle.laws.proofs.TestLaws.{holds-eq, holds-not, holds-and, holds-or, fails-not, fails-ne, fails-lt, fails-zero, fails-or, fails-never, fails-holds, either}
-
--- a function that is not refused is 1 to 127
-abbrev pub Known : ℕ → Type 0
-Known n = (1 ≤ n) × (n ≤ lastFunction)
-
--- the PDU's size is right
-abbrev pub Sized : Class → List ℕ → Type 0
-Sized (Reads t) f = pduSize f ≡ shortPdu
-Sized (WritesOne t) f = pduSize f ≡ shortPdu
-Sized (WritesMany t) f = (multiplePdu ≤ pduSize f) × (pduSize f ≡ multiplePdu + byteCountOf f)
-Sized Others f = Unit {0}
-
--- the quantity is right, 05's value is 0x0000 or 0xFF00, and the byte count of 15 and 16 is that of the quantity
-abbrev pub Valued : Class → List ℕ → Type 0
-Valued (Reads t) f = (1 ≤ quantityOf f) × (quantityOf f ≤ mostReadOf t)
-Valued (WritesOne Bits) f = (valueOf f ≡ coilOff) ⊎ (valueOf f ≡ coilOn)
-Valued (WritesOne Registers) f = Unit {0}
-Valued (WritesMany t) f = (1 ≤ quantityOf f) × ((quantityOf f ≤ mostWrittenOf t) × (byteCountOf f ≡ bytesFor t (quantityOf f)))
-Valued Others f = Unit {0}
-
--- the range ends within the addresses
-abbrev pub Ranged : Class → List ℕ → Type 0
-Ranged (Reads t) f = startOf f + quantityOf f ≤ addresses
-Ranged (WritesOne t) f = Unit {0}
-Ranged (WritesMany t) f = startOf f + quantityOf f ≤ addresses
-Ranged Others f = Unit {0}
-
--- what the check of a request comes to, and when
-abbrev pub classIn : List ℕ → Class
-classIn f = classOf (functionOf f)
-
-pub data Outcome (f : List ℕ) : Checked → Type 0 where
-  unknown : (Known (functionOf f) → ⊥) → Outcome f BadFunction
-  missized : Known (functionOf f) → (Sized (classIn f) f → ⊥) → Outcome f BadLength
-  misvalued : Known (functionOf f) → Sized (classIn f) f → (Valued (classIn f) f → ⊥) → Outcome f (Excepted 3)
-  misranged : Known (functionOf f) → Sized (classIn f) f → Valued (classIn f) f → (Ranged (classIn f) f → ⊥) → Outcome f (Excepted 2)
-  fine : Known (functionOf f) → Sized (classIn f) f → Valued (classIn f) f → Ranged (classIn f) f → Outcome f (Legal (askedOf f))
+use Rattle.pdu.specs.Plain.{Known, Sized, Valued, Ranged, classIn, Outcome}
+use Rattle.pdu.specs.Plain.Outcome.{unknown, missized, misvalued, misranged, fine}
 
 -- Refusal 5 fails exactly for 1 to 127.
 pub known : (n : ℕ) → (badFunction n ≡ false) ↔ Known n
@@ -308,12 +273,12 @@ pair-low f k b = omega (arith, b k, b (k + 1))
 fields : {s q : ℕ} → s < 65536 → q < 65536 → ((s * 65536 + q) / 65536 % 65536 ≡ s) × ((s * 65536 + q) % 65536 ≡ q)
 fields {s} h l = (rw (digits-div s l) (mod-eq-of-lt h), digits-mod s l)
 
-kept-back : (c : Class) (f : List ℕ) → ((k : ℕ) → getD f k 0 < 256) → keptIn c (kept (askedBy c f)) ≡ askedBy c f
-unfolding keptIn kept askedBy
-kept-back (Reads t) f b = let e = fields (pair-low f 8 b) (pair-low f 10 b) in rw (e .0, e .1)
-kept-back (WritesOne t) f b = let e = fields (pair-low f 8 b) (pair-low f 10 b) in rw (e .0, e .1)
-kept-back (WritesMany t) f b = let e = fields (pair-low f 8 b) (pair-low f 10 b) in rw (e .0, e .1)
-kept-back Others f b = refl
+asked-bits-back : (c : Class) (f : List ℕ) → ((k : ℕ) → getD f k 0 < 256) → askedFrom c (askedBits (askedBy c f)) ≡ askedBy c f
+unfolding askedFrom askedBits askedBy
+asked-bits-back (Reads t) f b = let e = fields (pair-low f 8 b) (pair-low f 10 b) in rw (e .0, e .1)
+asked-bits-back (WritesOne t) f b = let e = fields (pair-low f 8 b) (pair-low f 10 b) in rw (e .0, e .1)
+asked-bits-back (WritesMany t) f b = let e = fields (pair-low f 8 b) (pair-low f 10 b) in rw (e .0, e .1)
+asked-bits-back Others f b = refl
 
 lawful-by : (c : Class) (f : List ℕ) → ((k : ℕ) → getD f k 0 < 256) → Valued c f → Ranged c f → Lawful (askedBy c f)
 unfolding Lawful askedBy
@@ -330,6 +295,6 @@ legal-proper f a b e =
     rw (p .asks) (record {
       unit = b 6;
       function = known (functionOf f) .1 (p .function);
-      class = kept-back (classIn f) f b;
+      class = asked-bits-back (classIn f) f b;
       lawful = lawful-by (classIn f) f b (p .value) (p .range);
     })

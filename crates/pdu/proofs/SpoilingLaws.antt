@@ -13,7 +13,7 @@ use Rattle.laws.proofs.TestLaws.{holds-eq, holds-and}
 use Rattle.wire.specs.Frame.{unitOf, functionOf}
 use Rattle.pdu.specs.Requests.{classOf, askedBy, checkedOf}
 use Rattle.pdu.specs.Replies.{What, what}
-use Rattle.pdu.specs.Words.{kept, keptIn, Lawful, Proper}
+use Rattle.pdu.specs.Words.{askedBits, askedFrom, Lawful, Proper}
 use Rattle.pdu.specs.Spoiling.{sameTable, overlap, meets, spoils}
 use Rattle.pdu.specs.declared.Table.{Table}
 use Rattle.pdu.specs.declared.Table.the-variants.{Bits, Registers}
@@ -22,7 +22,8 @@ use Rattle.pdu.specs.declared.Class.the-variants.{Reads, WritesOne, Writ
 use Rattle.pdu.specs.declared.Asked.{Asked}
 use Rattle.pdu.specs.declared.Asked.the-variants.{Read, SingleWrite, MultipleWrite, Other}
 use Rattle.pdu.specs.declared.Checked.the-variants.{Legal}
-use Rattle.pdu.proofs.RequestLaws.{Valued, classIn, legal-passed, class-read-bits, class-read, class-single, class-multiple, class-other}
+use Rattle.pdu.specs.Plain.{Valued, classIn, Reading, Writing, Neither, Common, Meeting, sortOf, NotEmpty, Ranging}
+use Rattle.pdu.proofs.RequestLaws.{legal-passed, class-read-bits, class-read, class-single, class-multiple, class-other}
 
 -- Two tables are the same exactly where they are equal.
 pub same-table : (t r : Table) → (sameTable t r ≡ true) ↔ (t ≡ r)
@@ -33,33 +34,6 @@ same-table Registers Bits = (λ e. absurd (false≢true e), λ e. never (cc))
 same-table Registers Registers = (λ e. refl, λ e. refl)
 
 -- IN PLAIN NUMBERS
-
--- the functions that read bits and registers, that write them, and that do neither
-abbrev pub Reading : Table → ℕ → Type 0
-Reading Bits n = (n ≡ 1) ⊎ (n ≡ 2)
-Reading Registers n = (n ≡ 3) ⊎ (n ≡ 4)
-
-abbrev pub Writing : Table → ℕ → Type 0
-Writing Bits n = (n ≡ 5) ⊎ (n ≡ 15)
-Writing Registers n = (n ≡ 6) ⊎ (n ≡ 16)
-
-abbrev pub Neither : ℕ → Type 0
-Neither n = (n ≡ 1 → ⊥) × (n ≡ 2 → ⊥) × (n ≡ 3 → ⊥) × (n ≡ 4 → ⊥) × (n ≡ 5 → ⊥) × (n ≡ 6 → ⊥) × (n ≡ 15 → ⊥) × (n ≡ 16 → ⊥)
-
--- the address x is asked for: the address of 05 and 06; of the others as many as the quantity from the start on
-abbrev pub Covers : Asked → ℕ → Type 0
-Covers (Read t s q) x = (s ≤ x) × (x < s + q)
-Covers (SingleWrite t a v) x = x ≡ a
-Covers (MultipleWrite t s q) x = (s ≤ x) × (x < s + q)
-Covers Other x = ⊥
-
--- both ask for some address
-abbrev pub Common : Asked → Asked → Type 0
-Common a b = (x : ℕ) × Covers a x × Covers b x
-
--- r reads bits or registers, and w is "other", or writes those and has an address in common with r
-abbrev pub Meeting : What → What → Type 0
-Meeting w r = (t : Table) × Reading t (r .function) × (Neither (w .function) ⊎ (Writing t (w .function) × Common (w .asked) (r .asked)))
 
 -- BY CLASS
 
@@ -96,19 +70,12 @@ class-exact n c = (λ e. rw e at (named n), back c)
     back (WritesMany Registers) e = ap classOf e ∙ class-multiple .1
     back Others e = class-other n (e .0) (e .1) (e .2) (e .3) (e .4) (e .5) (e .6) (e .7)
 
--- the class that asks such a thing
-abbrev pub sortOf : Asked → Class
-sortOf (Read t s q) = Reads t
-sortOf (SingleWrite t a v) = WritesOne t
-sortOf (MultipleWrite t s q) = WritesMany t
-sortOf Other = Others
-
-sort-kept : (c : Class) (n : ℕ) → sortOf (keptIn c n) ≡ c
-unfolding keptIn
-sort-kept (Reads t) n = refl
-sort-kept (WritesOne t) n = refl
-sort-kept (WritesMany t) n = refl
-sort-kept Others n = refl
+sort-asked-from : (c : Class) (n : ℕ) → sortOf (askedFrom c n) ≡ c
+unfolding askedFrom
+sort-asked-from (Reads t) n = refl
+sort-asked-from (WritesOne t) n = refl
+sort-asked-from (WritesMany t) n = refl
+sort-asked-from Others n = refl
 
 sort-asked : (c : Class) (f : List ℕ) → sortOf (askedBy c f) ≡ c
 unfolding askedBy
@@ -116,13 +83,6 @@ sort-asked (Reads t) f = refl
 sort-asked (WritesOne t) f = refl
 sort-asked (WritesMany t) f = refl
 sort-asked Others f = refl
-
--- where there is a quantity, it is not 0
-abbrev pub NotEmpty : Asked → Type 0
-NotEmpty (Read t s q) = 1 ≤ q
-NotEmpty (SingleWrite t a v) = Unit {0}
-NotEmpty (MultipleWrite t s q) = 1 ≤ q
-NotEmpty Other = Unit {0}
 
 lawful-some : (a : Asked) → Lawful a → NotEmpty a
 unfolding Lawful
@@ -138,14 +98,9 @@ valued-some (WritesOne t) f v = tt
 valued-some (WritesMany t) f v = v .0
 valued-some Others f v = tt
 
--- what is asked is what the function's class asks, of one address or more
-pub record Ranging (w : What) : Type 0 where
-  pub class : classOf (w .function) ≡ sortOf (w .asked)
-  pub some : NotEmpty (w .asked)
-
 -- What may stand in a live entry is such;
 pub proper-ranges : (w : What) → Proper w → Ranging w
-proper-ranges w p = record { class = sym (sort-kept (classOf (w .function)) (kept (w .asked))) ∙ ap sortOf (p .class); some = lawful-some (w .asked) (p .lawful) }
+proper-ranges w p = record { class = sym (sort-asked-from (classOf (w .function)) (askedBits (w .asked))) ∙ ap sortOf (p .class); some = lawful-some (w .asked) (p .lawful) }
 
 -- so is what a legal request asks, whatever numbers its frame has for bytes.
 pub legal-ranges : (f : List ℕ) (a : Asked) → checkedOf f ≡ Legal a → Ranging (what (unitOf f) (functionOf f) a)

@@ -3,3 +3,4 @@ pub mod Replies
 pub mod Words
 pub mod Spoiling
 pub mod Reads
+pub mod Plain

@@ -5,7 +5,7 @@ use mathlib.Core.Bool.{Bool, true, _&&_, _||_}
 use mathlib.Core.List.{List}
 use lib.ListN.{getD}
 use lib.Dec.{eqb}
-use Rattle.laws.specs.Numbers.{shortPdu, exceptionPdu, exceptionBit}
+use Rattle.numbers.specs.Numbers.{shortPdu, exceptionPdu, exceptionBit}
 use Rattle.wire.specs.Frame.{unitOf, functionOf, pduSize}
 use Rattle.pdu.specs.Requests.{startOf, quantityOf, valueOf, bytesFor}
 use Rattle.pdu.specs.declared.Table.the-variants.{Bits, Registers}

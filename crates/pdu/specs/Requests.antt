@@ -7,7 +7,7 @@ use mathlib.Core.Bool.{Bool, false, cond, not, _&&_, _||_}
 use mathlib.Core.List.{List}
 use lib.ListN.{getD}
 use lib.Dec.{eqb, ltb}
-use Rattle.laws.specs.Numbers.{readCoils, readDiscrete, readHolding, readInput, writeCoil, writeSingle, writeCoils, writeMultiple, lastFunction, mostRead, mostWritten, mostBitsRead, mostBitsWritten, coilOff, coilOn, shortPdu, multiplePdu, addresses, illegalAddress, illegalValue}
+use Rattle.numbers.specs.Numbers.{readCoils, readDiscrete, readHolding, readInput, writeCoil, writeSingle, writeCoils, writeMultiple, lastFunction, mostRead, mostWritten, mostBitsRead, mostBitsWritten, coilOff, coilOn, shortPdu, multiplePdu, addresses, illegalAddress, illegalValue}
 use Rattle.laws.specs.Bytes.{pairAt}
 use Rattle.wire.specs.Frame.{functionOf, pduSize, misframed}
 use Rattle.settings.specs.Grammar.{Value}

@@ -5,7 +5,7 @@ use Prim.Native.Nat.{ℕ, _+_, _*_, _/_, _%_, _≤_, _<_}
 use mathlib.Core.Path.{_≡_}
 use mathlib.Core.Logic.{_⊎_}
 use mathlib.Core.Bool.{false}
-use Rattle.laws.specs.Numbers.{coilOff, coilOn, addresses}
+use Rattle.numbers.specs.Numbers.{coilOff, coilOn, addresses}
 use Rattle.pdu.specs.Requests.{classOf, mostReadOf, mostWrittenOf, badFunction}
 use Rattle.pdu.specs.declared.Table.the-variants.{Bits, Registers}
 use Rattle.pdu.specs.declared.Class.{Class}
@@ -17,24 +17,24 @@ use Rattle.pdu.specs.declared.ProxyId.{ProxyId}
 use Rattle.pdu.specs.declared.Entry.{Entry}
 
 -- what a class keeps, in 48 bits; and back, with the table of the class
-unfoldable pub kept : Asked → ℕ
-kept (Read t s q) = s * 65536 + q
-kept (SingleWrite t a v) = a * 65536 + v
-kept (MultipleWrite t s q) = s * 65536 + q
-kept Other = 0
+unfoldable pub askedBits : Asked → ℕ
+askedBits (Read t s q) = s * 65536 + q
+askedBits (SingleWrite t a v) = a * 65536 + v
+askedBits (MultipleWrite t s q) = s * 65536 + q
+askedBits Other = 0
 
-unfoldable pub keptIn : Class → ℕ → Asked
-keptIn (Reads t) n = Read t (n / 65536 % 65536) (n % 65536)
-keptIn (WritesOne t) n = SingleWrite t (n / 65536 % 65536) (n % 65536)
-keptIn (WritesMany t) n = MultipleWrite t (n / 65536 % 65536) (n % 65536)
-keptIn Others n = Other
+unfoldable pub askedFrom : Class → ℕ → Asked
+askedFrom (Reads t) n = Read t (n / 65536 % 65536) (n % 65536)
+askedFrom (WritesOne t) n = SingleWrite t (n / 65536 % 65536) (n % 65536)
+askedFrom (WritesMany t) n = MultipleWrite t (n / 65536 % 65536) (n % 65536)
+askedFrom Others n = Other
 
 unfoldable pub wordOf : What → ℕ
-wordOf w = (w .unit * 256 + w .function) * 281474976710656 + kept (w .asked)
+wordOf w = (w .unit * 256 + w .function) * 281474976710656 + askedBits (w .asked)
 
 unfoldable pub whatOf : ℕ → What
 whatOf n =
-    what (n / 281474976710656 / 256 % 256) (n / 281474976710656 % 256) (keptIn (classOf (n / 281474976710656 % 256)) (n % 281474976710656))
+    what (n / 281474976710656 / 256 % 256) (n / 281474976710656 % 256) (askedFrom (classOf (n / 281474976710656 % 256)) (n % 281474976710656))
 
 -- the bit of a live place's word that says that the request is closed
 abbrev pub closedBit : ℕ
@@ -59,5 +59,5 @@ Lawful Other = Unit {0}
 pub record Proper (w : What) : Type 0 where
   pub unit : w .unit < 256
   pub function : badFunction (w .function) ≡ false
-  pub class : keptIn (classOf (w .function)) (kept (w .asked)) ≡ w .asked
+  pub class : askedFrom (classOf (w .function)) (askedBits (w .asked)) ≡ w .asked
   pub lawful : Lawful (w .asked)

@@ -1,7 +1,7 @@
 // What a request asks, what it may ask and what answers it: the definitions with their laws; proxy ids and clients' ids as two types.
 ghost use mathlib.Core.Path.{_≡_};
 ghost use Prim.Native.Nat.{_+_, _<_};
-ghost use Rattle.laws.specs.Numbers.{ids};
+ghost use Rattle.numbers.specs.Numbers.{ids};
 ghost use Rattle.laws.specs.Circle.{turn};
 ghost use Rattle.wire.specs.Frame.{idOf};
 ghost use Rattle.pdu.specs.Requests.{classOf, bytesFor, mostReadOf, mostWrittenOf};
@@ -74,7 +74,7 @@ impl ProxyId {
     pub fn next(self) -> ProxyId
         ensures { λ r. ⌜ r .0 ≡ turn ids (self .0 + 1) ⌝ }
     {
-        if self.0 == laws::LAST_ID {
+        if self.0 == numbers::LAST_ID {
             return ProxyId(0);
         }
         ProxyId(self.0 + 1)
@@ -99,22 +99,22 @@ pub fn proxy_of(frame: &[u8]) -> ProxyId
 pub fn class_of(function: u8) -> Class
     ensures { λ r. ⌜ r ≡ classOf function ⌝ }
 {
-    if (function == laws::READ_COILS) | (function == laws::READ_DISCRETE) {
+    if (function == numbers::READ_COILS) | (function == numbers::READ_DISCRETE) {
         return Class::Reads(Table::Bits);
     }
-    if (function == laws::READ_HOLDING) | (function == laws::READ_INPUT) {
+    if (function == numbers::READ_HOLDING) | (function == numbers::READ_INPUT) {
         return Class::Reads(Table::Registers);
     }
-    if function == laws::WRITE_COIL {
+    if function == numbers::WRITE_COIL {
         return Class::WritesOne(Table::Bits);
     }
-    if function == laws::WRITE_SINGLE {
+    if function == numbers::WRITE_SINGLE {
         return Class::WritesOne(Table::Registers);
     }
-    if function == laws::WRITE_COILS {
+    if function == numbers::WRITE_COILS {
         return Class::WritesMany(Table::Bits);
     }
-    if function == laws::WRITE_MULTIPLE {
+    if function == numbers::WRITE_MULTIPLE {
         return Class::WritesMany(Table::Registers);
     }
     Class::Others
@@ -135,8 +135,8 @@ pub fn most_read_of(table: Table) -> u16
     ensures { λ r. ⌜ r ≡ mostReadOf table ⌝ }
 {
     match table {
-        Table::Bits => laws::MOST_BITS_READ,
-        Table::Registers => laws::MOST_READ,
+        Table::Bits => numbers::MOST_BITS_READ,
+        Table::Registers => numbers::MOST_READ,
     }
 }
 
@@ -144,7 +144,7 @@ pub fn most_written_of(table: Table) -> u16
     ensures { λ r. ⌜ r ≡ mostWrittenOf table ⌝ }
 {
     match table {
-        Table::Bits => laws::MOST_BITS_WRITTEN,
-        Table::Registers => laws::MOST_WRITTEN,
+        Table::Bits => numbers::MOST_BITS_WRITTEN,
+        Table::Registers => numbers::MOST_WRITTEN,
     }
 }

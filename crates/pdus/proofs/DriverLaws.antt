@@ -6,17 +6,17 @@ use mathlib.Core.Bool.{true, false}
 use mathlib.Core.List.{List, [], _∷_}
 use native.Mathlib.Omega.{arith}
 use lib.ListN.{length, getD}
-use Rattle.laws.specs.Numbers.{mostFrame}
+use Rattle.numbers.specs.Numbers.{mostFrame}
 use Rattle.wire.specs.Frame.{misframed}
 use Rattle.wire.proofs.FrameLaws.{framed}
 use Rattle.bcd.specs.Bcd.{registers}
-use Rattle.settings.specs.TagWords.{kindOf, widthOf, signOf, kindNumber, kindFrom, wordOf, tagOf, Ascending}
+use Rattle.settings.specs.TagWords.{kindOf, widthOf, signOf, kindNumber, kindFrom, tagWord, tagOf, Ascending}
 use Rattle.pdu.specs.Requests.{checkedOf}
 use Rattle.pdu.specs.Replies.{what, excepts, answering}
 use Rattle.pdu.specs.declared.Asked.{Asked}
 use Rattle.pdu.specs.declared.Checked.the-variants.{Legal}
 use Rattle.pdu.proofs.RequestLaws.{legal-proper}
-use Rattle.rewrite.specs.Lent.{Sent, Brought, Framed}
+use Rattle.rewrite.specs.inner.Lent.{Sent, Brought, Framed}
 use Rattle.rewrite.proofs.RoomLaws.{legal-sent, answer-brought}
 
 -- A frame that is not refused fits a buffer of the stated length.
@@ -31,8 +31,8 @@ module _ (f : List ℕ) {a : Asked} (bytes : (k : ℕ) → getD f k 0 < 256) (le
   brings r unit function e x = answer-brought (what unit function a) r (legal-proper f a bytes legal .lawful) e x
 
 -- Document 01's two tags, width 16 at 1024 and width 32 at 1026, and behind them a signed one at 1028 and one of width 32 at 1029 ascend.
-pub four-tags : {a b c d : ℕ} → a ≡ wordOf (record { address = 1024; width = 16; sign = 0 }) → b ≡ wordOf (record { address = 1026; width = 32; sign = 0 })
-    → c ≡ wordOf (record { address = 1028; width = 16; sign = 1 }) → d ≡ wordOf (record { address = 1029; width = 32; sign = 0 })
+pub four-tags : {a b c d : ℕ} → a ≡ tagWord (record { address = 1024; width = 16; sign = 0 }) → b ≡ tagWord (record { address = 1026; width = 32; sign = 0 })
+    → c ≡ tagWord (record { address = 1028; width = 16; sign = 1 }) → d ≡ tagWord (record { address = 1029; width = 32; sign = 0 })
     → Ascending 0 (tagOf a ∷ tagOf b ∷ tagOf c ∷ tagOf d ∷ [])
-unfolding Ascending tagOf wordOf kindOf kindNumber kindFrom widthOf signOf registers
+unfolding Ascending tagOf tagWord kindOf kindNumber kindFrom widthOf signOf registers
 four-tags p q r s = rw p (rw q (rw r (rw s (omega arith, omega arith, (omega arith, omega arith, (omega arith, omega arith, (omega arith, omega arith, tt)))))))

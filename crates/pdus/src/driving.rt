@@ -1,5 +1,5 @@
 // A request forwarded and a reply given back, behind every check of its frame, with document 01's two tags, width 16 at 1024 and width 32 at 1026, and two more: a signed one at 1028, and width 32 at 1029.
-ghost use Rattle.rewrite.specs.Lent.{TagWords};
+ghost use Rattle.rewrite.specs.inner.Lent.{TagWords};
 use pdu::Checked;
 use pdu::ProxyId;
 use rewrite::Raw;
@@ -14,10 +14,10 @@ pub enum Given {
     Frame(usize, Raw),
 }
 
-fn tag_words() -> [u64; laws::MOST_TAGS]
+fn tag_words() -> [u64; numbers::MOST_TAGS]
     ensures { λ r. ⌜ TagWords 4 r ⌝ }
 {
-    let mut words = [0u64; laws::MOST_TAGS];
+    let mut words = [0u64; numbers::MOST_TAGS];
     words[0] = tag_word(1024, 16, 0);
     words[1] = tag_word(1026, 32, 0);
     words[2] = tag_word(1028, 16, 1);
@@ -27,7 +27,7 @@ fn tag_words() -> [u64; laws::MOST_TAGS]
 
 // A request, as it goes out; or the exception that the caller gets.
 pub fn send(frame: &[u8], out: &mut [u8]) -> Given {
-    if out.len() < laws::FRAME_BUFFER {
+    if out.len() < numbers::FRAME_BUFFER {
         return Given::Refused(1);
     }
     if wire::frames::is_misframed(frame) {
@@ -45,7 +45,7 @@ pub fn send(frame: &[u8], out: &mut [u8]) -> Given {
                 partial: 0,
                 value: 0,
             };
-            Given::Frame(laws::EXCEPTION_FRAME, raw)
+            Given::Frame(numbers::EXCEPTION_FRAME, raw)
         }
         Checked::Legal(asked) => {
             let tags = tag_words();
@@ -57,7 +57,7 @@ pub fn send(frame: &[u8], out: &mut [u8]) -> Given {
 
 // A reply to a request, as it is given back; a request that is not legal is not live, and its reply is refused by 7.
 pub fn bring(request: &[u8], reply: &[u8], out: &mut [u8]) -> Given {
-    if out.len() < laws::FRAME_BUFFER {
+    if out.len() < numbers::FRAME_BUFFER {
         return Given::Refused(1);
     }
     if wire::frames::is_misframed(request) {

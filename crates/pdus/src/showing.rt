@@ -29,7 +29,7 @@ fn tell(right: &[u8], given: Given, out: &[u8]) -> usize {
 
 // What a request gives, or the reply to it if there is one.
 fn give(request: &[u8], reply: &[u8], out: &mut [u8]) -> Given {
-    let mut answer = [0u8; laws::MOST_FRAME];
+    let mut answer = [0u8; numbers::MOST_FRAME];
     let size = parse(reply, &mut answer);
     if size == 0 {
         return send(request, out);
@@ -39,8 +39,8 @@ fn give(request: &[u8], reply: &[u8], out: &mut [u8]) -> Given {
 
 // Runs an example, and says what comes of it.
 fn run(right: &[u8], request: &[u8], reply: &[u8]) -> usize {
-    let mut asked = [0u8; laws::MOST_FRAME];
-    let mut out = [0u8; laws::MOST_FRAME];
+    let mut asked = [0u8; numbers::MOST_FRAME];
+    let mut out = [0u8; numbers::MOST_FRAME];
     let size = parse(request, &mut asked);
     let given = give(before(&asked, size), reply, &mut out);
     tell(right, given, &out)

@@ -9,7 +9,7 @@ use native.Mathlib.Omega.{arith}
 use lib.ListN.{replicate, length-replicate}
 use lib.Pow.{pow-pos}
 use borrow.Author.Tests.{le-leb, lt-leb, leb-false}
-use Rattle.laws.specs.Numbers.{clients, places}
+use Rattle.numbers.specs.Numbers.{clients, places}
 use Rattle.laws.specs.Bits.{has, with, without}
 use Rattle.laws.proofs.BitLaws.{with-low, without-low}
 use Rattle.laws.proofs.Choice.{or-left}
@@ -25,11 +25,11 @@ use Rattle.machine.specs.Numbers.{numbers}
 use Rattle.machine.specs.Outcomes.{granted, outcome}
 use Rattle.machine.specs.declared.Answer.the-variants.{Refused, Done as Finished, Lost}
 use Rattle.machine.proofs.OutcomeLaws.{granted-is, refused-is}
-use Rattle.table.specs.Columns.{Columns, columns, entryAt, tableOf, bookOf, Sound}
-use Rattle.table.specs.Changes.{Struck}
+use Rattle.table.specs.Columns.{Columns, columns, entryAt, tableOf, bookOf, SoundTable}
+use Rattle.table.specs.inner.Changes.{Struck}
 use Rattle.table.proofs.EntryLaws.{withParties}
 use Rattle.table.proofs.ChangeLaws.{strike-is, strike-sound}
-use Rattle.proxy.specs.State.{State, seated, lentSet, machineOf, valueIn, Sounds}
+use Rattle.proxy.specs.State.{State, seated, lentSet, machineOf, valueIn, SoundState}
 use Rattle.proxy.specs.Calls.{Does}
 use Rattle.proxy.proofs.StateLaws.{still-sound}
 
@@ -37,7 +37,7 @@ use Rattle.proxy.proofs.StateLaws.{still-sound}
 pub no-stranger : (set client : ℕ) → isStrangeTo set client ≡ false → client < clients
 no-stranger set client t = leb-false clients client (or-left _ (not (has set client)) t)
 
-module _ (s : State) (sounds : Sounds s) where
+module _ (s : State) (sounds : SoundState s) where
   -- Attach above the last client is refusal 2.
   pub attach-above : (client : ℕ) → clients ≤ client → Does s (attach client) (Refused 2) s [] []
   unfolding rows lowest outOf listOf
@@ -84,7 +84,7 @@ emptied-table : (c : Columns) → tableOf (emptied c) ≡ replicate places none
 unfolding tableOf
 emptied-table c = tab-ext places (entryAt (emptied c)) (λ k. none) (λ k l. rw (getD-repeat {A = ℕ} places k 0)) ∙ tab-repeat places none
 
-emptied-sound : (c : Columns) → Sound c → Sound (emptied c)
+emptied-sound : (c : Columns) → SoundTable c → SoundTable (emptied c)
 emptied-sound c s = record {
   ids-long = length-replicate {A = ℕ} places 0;
   asked-long = s .asked-long;
@@ -105,7 +105,7 @@ pub emptied-is : (v : Value) (x t : ℕ) (c : Columns) → bookOf v (emptied c) 
 emptied-is v x t c = ap (λ l. book v l x t) (emptied-table c)
 
 -- Link lost removes every entry and everyone, and tells the former set.
-pub lost : (s : State) → Sounds s → Does s linkLost (Lost (s .attached)) (seated s (emptied (s .table)) 0 (s .clock)) [] []
+pub lost : (s : State) → SoundState s → Does s linkLost (Lost (s .attached)) (seated s (emptied (s .table)) 0 (s .clock)) [] []
 unfolding rows lowest granted numbers
 lost s sounds = (
   ap (λ b. done (Lost (s .attached)) (machine b 0) [] []) (emptied-is (valueIn (s .settings)) (s .cursor) (s .clock) (s .table))

@@ -4,7 +4,7 @@ use Prim.Native.Nat.{ℕ}
 use mathlib.Core.Path.{_≡_, refl}
 use mathlib.Core.List.{List}
 use Rattle.table.specs.Columns.{Columns}
-use Rattle.proxy.specs.State.{Kept, State, lentSet, lentParties, lentIds, lentTable, lentKept}
+use Rattle.proxy.specs.State.{KeptSettings, State, lentSet, lentParties, lentIds, lentTable, lentKept}
 
 module _ (s : State) where
   -- its table as it is
@@ -23,7 +23,7 @@ module _ (s : State) where
   pub table-own : lentTable s (own .ids) (own .asked) (own .callers) (own .deadlines) (own .counts) (own .clients) (own .originals) (own .top) (s .clock) ≡ s
   table-own = refl
 
-  pub kept-own : let k = s .settings in lentKept s (own .ids) (own .asked) (own .callers) (own .deadlines) (own .counts) (own .clients) (own .originals) (own .top) (s .clock) (k .timeout) (k .join) (k .tagged) (k .tags) ≡ s
+  pub kept-own : let k = s .settings in lentKept s (own .ids) (own .asked) (own .callers) (own .deadlines) (own .counts) (own .clients) (own .originals) (own .top) (s .clock) (k .timeout) (k .join) (k .tagCount) (k .tagWords) ≡ s
   kept-own = refl
 
   module _ (top attached : ℕ) where
@@ -41,7 +41,7 @@ module _ (s : State) where
       → let l = lentTable s (c .ids) (c .asked) (c .callers) (c .deadlines) (c .counts) (c .clients) (c .originals) (c .top) clock in (l .table ≡ c) × (l .clock ≡ clock)
   table-lent c clock = (refl, refl)
 
-  pub kept-lent : (c : Columns) (clock : ℕ) (k : Kept)
-      → let l = lentKept s (c .ids) (c .asked) (c .callers) (c .deadlines) (c .counts) (c .clients) (c .originals) (c .top) clock (k .timeout) (k .join) (k .tagged) (k .tags) in
+  pub kept-lent : (c : Columns) (clock : ℕ) (k : KeptSettings)
+      → let l = lentKept s (c .ids) (c .asked) (c .callers) (c .deadlines) (c .counts) (c .clients) (c .originals) (c .top) clock (k .timeout) (k .join) (k .tagCount) (k .tagWords) in
       (l .table ≡ c) × (l .clock ≡ clock) × (l .settings ≡ k)
   kept-lent c clock k = (refl, refl, refl)

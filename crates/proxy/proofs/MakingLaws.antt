@@ -10,7 +10,7 @@ use native.Mathlib.Nat.{zero-div}
 use native.Mathlib.Omega.{arith}
 use lib.ListN.{length, take, replicate, length-replicate, length-append, length-map}
 use lib.Pow.{pow-pos}
-use Rattle.laws.specs.Numbers.{clients, places, partyPlaces, mostTags, usualTimeout}
+use Rattle.numbers.specs.Numbers.{clients, places, partyPlaces, mostTags, usualTimeout}
 use Rattle.laws.specs.Lists.{tab}
 use Rattle.laws.specs.Bits.{has}
 use Rattle.laws.proofs.Choice.{true-or}
@@ -18,7 +18,7 @@ use Rattle.laws.proofs.ListLaws.{length-tab, getD-repeat}
 use Rattle.settings.specs.declared.Settings.{Settings}
 use Rattle.settings.specs.Grammar.{Value, validIn, valid, allRight, tagsRight}
 use Rattle.settings.specs.Values.{settings, listed, valueOf, padded, usual}
-use Rattle.settings.specs.TagWords.{wordOf, tagOf, Ascending}
+use Rattle.settings.specs.TagWords.{tagWord, tagOf, Ascending}
 use Rattle.settings.proofs.ValueLaws.{value-ext}
 use Rattle.settings.proofs.TagLaws.{words-kept, valid-ascends, valid-bounds}
 use Rattle.book.specs.Book.{book, at}
@@ -26,10 +26,10 @@ use Rattle.machine.specs.Machine.{machine, made}
 use Rattle.machine.specs.declared.Answer.{Answer}
 use Rattle.machine.specs.declared.Answer.the-variants.{Refused, Done}
 use Rattle.table.specs.Columns.{Columns, columns, tableOf}
-use Rattle.table.specs.Changes.{blank}
+use Rattle.table.specs.inner.Changes.{blank}
 use Rattle.table.proofs.EntryLaws.{blank-table}
 use Rattle.table.proofs.ChangeLaws.{clear-sound}
-use Rattle.proxy.specs.State.{State, Kept, kept, valueIn, state, machineOf, Settled, Sounds}
+use Rattle.proxy.specs.State.{State, KeptSettings, keptSettings, valueIn, state, machineOf, Settled, SoundState}
 use Rattle.proxy.specs.Gates.{adopted, makingAnswer}
 use Rattle.proxy.specs.Calls.{Adopts, Freshened}
 
@@ -54,15 +54,15 @@ unfolding adopted makingAnswer
 adopts-usual v t = (rw t, rw t)
 
 -- the settings that keep a value: its numbers and its tag words
-abbrev pub keeping : Value → ℕ → List ℕ → Kept
-keeping v n words = kept (v .timeout) (v .join) n words
+abbrev pub keeping : Value → ℕ → List ℕ → KeptSettings
+keeping v n words = keptSettings (v .timeout) (v .join) n words
 
 -- what is kept gives the value back, and is settled
-abbrev pub Keeps : Kept → Value → Type 0
+abbrev pub Keeps : KeptSettings → Value → Type 0
 Keeps k v = (valueIn k ≡ v) × Settled k
 
 -- A valid value's numbers with the words of its tags keep the value.
-pub kept-value : (v : Value) (n : ℕ) (words : List ℕ) → valid v ≡ true → length (v .tags) ≡ n → words ≡ padded (map wordOf (v .tags)) → Keeps (keeping v n words) v
+pub kept-value : (v : Value) (n : ℕ) (words : List ℕ) → valid v ≡ true → length (v .tags) ≡ n → words ≡ padded (map tagWord (v .tags)) → Keeps (keeping v n words) v
 unfolding valueIn
 kept-value v n words right listed e =
     let b = valid-bounds v right in
@@ -78,7 +78,7 @@ kept-value v n words right listed e =
     )
 
 -- So do the boundary's struct's numbers with the words of the tags that it lists.
-pub kept-settings : (s : Settings) (words : List ℕ) → valid (valueOf s) ≡ true → words ≡ padded (map wordOf (listed (s .tags) (s .addr) (s .width) (s .sign))) → Keeps (kept (s .timeout) (s .join) (s .tags) words) (valueOf s)
+pub kept-settings : (s : Settings) (words : List ℕ) → valid (valueOf s) ≡ true → words ≡ padded (map tagWord (listed (s .tags) (s .addr) (s .width) (s .sign))) → Keeps (keptSettings (s .timeout) (s .join) (s .tags) words) (valueOf s)
 unfolding valueOf
 kept-settings s words right e = kept-value (valueOf s) (s .tags) words right (length-tab (s .tags) _) e
 
@@ -88,15 +88,15 @@ unfolding valueOf tab
 usual-settings addr width sign = refl
 
 -- a state with columns of zeros and all else 0 is sound, whatever settings are in it
-zeroed-sound : (c : Columns) (k : Kept) → c ≡ blank → Settled k → Sounds (state c 0 0 0 k)
+zeroed-sound : (c : Columns) (k : KeptSettings) → c ≡ blank → Settled k → SoundState (state c 0 0 0 k)
 zeroed-sound c k e q = record { table = clear-sound c e; cursor = omega arith; attached = pow-pos clients; settings = q }
 
 -- What keeps the value that is adopted adopts it, beside the answer.
-pub takes : (from : Settings) {w : Value} {answer : Answer} {k : Kept} → (makingAnswer (valueOf from) ≡ answer) × (adopted (valueOf from) ≡ w) → Keeps k w → Adopts from answer k
+pub takes : (from : Settings) {w : Value} {answer : Answer} {k : KeptSettings} → (makingAnswer (valueOf from) ≡ answer) × (adopted (valueOf from) ≡ w) → Keeps k w → Adopts from answer k
 takes from a q = (sym (a .0), q .0 ∙ sym (a .1), q .1)
 
 -- Columns of zeros with what was adopted are the fresh state, beside the answer.
-pub made-fresh : (from : Settings) (answer : Answer) (c : Columns) (k : Kept) → c ≡ blank → Adopts from answer k → Freshened from answer (state c 0 0 0 k)
+pub made-fresh : (from : Settings) (answer : Answer) (c : Columns) (k : KeptSettings) → c ≡ blank → Adopts from answer k → Freshened from answer (state c 0 0 0 k)
 made-fresh from answer c k e a = (
   a .0,
   ap (λ v. machine (book v (tableOf c) 0 0) 0) (a .1) ∙ ap (λ l. machine (book (adopted (valueOf from)) l 0 0) 0) (ap tableOf e ∙ blank-table),
@@ -109,10 +109,10 @@ zeros =
     state
     (columns (replicate places 0) (replicate places 0) (replicate places 0) (replicate places 0) (replicate places 0) (replicate partyPlaces 0)
     (replicate partyPlaces 0) 0)
-    0 0 0 (kept 0 0 0 (replicate mostTags 0))
+    0 0 0 (keptSettings 0 0 0 (replicate mostTags 0))
 
 -- A state of zeros is sound, and nobody is attached.
-pub zeros-sound : Sounds zeros × ((client : ℕ) → has (zeros .attached) client ≡ false)
+pub zeros-sound : SoundState zeros × ((client : ℕ) → has (zeros .attached) client ≡ false)
 unfolding blank Ascending
 zeros-sound = (
   zeroed-sound (zeros .table) (zeros .settings) refl

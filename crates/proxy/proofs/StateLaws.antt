@@ -3,14 +3,14 @@
 use Prim.Native.Nat.{ℕ, _≤_, _<_, _^_}
 use mathlib.Core.Path.{_≡_}
 use native.Mathlib.Nat.{max-eq-right}
-use Rattle.laws.specs.Numbers.{clients}
-use Rattle.rewrite.specs.Lent.{TagWords}
+use Rattle.numbers.specs.Numbers.{clients}
+use Rattle.rewrite.specs.inner.Lent.{TagWords}
 use Rattle.machine.specs.Machine.{clocked}
-use Rattle.table.specs.Columns.{Columns, Sound}
-use Rattle.proxy.specs.State.{Kept, State, seated, machineOf, Settled, Sounds}
+use Rattle.table.specs.Columns.{Columns, SoundTable}
+use Rattle.proxy.specs.State.{KeptSettings, State, seated, machineOf, Settled, SoundState}
 
 -- A sound table and a set of clients keep the state sound, at any time.
-pub still-sound : (s : State) → Sounds s → {c : Columns} {a t : ℕ} → Sound c → a < 2 ^ clients → Sounds (seated s c a t)
+pub still-sound : (s : State) → SoundState s → {c : Columns} {a t : ℕ} → SoundTable c → a < 2 ^ clients → SoundState (seated s c a t)
 still-sound s sounds c h = record { table = c; cursor = sounds .cursor; attached = h; settings = sounds .settings }
 
 -- the state at another time
@@ -22,9 +22,9 @@ pub clock-is : (s : State) (t : ℕ) → s .clock ≤ t → clocked (machineOf s
 clock-is s t h = rw (max-eq-right h)
 
 -- Another time keeps the state sound.
-pub timed-sound : (s : State) (t : ℕ) → Sounds s → Sounds (timed s t)
+pub timed-sound : (s : State) (t : ℕ) → SoundState s → SoundState (timed s t)
 timed-sound s t d = still-sound s d (d .table) (d .attached)
 
 -- the settings in the state as the rewriter asks for them
-pub tag-words : (k : Kept) → Settled k → TagWords (k .tagged) (k .tags)
+pub tag-words : (k : KeptSettings) → Settled k → TagWords (k .tagCount) (k .tagWords)
 tag-words k d = record { places = d .long; few = d .few; ascending = d .ascending }

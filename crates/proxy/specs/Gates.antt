@@ -4,7 +4,7 @@ use Prim.Native.Nat.{ℕ}
 use mathlib.Core.Bool.{cond, _||_}
 use mathlib.Core.List.{List, [], _∷_}
 use lib.Dec.{ltb}
-use Rattle.laws.specs.Numbers.{frameBuffer, listBuffer}
+use Rattle.numbers.specs.Numbers.{frameBuffer, listBuffer}
 use Rattle.wire.specs.Frame.{misframed}
 use Rattle.settings.specs.Grammar.{Value, valid}
 use Rattle.settings.specs.Values.{usual}

@@ -4,24 +4,24 @@ use Prim.Native.Nat.{ℕ, _≤_, _<_, _^_}
 use mathlib.Core.Path.{_≡_}
 use mathlib.Core.List.{List, map}
 use lib.ListN.{length, take}
-use Rattle.laws.specs.Numbers.{ids, clients, mostTags, mostTimeout}
+use Rattle.numbers.specs.Numbers.{ids, clients, mostTags, mostTimeout}
 use Rattle.settings.specs.Grammar.{Value}
 use Rattle.settings.specs.TagWords.{tagOf, Ascending}
 use Rattle.machine.specs.Machine.{Machine, machine}
-use Rattle.table.specs.Columns.{Columns, columns, bookOf, Sound}
+use Rattle.table.specs.Columns.{Columns, columns, bookOf, SoundTable}
 
 -- the settings inside the state: timeout, join, how many tags, and their words
-pub record Kept : Type 0 where
+pub record KeptSettings : Type 0 where
   pub timeout : ℕ
   pub join : ℕ
-  pub tagged : ℕ
-  pub tags : List ℕ
+  pub tagCount : ℕ
+  pub tagWords : List ℕ
 
-abbrev pub kept : ℕ → ℕ → ℕ → List ℕ → Kept
-kept w j n g = record { timeout = w; join = j; tagged = n; tags = g }
+abbrev pub keptSettings : ℕ → ℕ → ℕ → List ℕ → KeptSettings
+keptSettings w j n g = record { timeout = w; join = j; tagCount = n; tagWords = g }
 
-unfoldable pub valueIn : Kept → Value
-valueIn s = record { timeout = s .timeout; join = s .join; tags = map tagOf (take (s .tagged) (s .tags)) }
+unfoldable pub valueIn : KeptSettings → Value
+valueIn s = record { timeout = s .timeout; join = s .join; tags = map tagOf (take (s .tagCount) (s .tagWords)) }
 
 -- a state: the live table, the cursor, the set of attached clients, the clock, the settings
 pub record State : Type 0 where
@@ -29,15 +29,15 @@ pub record State : Type 0 where
   pub cursor : ℕ
   pub attached : ℕ
   pub clock : ℕ
-  pub settings : Kept
+  pub settings : KeptSettings
 
-abbrev pub state : Columns → (cursor attached clock : ℕ) → Kept → State
+abbrev pub state : Columns → (cursor attached clock : ℕ) → KeptSettings → State
 state c x s t k = record { table = c; cursor = x; attached = s; clock = t; settings = k }
 
 -- the state that lent fields are
-abbrev pub lent : (ids asked callers deadlines counts clients originals : List ℕ) (top cursor attached clock timeout join tagged : ℕ) (tags : List ℕ) → State
-lent ids asked callers deadlines counts clients originals top cursor attached clock timeout join tagged tags =
-    state (columns ids asked callers deadlines counts clients originals top) cursor attached clock (kept timeout join tagged tags)
+abbrev pub lent : (ids asked callers deadlines counts clients originals : List ℕ) (top cursor attached clock timeout join tagCount : ℕ) (tagWords : List ℕ) → State
+lent ids asked callers deadlines counts clients originals top cursor attached clock timeout join tagCount tagWords =
+    state (columns ids asked callers deadlines counts clients originals top) cursor attached clock (keptSettings timeout join tagCount tagWords)
 
 -- the state s with another table, another set of attached clients and another clock
 abbrev pub seated : State → Columns → (attached clock : ℕ) → State
@@ -60,23 +60,23 @@ lentIds s ids top a =
 abbrev pub lentTable : State → (ids asked callers deadlines counts clients originals : List ℕ) (top clock : ℕ) → State
 lentTable s ids asked callers deadlines counts clients originals top clock = seated s (columns ids asked callers deadlines counts clients originals top) (s .attached) clock
 
-abbrev pub lentKept : State → (ids asked callers deadlines counts clients originals : List ℕ) (top clock timeout join tagged : ℕ) (tags : List ℕ) → State
-lentKept s ids asked callers deadlines counts clients originals top clock timeout join tagged tags =
-    state (columns ids asked callers deadlines counts clients originals top) (s .cursor) (s .attached) clock (kept timeout join tagged tags)
+abbrev pub lentKept : State → (ids asked callers deadlines counts clients originals : List ℕ) (top clock timeout join tagCount : ℕ) (tagWords : List ℕ) → State
+lentKept s ids asked callers deadlines counts clients originals top clock timeout join tagCount tagWords =
+    state (columns ids asked callers deadlines counts clients originals top) (s .cursor) (s .attached) clock (keptSettings timeout join tagCount tagWords)
 
 -- the machine that it is
 abbrev pub machineOf : State → Machine
 machineOf s = machine (bookOf (valueIn (s .settings)) (s .table) (s .cursor) (s .clock)) (s .attached)
 
 -- what every state has that these calls made: a sound table, an id as cursor, a set of clients, and settings that a value gave
-pub record Settled (k : Kept) : Type 0 where
+pub record Settled (k : KeptSettings) : Type 0 where
   pub timeout : k .timeout ≤ mostTimeout
-  pub few : k .tagged ≤ mostTags
-  pub long : length (k .tags) ≡ mostTags
-  pub ascending : Ascending 0 (map tagOf (take (k .tagged) (k .tags)))
+  pub few : k .tagCount ≤ mostTags
+  pub long : length (k .tagWords) ≡ mostTags
+  pub ascending : Ascending 0 (map tagOf (take (k .tagCount) (k .tagWords)))
 
-pub record Sounds (s : State) : Type 0 where
-  pub table : Sound (s .table)
+pub record SoundState (s : State) : Type 0 where
+  pub table : SoundTable (s .table)
   pub cursor : s .cursor < ids
   pub attached : s .attached < 2 ^ clients
   pub settings : Settled (s .settings)

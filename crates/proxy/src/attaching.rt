@@ -3,12 +3,12 @@ use machine::Answer;
 ghost use mathlib.Core.Path.{_≡_};
 ghost use mathlib.Core.List.{[]};
 ghost use Prim.Native.Nat.{_<_, _≤_};
-ghost use Rattle.laws.specs.Numbers.{clients as clientCount, places};
+ghost use Rattle.numbers.specs.Numbers.{clients as clientCount, places};
 ghost use Rattle.laws.specs.Bits.{has};
 ghost use Rattle.machine.specs.Calls.Call.{attach as attaches, detach as detaches, linkLost};
 ghost use Rattle.machine.specs.Refusals.{isStrangeTo};
-ghost use Rattle.table.specs.Changes.{Runs};
-ghost use Rattle.proxy.specs.State.{State, lentSet, lentParties, lentIds, Sounds};
+ghost use Rattle.table.specs.inner.Changes.{Runs};
+ghost use Rattle.proxy.specs.State.{State, lentSet, lentParties, lentIds, SoundState};
 ghost use Rattle.proxy.specs.Calls.{Does};
 
 // Whether a client is in a set.
@@ -23,7 +23,7 @@ pub fn is_member(set: u32, client: u32) -> bool
 pub fn is_stranger(attached: u32, client: u32) -> bool
     ensures { λ r. ⌜ r ≡ isStrangeTo attached client ⌝ }
 {
-    if client < laws::CLIENTS {
+    if client < numbers::CLIENTS {
         !is_member(attached, client)
     } else {
         true
@@ -32,9 +32,9 @@ pub fn is_stranger(attached: u32, client: u32) -> bool
 
 // Attaches a client: refusal 2 above 31, refusal 9 where it is attached. Whatever the rest of the state is, it stays.
 pub fn attach(attached: &mut u32, client: u32) -> Answer
-    ensures { λ r. ⌜ ((s : State) → Sounds (lentSet s (now (attached .entry))) → Does (lentSet s (now (attached .entry))) (attaches client) r (lentSet s (now (attached .exit))) [] []) ⌝ }
+    ensures { λ r. ⌜ ((s : State) → SoundState (lentSet s (now (attached .entry))) → Does (lentSet s (now (attached .entry))) (attaches client) r (lentSet s (now (attached .exit))) [] []) ⌝ }
 {
-    if laws::CLIENTS <= client {
+    if numbers::CLIENTS <= client {
         return Answer::Refused { number: 2 };
     }
     if is_member(*attached, client) {
@@ -46,15 +46,15 @@ pub fn attach(attached: &mut u32, client: u32) -> Answer
 
 // Detaches a client and strikes its parties out of every entry: refusal 2 for a stranger. Whatever the rest of the state is, it stays.
 pub fn detach<'a>(
-    counts: &'a mut [u8; laws::PLACES],
-    clients: &'a mut [u8; laws::PARTY_PLACES],
-    originals: &'a mut [u16; laws::PARTY_PLACES],
+    counts: &'a mut [u8; numbers::PLACES],
+    clients: &'a mut [u8; numbers::PARTY_PLACES],
+    originals: &'a mut [u16; numbers::PARTY_PLACES],
     top: &'a mut u32,
     attached: &'a mut u32,
     client: u32,
 ) -> Answer
     requires { ⌜ Runs (now counts) (now clients) (now originals) × (now top ≤ places) ⌝ }
-    ensures { λ r. ⌜ ((s : State) → Sounds (lentParties s (now (counts .entry)) (now (clients .entry)) (now (originals .entry)) (now (top .entry)) (now (attached .entry)))
+    ensures { λ r. ⌜ ((s : State) → SoundState (lentParties s (now (counts .entry)) (now (clients .entry)) (now (originals .entry)) (now (top .entry)) (now (attached .entry)))
         → Does (lentParties s (now (counts .entry)) (now (clients .entry)) (now (originals .entry)) (now (top .entry)) (now (attached .entry))) (detaches client) r (lentParties s (now (counts .exit)) (now (clients .exit)) (now (originals .exit)) (now (top .exit)) (now (attached .exit))) [] []) ⌝ }
 {
     if is_stranger(*attached, client) {
@@ -67,14 +67,14 @@ pub fn detach<'a>(
 
 // The link is lost: nothing is live, nobody is attached; the former set is told. Whatever the rest of the state is, it stays.
 pub fn link_lost<'a>(
-    ids: &'a mut [u32; laws::PLACES],
+    ids: &'a mut [u32; numbers::PLACES],
     top: &'a mut u32,
     attached: &'a mut u32,
 ) -> Answer
-    ensures { λ r. ⌜ ((s : State) → Sounds (lentIds s (now (ids .entry)) (now (top .entry)) (now (attached .entry))) → Does (lentIds s (now (ids .entry)) (now (top .entry)) (now (attached .entry))) linkLost r (lentIds s (now (ids .exit)) (now (top .exit)) (now (attached .exit))) [] []) ⌝ }
+    ensures { λ r. ⌜ ((s : State) → SoundState (lentIds s (now (ids .entry)) (now (top .entry)) (now (attached .entry))) → Does (lentIds s (now (ids .entry)) (now (top .entry)) (now (attached .entry))) linkLost r (lentIds s (now (ids .exit)) (now (top .exit)) (now (attached .exit))) [] []) ⌝ }
 {
     let former = *attached;
-    *ids = [0u32; laws::PLACES];
+    *ids = [0u32; numbers::PLACES];
     *top = 0;
     *attached = 0;
     Answer::Lost { set: former }

@@ -9,5 +9,5 @@ ghost use Rattle.machine.specs.Refusals.{isUntimelyAt};
 pub fn is_untimely(clock: u64, time: u64) -> bool
     ensures { λ r. ⌜ r ≡ isUntimelyAt clock time ⌝ }
 {
-    (laws::LATEST_TIME < time) | (time < clock)
+    (numbers::LATEST_TIME < time) | (time < clock)
 }

@@ -4,53 +4,53 @@ ghost use mathlib.Core.Path.{_≡_};
 ghost use mathlib.Core.Bool.{true};
 ghost use Rattle.settings.specs.Grammar.{valid};
 ghost use Rattle.settings.specs.Values.{settings, valueOf};
-ghost use Rattle.proxy.specs.State.{kept, valueIn, lent, Settled};
+ghost use Rattle.proxy.specs.State.{keptSettings, valueIn, lent, Settled};
 ghost use Rattle.proxy.specs.Calls.{Adopts, Freshened};
 
 // Puts a valid value, whose columns are lent, into the state's settings.
 fn adopt<'a, 'b>(
     timeout: &'a mut u32,
     join: &'a mut u32,
-    tagged: &'a mut u32,
-    tags: &'a mut [u64; laws::MOST_TAGS],
+    tag_count: &'a mut u32,
+    tag_words: &'a mut [u64; numbers::MOST_TAGS],
     from_timeout: u32,
     from_join: u32,
     from_tags: u32,
-    addr: &'b [u16; laws::MOST_TAGS],
-    width: &'b [u16; laws::MOST_TAGS],
-    sign: &'b [u16; laws::MOST_TAGS],
+    addr: &'b [u16; numbers::MOST_TAGS],
+    width: &'b [u16; numbers::MOST_TAGS],
+    sign: &'b [u16; numbers::MOST_TAGS],
 )
     requires { ⌜ valid (valueOf (settings «from_timeout» «from_join» «from_tags» (now addr) (now width) (now sign))) ≡ true ⌝ }
-    ensures { λ r. ⌜ valueIn (kept (now (timeout .exit)) (now (join .exit)) (now (tagged .exit)) (now (tags .exit))) ≡ valueOf (settings «from_timeout» «from_join» «from_tags» (now (addr .entry)) (now (width .entry)) (now (sign .entry))) ⌝ }
-    ensures { λ r. ⌜ Settled (kept (now (timeout .exit)) (now (join .exit)) (now (tagged .exit)) (now (tags .exit))) ⌝ }
+    ensures { λ r. ⌜ valueIn (keptSettings (now (timeout .exit)) (now (join .exit)) (now («tag_count» .exit)) (now («tag_words» .exit))) ≡ valueOf (settings «from_timeout» «from_join» «from_tags» (now (addr .entry)) (now (width .entry)) (now (sign .entry))) ⌝ }
+    ensures { λ r. ⌜ Settled (keptSettings (now (timeout .exit)) (now (join .exit)) (now («tag_count» .exit)) (now («tag_words» .exit))) ⌝ }
 {
     *timeout = from_timeout;
     *join = from_join;
-    *tagged = from_tags;
-    values::tagwords::fill_words(from_tags, addr, width, sign, tags);
+    *tag_count = from_tags;
+    values::tagwords::fill_words(from_tags, addr, width, sign, tag_words);
 }
 
 // Puts a value whose fields are lent into the state's settings. An invalid value is refusal 10, and the settings are then the usual ones.
 pub fn adopt_value<'a, 'b>(
     timeout: &'a mut u32,
     join: &'a mut u32,
-    tagged: &'a mut u32,
-    tags: &'a mut [u64; laws::MOST_TAGS],
+    tag_count: &'a mut u32,
+    tag_words: &'a mut [u64; numbers::MOST_TAGS],
     from_timeout: &'b u32,
     from_join: &'b u32,
     from_tags: &'b u32,
-    addr: &'b [u16; laws::MOST_TAGS],
-    width: &'b [u16; laws::MOST_TAGS],
-    sign: &'b [u16; laws::MOST_TAGS],
+    addr: &'b [u16; numbers::MOST_TAGS],
+    width: &'b [u16; numbers::MOST_TAGS],
+    sign: &'b [u16; numbers::MOST_TAGS],
 ) -> Answer
-    ensures { λ r. ⌜ Adopts (settings (now («from_timeout» .entry)) (now («from_join» .entry)) (now («from_tags» .entry)) (now (addr .entry)) (now (width .entry)) (now (sign .entry))) r (kept (now (timeout .exit)) (now (join .exit)) (now (tagged .exit)) (now (tags .exit))) ⌝ }
+    ensures { λ r. ⌜ Adopts (settings (now («from_timeout» .entry)) (now («from_join» .entry)) (now («from_tags» .entry)) (now (addr .entry)) (now (width .entry)) (now (sign .entry))) r (keptSettings (now (timeout .exit)) (now (join .exit)) (now («tag_count» .exit)) (now («tag_words» .exit))) ⌝ }
 {
     if values::is_valid(*from_timeout, *from_join, *from_tags, addr, width, sign) {
         adopt(
             timeout,
             join,
-            tagged,
-            tags,
+            tag_count,
+            tag_words,
             *from_timeout,
             *from_join,
             *from_tags,
@@ -64,9 +64,9 @@ pub fn adopt_value<'a, 'b>(
     adopt(
         timeout,
         join,
-        tagged,
-        tags,
-        laws::USUAL_TIMEOUT,
+        tag_count,
+        tag_words,
+        numbers::USUAL_TIMEOUT,
         1,
         0,
         addr,
@@ -78,29 +78,29 @@ pub fn adopt_value<'a, 'b>(
 
 // Makes the lent state fresh, whatever it was, from a value whose fields are lent. An invalid value is refusal 10, and the state is then made from the usual one.
 pub fn fresh<'a, 'b>(
-    ids: &'a mut [u32; laws::PLACES],
-    asked: &'a mut [u64; laws::PLACES],
-    callers: &'a mut [u8; laws::PLACES],
-    deadlines: &'a mut [u64; laws::PLACES],
-    counts: &'a mut [u8; laws::PLACES],
-    clients: &'a mut [u8; laws::PARTY_PLACES],
-    originals: &'a mut [u16; laws::PARTY_PLACES],
+    ids: &'a mut [u32; numbers::PLACES],
+    asked: &'a mut [u64; numbers::PLACES],
+    callers: &'a mut [u8; numbers::PLACES],
+    deadlines: &'a mut [u64; numbers::PLACES],
+    counts: &'a mut [u8; numbers::PLACES],
+    clients: &'a mut [u8; numbers::PARTY_PLACES],
+    originals: &'a mut [u16; numbers::PARTY_PLACES],
     top: &'a mut u32,
     cursor: &'a mut u16,
     attached: &'a mut u32,
     clock: &'a mut u64,
     timeout: &'a mut u32,
     join: &'a mut u32,
-    tagged: &'a mut u32,
-    tags: &'a mut [u64; laws::MOST_TAGS],
+    tag_count: &'a mut u32,
+    tag_words: &'a mut [u64; numbers::MOST_TAGS],
     from_timeout: &'b u32,
     from_join: &'b u32,
     from_tags: &'b u32,
-    addr: &'b [u16; laws::MOST_TAGS],
-    width: &'b [u16; laws::MOST_TAGS],
-    sign: &'b [u16; laws::MOST_TAGS],
+    addr: &'b [u16; numbers::MOST_TAGS],
+    width: &'b [u16; numbers::MOST_TAGS],
+    sign: &'b [u16; numbers::MOST_TAGS],
 ) -> Answer
-    ensures { λ r. ⌜ Freshened (settings (now («from_timeout» .entry)) (now («from_join» .entry)) (now («from_tags» .entry)) (now (addr .entry)) (now (width .entry)) (now (sign .entry))) r (lent (now (ids .exit)) (now (asked .exit)) (now (callers .exit)) (now (deadlines .exit)) (now (counts .exit)) (now (clients .exit)) (now (originals .exit)) (now (top .exit)) (now (cursor .exit)) (now (attached .exit)) (now (clock .exit)) (now (timeout .exit)) (now (join .exit)) (now (tagged .exit)) (now (tags .exit))) ⌝ }
+    ensures { λ r. ⌜ Freshened (settings (now («from_timeout» .entry)) (now («from_join» .entry)) (now («from_tags» .entry)) (now (addr .entry)) (now (width .entry)) (now (sign .entry))) r (lent (now (ids .exit)) (now (asked .exit)) (now (callers .exit)) (now (deadlines .exit)) (now (counts .exit)) (now (clients .exit)) (now (originals .exit)) (now (top .exit)) (now (cursor .exit)) (now (attached .exit)) (now (clock .exit)) (now (timeout .exit)) (now (join .exit)) (now («tag_count» .exit)) (now («tag_words» .exit))) ⌝ }
 {
     moves::changing::clear(
         ids,
@@ -118,8 +118,8 @@ pub fn fresh<'a, 'b>(
     adopt_value(
         timeout,
         join,
-        tagged,
-        tags,
+        tag_count,
+        tag_words,
         from_timeout,
         from_join,
         from_tags,

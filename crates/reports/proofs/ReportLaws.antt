@@ -9,7 +9,7 @@ use native.Mathlib.Omega.{arith}
 use lib.ListN.{length}
 use lib.Dec.{ltb}
 use borrow.Author.Tests.{ne-eqb}
-use Rattle.laws.specs.Numbers.{mostText, mostFrame}
+use Rattle.numbers.specs.Numbers.{mostText, mostFrame}
 use Rattle.laws.specs.Bytes.{over}
 use Rattle.wire.specs.Splitting.{standingOf, firstFrame}
 use Rattle.wire.specs.declared.splitting.Split.{Split}

@@ -10,7 +10,7 @@ use lib.ListN.{length, take, drop}
 use lib.Seq.{take-append-seam}
 use lib.Dec.{eqb, ltb}
 use borrow.Author.Tests.{eqb-false, ne-eqb, ltb-true, ltb-false, lt-ltb}
-use Rattle.laws.specs.Numbers.{leastLength, mostLength}
+use Rattle.numbers.specs.Numbers.{leastLength, mostLength}
 use Rattle.laws.specs.Bytes.{over}
 use Rattle.laws.proofs.Choice.{true-or, never}
 use Rattle.laws.proofs.TestLaws.{holds-not, holds-or}
@@ -33,13 +33,13 @@ use Rattle.settingstext.specs.TextWritten.{writtenTo}
 use Rattle.machine.specs.Numbers.{ten}
 use Rattle.machine.specs.declared.Report.{Report}
 use Rattle.reports.specs.Plain.{protocolIn, lengthIn, WrongHeader, FrameFirst, SplitSays, textFor, WriteSays, ReadSays}
-use Rattle.reports.specs.Reports.{told, splitTold, readTold, TextSeen, wroteTold, SplitPromised, ReadPromised, WritePromised}
+use Rattle.reports.specs.Reports.{shortReport, splitTold, readTold, TextSeen, wroteTold, SplitPromised, ReadPromised, WritePromised}
 use Rattle.reports.specs.declared.SettingsRead.{SettingsRead}
 
 -- A report that tells four numbers has these ten exactly if they are its four, and 0 behind them.
-pub told-exactly : (a k o n a′ k′ o′ n′ : ℕ) {r : Report} → r ≡ told a k o n → (r ≡ ten a′ k′ o′ n′ 0 0 0 0 0 0) ↔ ((a ≡ a′) × (k ≡ k′) × (o ≡ o′) × (n ≡ n′))
-told-exactly a k o n a′ k′ o′ n′ {r} e = (
-  λ q. let p : told a k o n ≡ ten a′ k′ o′ n′ 0 0 0 0 0 0 = sym e ∙ q in (ap (λ (x : Report). x .refusal) p, ap (λ (x : Report). x .line) p, ap (λ (x : Report). x .outcome) p, ap (λ (x : Report). x .length) p),
+pub short-report-exactly : (a k o n a′ k′ o′ n′ : ℕ) {r : Report} → r ≡ shortReport a k o n → (r ≡ ten a′ k′ o′ n′ 0 0 0 0 0 0) ↔ ((a ≡ a′) × (k ≡ k′) × (o ≡ o′) × (n ≡ n′))
+short-report-exactly a k o n a′ k′ o′ n′ {r} e = (
+  λ q. let p : shortReport a k o n ≡ ten a′ k′ o′ n′ 0 0 0 0 0 0 = sym e ∙ q in (ap (λ (x : Report). x .refusal) p, ap (λ (x : Report). x .line) p, ap (λ (x : Report). x .outcome) p, ap (λ (x : Report). x .length) p),
   λ x. e ∙ rw (x .0, x .1, x .2, x .3),
 )
 
@@ -60,21 +60,21 @@ splits : (s : Split) (n : ℕ) {r : Report} → r ≡ splitTold s n → Splits s
 unfolding splitTold
 splits Frame n e =
     record {
-      refused = Iff·trans (told-exactly 0 0 8 n 4 0 0 0 e) (neither (λ x. omega arith) (λ q. never (cc)));
-      frame = λ m. Iff·trans (told-exactly 0 0 8 n 0 0 8 m e) (λ x. (refl, omega arith), λ x. (refl, refl, refl, omega arith));
-      more = Iff·trans (told-exactly 0 0 8 n 0 0 9 0 e) (neither (λ x. omega arith) (λ x. x .1 refl));
+      refused = Iff·trans (short-report-exactly 0 0 8 n 4 0 0 0 e) (neither (λ x. omega arith) (λ q. never (cc)));
+      frame = λ m. Iff·trans (short-report-exactly 0 0 8 n 0 0 8 m e) (λ x. (refl, omega arith), λ x. (refl, refl, refl, omega arith));
+      more = Iff·trans (short-report-exactly 0 0 8 n 0 0 9 0 e) (neither (λ x. omega arith) (λ x. x .1 refl));
     }
 splits MoreNeeded n e =
     record {
-      refused = Iff·trans (told-exactly 0 0 9 0 4 0 0 0 e) (neither (λ x. omega arith) (λ q. never (cc)));
-      frame = λ m. Iff·trans (told-exactly 0 0 9 0 0 0 8 m e) (neither (λ x. omega arith) (λ x. let q = x .0 in never (cc)));
+      refused = Iff·trans (short-report-exactly 0 0 9 0 4 0 0 0 e) (neither (λ x. omega arith) (λ q. never (cc)));
+      frame = λ m. Iff·trans (short-report-exactly 0 0 9 0 0 0 8 m e) (neither (λ x. omega arith) (λ x. let q = x .0 in never (cc)));
       more = both e (λ q. never (cc), λ q. never (cc));
     }
 splits Refused n e =
     record {
       refused = both e refl;
-      frame = λ m. Iff·trans (told-exactly 4 0 0 0 0 0 8 m e) (neither (λ x. omega arith) (λ x. let q = x .0 in never (cc)));
-      more = Iff·trans (told-exactly 4 0 0 0 0 0 9 0 e) (neither (λ x. omega arith) (λ x. x .0 refl));
+      frame = λ m. Iff·trans (short-report-exactly 4 0 0 0 0 0 8 m e) (neither (λ x. omega arith) (λ x. let q = x .0 in never (cc)));
+      more = Iff·trans (short-report-exactly 4 0 0 0 0 0 9 0 e) (neither (λ x. omega arith) (λ x. x .0 refl));
     }
 
 -- a header is bad by its numbers
@@ -114,9 +114,9 @@ split-says run e =
 
 -- writing, case by case: an invalid value, a text that does not fit, and a text that is written
 data Writes (from : Settings) (b : List ℕ) (r : Report) (b′ : List ℕ) : Type 0 where
-  invalid : (ValidSettings from → ⊥) → r ≡ told 10 0 0 0 → b′ ≡ b → Writes from b r b′
-  short : ValidSettings from → length b < length (textFor from) → r ≡ told 1 0 0 0 → b′ ≡ b → Writes from b r b′
-  done : ValidSettings from → length (textFor from) ≤ length b → r ≡ told 0 0 1 (length (textFor from)) → b′ ≡ over (textFor from) b → Writes from b r b′
+  invalid : (ValidSettings from → ⊥) → r ≡ shortReport 10 0 0 0 → b′ ≡ b → Writes from b r b′
+  short : ValidSettings from → length b < length (textFor from) → r ≡ shortReport 1 0 0 0 → b′ ≡ b → Writes from b r b′
+  done : ValidSettings from → length (textFor from) ≤ length b → r ≡ shortReport 0 0 1 (length (textFor from)) → b′ ≡ over (textFor from) b → Writes from b r b′
 
 writes : (from : Settings) (b : List ℕ) {r : Report} {b′ : List ℕ} → WritePromised from b r b′ → Writes from b r b′
 unfolding writtenTo wroteTold
@@ -134,32 +134,32 @@ writes from b e =
     (λ (t : valid (valueOf from) ≡ false). invalid (λ v. false≢true (sym t ∙ settings-valid-exactly from .1 v)) (says ∙ rw t) (buffer ∙ rw t))
     (true-or (valid (valueOf from)))
 
-refusal-of : {r : Report} (a k o n : ℕ) → r ≡ told a k o n → r .refusal ≡ a
+refusal-of : {r : Report} (a k o n : ℕ) → r ≡ shortReport a k o n → r .refusal ≡ a
 refusal-of a k o n e = ap (λ (x : Report). x .refusal) e
 
 write-case : (from : Settings) (b : List ℕ) {r : Report} {b′ : List ℕ} → Writes from b r b′ → WriteSays from b r b′
 write-case from b (invalid n e q) =
     record {
       invalid = both e n;
-      short = Iff·trans (told-exactly 10 0 0 0 1 0 0 0 e) (neither (λ x. omega arith) (λ x. n (x .0)));
-      done = λ m. Iff·trans (told-exactly 10 0 0 0 0 0 1 m e) (neither (λ x. omega arith) (λ x. n (x .0)));
+      short = Iff·trans (short-report-exactly 10 0 0 0 1 0 0 0 e) (neither (λ x. omega arith) (λ x. n (x .0)));
+      done = λ m. Iff·trans (short-report-exactly 10 0 0 0 0 0 1 m e) (neither (λ x. omega arith) (λ x. n (x .0)));
       untouched = λ h. q;
       written = λ z. let h = refusal-of 10 0 0 0 e in absurd (omega arith);
     }
 write-case from b (short v l e q) =
     record {
-      invalid = Iff·trans (told-exactly 1 0 0 0 10 0 0 0 e) (neither (λ x. omega arith) (λ n. n v));
+      invalid = Iff·trans (short-report-exactly 1 0 0 0 10 0 0 0 e) (neither (λ x. omega arith) (λ n. n v));
       short = both e (v, l);
-      done = λ m. Iff·trans (told-exactly 1 0 0 0 0 0 1 m e) (neither (λ x. omega arith) (λ x. omega arith));
+      done = λ m. Iff·trans (short-report-exactly 1 0 0 0 0 0 1 m e) (neither (λ x. omega arith) (λ x. omega arith));
       untouched = λ h. q;
       written = λ z. let h = refusal-of 1 0 0 0 e in absurd (omega arith);
     }
 write-case from b (done v l e q) =
     let n = length (textFor from) in
     record {
-      invalid = Iff·trans (told-exactly 0 0 1 n 10 0 0 0 e) (neither (λ x. omega arith) (λ h. h v));
-      short = Iff·trans (told-exactly 0 0 1 n 1 0 0 0 e) (neither (λ x. omega arith) (λ x. omega arith));
-      done = λ m. Iff·trans (told-exactly 0 0 1 n 0 0 1 m e) (λ x. (v, omega arith, omega arith), λ x. (refl, refl, refl, omega arith));
+      invalid = Iff·trans (short-report-exactly 0 0 1 n 10 0 0 0 e) (neither (λ x. omega arith) (λ h. h v));
+      short = Iff·trans (short-report-exactly 0 0 1 n 1 0 0 0 e) (neither (λ x. omega arith) (λ x. omega arith));
+      done = λ m. Iff·trans (short-report-exactly 0 0 1 n 0 0 1 m e) (λ x. (v, omega arith, omega arith), λ x. (refl, refl, refl, omega arith));
       untouched = λ h. absurd (h (refusal-of 0 0 1 n e));
       written = λ z. q;
     }
@@ -188,10 +188,10 @@ read-case : (t : List ℕ) (y : Read Value) → readText t ≡ y → {r : Settin
 unfolding readTold settingsOf
 read-case t (got v rest) y {r} e =
     let none : (k : ℕ) → FirstWrong t k → ⊥ = λ k f. let q = wrong-exactly t k .1 f in never (cc) in
-    let answer : r .answer ≡ told 0 0 1 0 = ap (λ (x : SettingsRead). x .answer) e in
+    let answer : r .answer ≡ shortReport 0 0 1 0 = ap (λ (x : SettingsRead). x .answer) e in
     let checked : ValidSettings (settingsOf v) = settings-valid-exactly (settingsOf v) .0 (rw (value-back v) (read-valid t rest v y)) in
     record {
-      wrong = λ k. Iff·trans (told-exactly 0 0 1 0 10 k 0 0 answer) (neither (λ x. omega arith) (none k));
+      wrong = λ k. Iff·trans (short-report-exactly 0 0 1 0 10 k 0 0 answer) (neither (λ x. omega arith) (none k));
       usual = λ k f. absurd (none k f);
       right = λ ns c a.
           let w = lines-read c a in
@@ -200,9 +200,9 @@ read-case t (got v rest) y {r} e =
       either = wrong-or-right t;
     }
 read-case t (wrong j) y {r} e =
-    let answer : r .answer ≡ told 10 j 0 0 = ap (λ (x : SettingsRead). x .answer) e in
+    let answer : r .answer ≡ shortReport 10 j 0 0 = ap (λ (x : SettingsRead). x .answer) e in
     record {
-      wrong = λ k. Iff·trans (told-exactly 10 j 0 0 10 k 0 0 answer)
+      wrong = λ k. Iff·trans (short-report-exactly 10 j 0 0 10 k 0 0 answer)
           (λ x. let q = x .1 in wrong-exactly t k .0 (y ∙ ap wrong q), λ f. let q = wrong-exactly t k .1 f in (refl, cc, refl, refl));
       usual = λ k f. ap (λ (x : SettingsRead). x .settings) e;
       right = λ ns c a. let q = lines-read c a .1 in never (cc);

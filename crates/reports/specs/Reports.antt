@@ -28,26 +28,26 @@ abbrev pub isMore : ℕ
 isMore = 9
 
 -- a report that speaks of these four, and has 0 elsewhere
-abbrev pub told : (refusal line outcome length : ℕ) → Report
-told r k o n = record { refusal = r; line = k; outcome = o; length = n; parties = 0; partial = 0; value = 0; set = 0; id = 0; code = 0 }
+abbrev pub shortReport : (refusal line outcome length : ℕ) → Report
+shortReport r k o n = record { refusal = r; line = k; outcome = o; length = n; parties = 0; partial = 0; value = 0; set = 0; id = 0; code = 0 }
 
 -- splitting, with the first frame's length
 unfoldable pub splitTold : Split → ℕ → Report
-splitTold Frame n = told 0 0 isFrame n
-splitTold MoreNeeded n = told 0 0 isMore 0
-splitTold Refused n = told 4 0 0 0
+splitTold Frame n = shortReport 0 0 isFrame n
+splitTold MoreNeeded n = shortReport 0 0 isMore 0
+splitTold Refused n = shortReport 4 0 0 0
 
 -- a text with this first wrong line, or with none
 abbrev pub lineTold : ℕ → Report
-lineTold line = cond (eqb line 0) (told 0 0 isDone 0) (told 10 line 0 0)
+lineTold line = cond (eqb line 0) (shortReport 0 0 isDone 0) (shortReport 10 line 0 0)
 
 -- reading: the value, or refusal 10 with the first wrong line beside the usual value
 abbrev pub settingsRead : Report → Settings → SettingsRead
 settingsRead r s = record { answer = r; settings = s }
 
 unfoldable pub readTold : Read Value → SettingsRead
-readTold (got v rest) = settingsRead (told 0 0 isDone 0) (settingsOf v)
-readTold (wrong k) = settingsRead (told 10 k 0 0) (settingsOf usual)
+readTold (got v rest) = settingsRead (shortReport 0 0 isDone 0) (settingsOf v)
+readTold (wrong k) = settingsRead (shortReport 10 k 0 0) (settingsOf usual)
 
 -- writing: the report, and the buffer afterwards
 pub record TextSeen : Type 0 where
@@ -58,9 +58,9 @@ abbrev pub textSeen : Report → List ℕ → TextSeen
 textSeen r b = record { says = r; buffer = b }
 
 unfoldable pub wroteTold : Wrote → Report
-wroteTold (Text n) = told 0 0 isDone n
-wroteTold TooShort = told 1 0 0 0
-wroteTold Invalid = told 10 0 0 0
+wroteTold (Text n) = shortReport 0 0 isDone n
+wroteTold TooShort = shortReport 1 0 0 0
+wroteTold Invalid = shortReport 10 0 0 0
 
 abbrev pub writeTold : Writing → TextSeen
 writeTold w = textSeen (wroteTold (w .says)) (w .buffer)

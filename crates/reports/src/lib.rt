@@ -8,7 +8,7 @@ use wire::splitting::Split;
 ghost use mathlib.Core.Path.{_≡_};
 ghost use Rattle.settings.specs.Values.{settings};
 ghost use Rattle.machine.specs.Numbers.{report, numbers};
-ghost use Rattle.reports.specs.Reports.{told, lineTold, SplitPromised, ReadPromised, WritePromised};
+ghost use Rattle.reports.specs.Reports.{shortReport, lineTold, SplitPromised, ReadPromised, WritePromised};
 
 // The outcomes' numbers: ZB_DONE to ZB_MORE. Reading and writing settings are done too.
 const DONE: u32 = 1;
@@ -76,7 +76,7 @@ fn of_entry(
 pub fn report_of(a: Answer) -> Report
     ensures { λ r. ⌜ r ≡ numbers a ⌝ }
 {
-    let exception = laws::EXCEPTION_FRAME as u32;
+    let exception = numbers::EXCEPTION_FRAME as u32;
     match a {
         Answer::Refused { number } => plain(number, 0, 0, 0, 0),
         Answer::Done => plain(0, DONE, 0, 0, 0),
@@ -103,7 +103,7 @@ pub fn report_of(a: Answer) -> Report
 
 // A report that speaks of a refusal, a line, an outcome or a length.
 fn said(refusal: u32, line: u32, outcome: u32, length: u32) -> Report
-    ensures { λ r. ⌜ r ≡ told refusal line outcome length ⌝ }
+    ensures { λ r. ⌜ r ≡ shortReport refusal line outcome length ⌝ }
 {
     Report {
         refusal,
@@ -166,9 +166,9 @@ pub fn write<'a>(
     timeout: &'a u32,
     join: &'a u32,
     tags: &'a u32,
-    addr: &'a [u16; laws::MOST_TAGS],
-    width: &'a [u16; laws::MOST_TAGS],
-    sign: &'a [u16; laws::MOST_TAGS],
+    addr: &'a [u16; numbers::MOST_TAGS],
+    width: &'a [u16; numbers::MOST_TAGS],
+    sign: &'a [u16; numbers::MOST_TAGS],
     text: &mut [u8],
 ) -> Report
     ensures { λ r. ⌜ WritePromised (settings (now (timeout .entry)) (now (join .entry)) (now (tags .entry)) (now (addr .entry)) (now (width .entry)) (now (sign .entry))) (now (text .entry)) r (now (text .exit)) ⌝ }

@@ -8,7 +8,7 @@ use native.Mathlib.Omega.{arith}
 use lib.ListN.{length}
 use lib.Dec.{ltb, leb}
 use borrow.Author.Tests.{ne-eqb, leb-false, ltb-false, lt-ltb, le-ltb}
-use Rattle.laws.specs.Numbers.{clients, latestTime, leastFrame, mostFrame, frameBuffer}
+use Rattle.numbers.specs.Numbers.{clients, latestTime, leastFrame, mostFrame, frameBuffer}
 use Rattle.laws.specs.Bits.{has}
 use Rattle.laws.proofs.Choice.{or-left, or-right}
 use Rattle.wire.specs.Frame.{misframed, functionOf}
@@ -22,7 +22,7 @@ use Rattle.machine.specs.Calls.Call.{request}
 use Rattle.machine.specs.Refusals.{row, rows, lowest, refusal, shortFrame, isStrangeTo, isStranger, isUntimelyAt, isUntimely}
 use Rattle.machine.proofs.LowestLaws.{applies, passes, none-left, none-applies, split-none, split-more}
 use Rattle.proxy.specs.Gates.{requestGate}
-use Rattle.requesting.specs.Parts.{Admitted}
+use Rattle.requesting.specs.inner.Parts.{Admitted}
 
 module _ (out client attached time clock : ℕ) (f : List ℕ) where
   -- The gate's tests in their order, each behind those before it.

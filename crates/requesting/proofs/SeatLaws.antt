@@ -10,7 +10,7 @@ use native.Mathlib.Omega.{arith}
 use lib.ListN.{length, getD, set}
 use lib.Dec.{eqb, ltb}
 use borrow.Author.Tests.{not-true, eqb-true, eqb-false, ltb-true}
-use Rattle.laws.specs.Numbers.{ids, places, room, deviceFailure}
+use Rattle.numbers.specs.Numbers.{ids, places, room, deviceFailure}
 use Rattle.laws.specs.Search.{best}
 use Rattle.laws.specs.Circle.{turn}
 use Rattle.laws.proofs.Choice.{and-left, and-right}
@@ -26,9 +26,9 @@ use Rattle.pdu.specs.declared.ProxyId.{ProxyId}
 use Rattle.pdu.specs.declared.Checked.the-variants.{Legal}
 use Rattle.pdu.proofs.RequestLaws.{legal-passed}
 use Rattle.pdu.proofs.WordLaws.{word-back}
-use Rattle.rewrite.specs.Rewriting.{outcome as rewrote}
+use Rattle.rewrite.specs.Rewriting.{withCounts}
 use Rattle.rewrite.specs.Frames.{forwarded, under}
-use Rattle.rewrite.specs.Lent.{tagsOf, Sent}
+use Rattle.rewrite.specs.inner.Lent.{tagsOf, Sent}
 use Rattle.rewrite.proofs.RoomLaws.{legal-sent}
 use Rattle.book.specs.Book.{entry, marked}
 use Rattle.book.specs.Desk.{freePlace}
@@ -37,14 +37,14 @@ use Rattle.machine.specs.Calls.{done}
 use Rattle.machine.specs.Requests.{wanted, alike, closing, joiningPlace, excepted, issuedTo, served}
 use Rattle.machine.specs.declared.Answer.{Answer}
 use Rattle.machine.specs.declared.Answer.the-variants.{Joined, Issued}
-use Rattle.table.specs.Columns.{Columns, party, tableOf, Sound}
-use Rattle.table.specs.Changes.{Joined as OneMore}
-use Rattle.table.specs.Places.{isFree, isOpen, isLower, freeIdFrom}
+use Rattle.table.specs.Columns.{Columns, party, tableOf, SoundTable}
+use Rattle.table.specs.inner.Changes.{Joined as OneMore}
+use Rattle.table.specs.inner.Places.{isFree, isOpen, isLower, freeIdFrom}
 use Rattle.table.proofs.FindLaws.{join-seat, free-place, free-id}
 use Rattle.table.proofs.EntryLaws.{held, live-at, withParties}
 use Rattle.table.proofs.ChangeLaws.{issue-is, join-is, join-sound}
-use Rattle.proxy.specs.State.{Kept, state, valueIn, machineOf}
-use Rattle.requesting.specs.Parts.{Asks, Came}
+use Rattle.proxy.specs.State.{KeptSettings, state, valueIn, machineOf}
+use Rattle.requesting.specs.inner.Parts.{Asks, Came}
 use Rattle.requesting.proofs.StepLaws.{was-joined, was-issued, was-full, issue-made}
 
 -- What a legal request asks may stand in a live entry, and comes back from its word,
@@ -59,7 +59,7 @@ pub asked-so : {f : List ℕ} {n unit : ℕ} {a : Asked} → Asks f n → checke
 asked-so {f} {n} {unit} {a} h legal e = (ap (λ (w : What). w .unit) (asked-back h) ∙ sym e, ap (λ (w : What). w .asked) (asked-back h) ∙ sym (legal-passed f a legal .asks))
 
 -- A request may join its like by its own settings and what it asks.
-pub may-join-own : (k : Kept) (f : List ℕ) {a : Asked} {joining : Bool} → checkedOf f ≡ Legal a
+pub may-join-own : (k : KeptSettings) (f : List ℕ) {a : Asked} {joining : Bool} → checkedOf f ≡ Legal a
     → ((v : Value) (w : What) → v .join ≡ k .join → w .asked ≡ a → joining ≡ alike v w w) → joining ≡ alike (valueIn k) (wanted f) (wanted f)
 unfolding valueIn
 may-join-own k f {a} legal h = h (valueIn k) (wanted f) refl (sym (legal-passed f a legal .asks))
@@ -78,15 +78,15 @@ pub free-here : (is : List ℕ) {place : ℕ} → place ≡ best (isFree is) (λ
 free-here is {place} e l = eqb-true (getD is place 0) 0 (rw e (best-some (isFree is) (λ j k. false) places (rw e at l)))
 
 -- what is known of a legal request after the scan: the place that it joins, and the place that it would be issued into
-pub record Seated (k : Kept) (c : Columns) (t : ℕ) (f : List ℕ) (joining : Bool) (word seat free : ℕ) : Type 0 where
-  pub sound : Sound c
+pub record Seated (k : KeptSettings) (c : Columns) (t : ℕ) (f : List ℕ) (joining : Bool) (word seat free : ℕ) : Type 0 where
+  pub sound : SoundTable c
   pub asks : Asks f word
   pub may : joining ≡ alike (valueIn k) (wanted f) (wanted f)
   pub scanned :
       (seat ≡ cond joining (best (isOpen (c .ids) (c .asked) (c .deadlines) (c .counts) word t) (isLower (c .ids)) places (c .top)) places)
       × (free ≡ best (isFree (c .ids)) (λ i j. false) places places)
 
-module _ {k : Kept} {c : Columns} {t : ℕ} {f : List ℕ} {joining : Bool} {word seat free : ℕ} (h : Seated k c t f joining word seat free) where
+module _ {k : KeptSettings} {c : Columns} {t : ℕ} {f : List ℕ} {joining : Bool} {word seat free : ℕ} (h : Seated k c t f joining word seat free) where
   -- An open place is live, and has room for one more party.
   pub open-here : seat < places → (getD (c .ids) seat 0 ≡ 0 → ⊥) × (getD (c .counts) seat 0 < room)
   open-here l =
@@ -142,11 +142,11 @@ module _ {k : Kept} {c : Columns} {t : ℕ} {f : List ℕ} {joining : Bool} {wor
     }
 
 -- A new entry at the lowest free place, what it spoils closed, the cursor behind its id, and the frame sent on are the issue.
-pub issued-there : (k : Kept) (c : Columns) (client : ℕ) (o : List ℕ) (id : ProxyId) {x t word place original x′ p v : ℕ} {f o′ : List ℕ} {c′ : Columns} {what : Asked}
-    → Sound c → Asks f word → checkedOf f ≡ Legal what → Sound c′
+pub issued-there : (k : KeptSettings) (c : Columns) (client : ℕ) (o : List ℕ) (id : ProxyId) {x t word place original x′ p v : ℕ} {f o′ : List ℕ} {c′ : Columns} {what : Asked}
+    → SoundTable c → Asks f word → checkedOf f ≡ Legal what → SoundTable c′
     → id .0 ≡ freeIdFrom (c .ids) (c .top) x → id .0 < ids → x′ ≡ turn ids (id .0 + 1) → original ≡ idOf f → place ≡ best (isFree (c .ids)) (λ i j. false) places places
     → tableOf c′ ≡ map (Option·map (marked (closing (whatOf word)))) (set (tableOf c) place (some (entry (id .0) (whatOf word) client opened (t + k .timeout) (party client original ∷ []))))
-    → rewrote p v o′ ≡ under (id .0) o (forwarded (tagsOf (k .tagged) (k .tags)) what f)
+    → withCounts p v o′ ≡ under (id .0) o (forwarded (tagsOf (k .tagCount) (k .tagWords)) what f)
     → Came (Issued id (length f) p v) k t c′ x′ o′ (λ m. issuedTo m client f o) c x
 unfolding valueIn
 issued-there k c client o id {x} {t} {word} {place} {original} {x′} {p} {v} {f} {o′} {c′} {what} s w legal sound ei li ex eo ep et sent =

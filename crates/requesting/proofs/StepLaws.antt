@@ -7,14 +7,14 @@ use mathlib.Core.Option.{some}
 use mathlib.Core.List.{List, []}
 use lib.ListN.{length}
 use borrow.Author.Tests.{eq-eqb, lt-ltb, le-ltb}
-use Rattle.laws.specs.Numbers.{places, deviceFailure}
+use Rattle.numbers.specs.Numbers.{places, deviceFailure}
 use Rattle.laws.specs.Bytes.{over}
 use Rattle.wire.specs.Frame.{idOf, unitOf, functionOf, exception}
 use Rattle.pdu.specs.Requests.{askedOf, faultOf, checkedOf}
 use Rattle.pdu.specs.Replies.{What}
 use Rattle.pdu.specs.declared.Asked.{Asked}
 use Rattle.pdu.specs.declared.Checked.the-variants.{Excepted as Faulty, Legal}
-use Rattle.rewrite.specs.Rewriting.{Rewritten, outcome as rewrote}
+use Rattle.rewrite.specs.Rewriting.{Rewritten, withCounts}
 use Rattle.rewrite.specs.Frames.{forwarded, under}
 use Rattle.book.specs.Book.{Live, at, apply}
 use Rattle.book.specs.Book.Move.{join, issue, mark}
@@ -89,7 +89,7 @@ module _ (m : Machine) (c : ℕ) (f o : List ℕ) where
   -- What is issued: the first free id, the lowest free place, what it spoils closed, the frame under that id with its registers rewritten, and both counts.
   pub issue-made : (id place : ℕ) (a : Asked) (p v : ℕ) (o′ : List ℕ) (b : Live-book)
       → id ≡ freeId rules (m .book) → place ≡ freePlace rules (m .book) → a ≡ askedOf f
-      → rewrote p v o′ ≡ under id o (forwarded (settings m .tags) a f)
+      → withCounts p v o′ ≡ under id o (forwarded (settings m .tags) a f)
       → b ≡ apply rules (apply rules (m .book) (issue place id (wanted f) opened (m .book .clock + settings m .timeout) (partyOf c f))) (mark (closing (wanted f)))
       → done (Issued (record { 0 = id }) (length f) p v) (machine b (m .attached)) o′ [] ≡ issuedTo m c f o
   unfolding issuedTo

@@ -8,30 +8,30 @@ ghost use mathlib.Core.Bool.{false};
 ghost use mathlib.Core.List.{[]};
 ghost use Prim.Native.Nat.{ℕ, _-_, _≤_, _<_};
 ghost use lib.ListN.{length, getD};
-ghost use Rattle.laws.specs.Numbers.{ids as idCount, places, room, exceptionFrame, leastFrame};
+ghost use Rattle.numbers.specs.Numbers.{ids as idCount, places, room, exceptionFrame, leastFrame};
 ghost use Rattle.laws.specs.Search.{best};
 ghost use Rattle.wire.specs.Frame.{idOf};
 ghost use Rattle.settings.specs.Grammar.{Value};
 ghost use Rattle.pdu.specs.Requests.{checkedOf};
 ghost use Rattle.pdu.specs.Replies.{What};
-ghost use Rattle.rewrite.specs.Lent.{TagWords};
+ghost use Rattle.rewrite.specs.inner.Lent.{TagWords};
 ghost use Rattle.machine.specs.Machine.{Machine};
 ghost use Rattle.machine.specs.Calls.{done};
 ghost use Rattle.machine.specs.Calls.Call.{request as asks};
 ghost use Rattle.machine.specs.Requests.{alike, excepted, issuedTo, served};
-ghost use Rattle.table.specs.Columns.{columns, party, Sound};
-ghost use Rattle.table.specs.Changes.{Runs, Joined};
-ghost use Rattle.table.specs.Places.{isFree};
-ghost use Rattle.proxy.specs.State.{kept, lent, Settled, Sounds};
+ghost use Rattle.table.specs.Columns.{columns, party, SoundTable};
+ghost use Rattle.table.specs.inner.Changes.{Runs, Joined};
+ghost use Rattle.table.specs.inner.Places.{isFree};
+ghost use Rattle.proxy.specs.State.{keptSettings, lent, Settled, SoundState};
 ghost use Rattle.proxy.specs.Calls.{Does};
 ghost use Rattle.proxy.specs.Gates.{requestGate};
-ghost use Rattle.requesting.specs.Parts.{Admitted, Asks, Came};
+ghost use Rattle.requesting.specs.inner.Parts.{Admitted, Asks, Came};
 
 // The refusals 1 to 4, the lowest that applies; 0 where none does.
 fn gate(out: usize, client: u32, attached: u32, time: u64, clock: u64, frame: &[u8]) -> u32
     ensures { λ r. ⌜ r ≡ requestGate out client attached time clock (now (frame .entry)) ⌝ }
 {
-    if out < laws::FRAME_BUFFER {
+    if out < numbers::FRAME_BUFFER {
         return 1;
     }
     if proxy::attaching::is_stranger(attached, client) {
@@ -87,17 +87,17 @@ fn word_asked(frame: &[u8], what: Asked) -> u64
     requires { ⌜ (leastFrame ≤ length (now frame)) × (checkedOf (now frame) ≡ Checked.Legal what) ⌝ }
     ensures { λ r. ⌜ Asks (now (frame .entry)) r ⌝ }
 {
-    let unit = frame[laws::UNCOUNTED];
-    let function = frame[laws::HEADER_SIZE];
+    let unit = frame[numbers::UNIT_AT];
+    let function = frame[numbers::HEADER_SIZE];
     checking::words::word_of(unit, function, what)
 }
 
 // Joins a request to the live request at an open place; no frame is written.
 fn join_request<'a>(
-    ids: &'a [u32; laws::PLACES],
-    counts: &'a mut [u8; laws::PLACES],
-    clients: &'a mut [u8; laws::PARTY_PLACES],
-    originals: &'a mut [u16; laws::PARTY_PLACES],
+    ids: &'a [u32; numbers::PLACES],
+    counts: &'a mut [u8; numbers::PLACES],
+    clients: &'a mut [u8; numbers::PARTY_PLACES],
+    originals: &'a mut [u16; numbers::PARTY_PLACES],
     place: usize,
     client: u8,
     frame: &[u8],
@@ -116,18 +116,18 @@ fn join_request<'a>(
 
 // Issues a legal request into the lowest free place, closes the reads that it spoils, and sends its frame on.
 fn issue_request<'a>(
-    ids: &'a mut [u32; laws::PLACES],
-    asked: &'a mut [u64; laws::PLACES],
-    callers: &'a mut [u8; laws::PLACES],
-    deadlines: &'a mut [u64; laws::PLACES],
-    counts: &'a mut [u8; laws::PLACES],
-    clients: &'a mut [u8; laws::PARTY_PLACES],
-    originals: &'a mut [u16; laws::PARTY_PLACES],
+    ids: &'a mut [u32; numbers::PLACES],
+    asked: &'a mut [u64; numbers::PLACES],
+    callers: &'a mut [u8; numbers::PLACES],
+    deadlines: &'a mut [u64; numbers::PLACES],
+    counts: &'a mut [u8; numbers::PLACES],
+    clients: &'a mut [u8; numbers::PARTY_PLACES],
+    originals: &'a mut [u16; numbers::PARTY_PLACES],
     top: &'a mut u32,
     cursor: &'a mut u16,
     timeout: u32,
-    tagged: u32,
-    tags: &[u64; laws::MOST_TAGS],
+    tag_count: u32,
+    tag_words: &[u64; numbers::MOST_TAGS],
     client: u8,
     time: u64,
     frame: &[u8],
@@ -136,12 +136,12 @@ fn issue_request<'a>(
     word: u64,
     place: usize,
 ) -> Answer
-    requires { ⌜ Sound (columns (now ids) (now asked) (now callers) (now deadlines) (now counts) (now clients) (now originals) (now top)) ⌝ }
-    requires { ⌜ TagWords tagged (now tags) ⌝ }
+    requires { ⌜ SoundTable (columns (now ids) (now asked) (now callers) (now deadlines) (now counts) (now clients) (now originals) (now top)) ⌝ }
+    requires { ⌜ TagWords «tag_count» (now «tag_words») ⌝ }
     requires { ⌜ Admitted client time (now frame) (now out) what ⌝ }
     requires { ⌜ Asks (now frame) word ⌝ }
     requires { ⌜ (place ≡ best (isFree (now ids)) (λ j k. false) places places) × (place < places) ⌝ }
-    ensures { λ r. ⌜ ((join : ℕ) → Came r (kept timeout join tagged (now (tags .entry))) time (columns (now (ids .exit)) (now (asked .exit)) (now (callers .exit)) (now (deadlines .exit)) (now (counts .exit)) (now (clients .exit)) (now (originals .exit)) (now (top .exit))) (now (cursor .exit)) (now (out .exit))
+    ensures { λ r. ⌜ ((join : ℕ) → Came r (keptSettings timeout join «tag_count» (now («tag_words» .entry))) time (columns (now (ids .exit)) (now (asked .exit)) (now (callers .exit)) (now (deadlines .exit)) (now (counts .exit)) (now (clients .exit)) (now (originals .exit)) (now (top .exit))) (now (cursor .exit)) (now (out .exit))
         (λ m. issuedTo m client (now (frame .entry)) (now (out .entry)))
         (columns (now (ids .entry)) (now (asked .entry)) (now (callers .entry)) (now (deadlines .entry)) (now (counts .entry)) (now (clients .entry)) (now (originals .entry)) (now (top .entry))) (now (cursor .entry))) ⌝ }
 {
@@ -168,7 +168,7 @@ fn issue_request<'a>(
     moves::closing::close(ids, asked, *top as usize, unit, what);
     let next = id.next();
     *cursor = next.0;
-    let raw = payloads::forward(out, frame, id, what, tags, tagged as usize);
+    let raw = payloads::forward(out, frame, id, what, tag_words, tag_count as usize);
     let length = frame.len() as u32;
     Answer::Issued {
         id,
@@ -180,29 +180,29 @@ fn issue_request<'a>(
 
 // A legal request: it joins, else is issued, else gets exception 04.
 fn serve<'a>(
-    ids: &'a mut [u32; laws::PLACES],
-    asked: &'a mut [u64; laws::PLACES],
-    callers: &'a mut [u8; laws::PLACES],
-    deadlines: &'a mut [u64; laws::PLACES],
-    counts: &'a mut [u8; laws::PLACES],
-    clients: &'a mut [u8; laws::PARTY_PLACES],
-    originals: &'a mut [u16; laws::PARTY_PLACES],
+    ids: &'a mut [u32; numbers::PLACES],
+    asked: &'a mut [u64; numbers::PLACES],
+    callers: &'a mut [u8; numbers::PLACES],
+    deadlines: &'a mut [u64; numbers::PLACES],
+    counts: &'a mut [u8; numbers::PLACES],
+    clients: &'a mut [u8; numbers::PARTY_PLACES],
+    originals: &'a mut [u16; numbers::PARTY_PLACES],
     top: &'a mut u32,
     cursor: &'a mut u16,
     timeout: u32,
     join: u32,
-    tagged: u32,
-    tags: &[u64; laws::MOST_TAGS],
+    tag_count: u32,
+    tag_words: &[u64; numbers::MOST_TAGS],
     client: u8,
     time: u64,
     frame: &[u8],
     out: &mut [u8],
     what: Asked,
 ) -> Answer
-    requires { ⌜ Sound (columns (now ids) (now asked) (now callers) (now deadlines) (now counts) (now clients) (now originals) (now top)) ⌝ }
-    requires { ⌜ Settled (kept timeout join tagged (now tags)) ⌝ }
+    requires { ⌜ SoundTable (columns (now ids) (now asked) (now callers) (now deadlines) (now counts) (now clients) (now originals) (now top)) ⌝ }
+    requires { ⌜ Settled (keptSettings timeout join «tag_count» (now «tag_words»)) ⌝ }
     requires { ⌜ Admitted client time (now frame) (now out) what ⌝ }
-    ensures { λ r. ⌜ Came r (kept timeout join tagged (now (tags .entry))) time (columns (now (ids .exit)) (now (asked .exit)) (now (callers .exit)) (now (deadlines .exit)) (now (counts .exit)) (now (clients .exit)) (now (originals .exit)) (now (top .exit))) (now (cursor .exit)) (now (out .exit))
+    ensures { λ r. ⌜ Came r (keptSettings timeout join «tag_count» (now («tag_words» .entry))) time (columns (now (ids .exit)) (now (asked .exit)) (now (callers .exit)) (now (deadlines .exit)) (now (counts .exit)) (now (clients .exit)) (now (originals .exit)) (now (top .exit))) (now (cursor .exit)) (now (out .exit))
         (λ m. served m client (now (frame .entry)) (now (out .entry)))
         (columns (now (ids .entry)) (now (asked .entry)) (now (callers .entry)) (now (deadlines .entry)) (now (counts .entry)) (now (clients .entry)) (now (originals .entry)) (now (top .entry))) (now (cursor .entry)) ⌝ }
 {
@@ -217,10 +217,10 @@ fn serve<'a>(
         word,
         time,
     );
-    if seats.open < laws::PLACES {
+    if seats.open < numbers::PLACES {
         return join_request(ids, counts, clients, originals, seats.open, client, frame);
     }
-    if seats.free < laws::PLACES {
+    if seats.free < numbers::PLACES {
         return issue_request(
             ids,
             asked,
@@ -232,8 +232,8 @@ fn serve<'a>(
             top,
             cursor,
             timeout,
-            tagged,
-            tags,
+            tag_count,
+            tag_words,
             client,
             time,
             frame,
@@ -243,34 +243,34 @@ fn serve<'a>(
             seats.free,
         );
     }
-    except_caller(out, frame, laws::DEVICE_FAILURE)
+    except_caller(out, frame, numbers::DEVICE_FAILURE)
 }
 
 // A request of any client, at any time, of any bytes, over a buffer of any length.
 pub fn request<'a>(
-    ids: &'a mut [u32; laws::PLACES],
-    asked: &'a mut [u64; laws::PLACES],
-    callers: &'a mut [u8; laws::PLACES],
-    deadlines: &'a mut [u64; laws::PLACES],
-    counts: &'a mut [u8; laws::PLACES],
-    clients: &'a mut [u8; laws::PARTY_PLACES],
-    originals: &'a mut [u16; laws::PARTY_PLACES],
+    ids: &'a mut [u32; numbers::PLACES],
+    asked: &'a mut [u64; numbers::PLACES],
+    callers: &'a mut [u8; numbers::PLACES],
+    deadlines: &'a mut [u64; numbers::PLACES],
+    counts: &'a mut [u8; numbers::PLACES],
+    clients: &'a mut [u8; numbers::PARTY_PLACES],
+    originals: &'a mut [u16; numbers::PARTY_PLACES],
     top: &'a mut u32,
     cursor: &'a mut u16,
     attached: &'a mut u32,
     clock: &'a mut u64,
     timeout: &'a mut u32,
     join: &'a mut u32,
-    tagged: &'a mut u32,
-    tags: &'a mut [u64; laws::MOST_TAGS],
+    tag_count: &'a mut u32,
+    tag_words: &'a mut [u64; numbers::MOST_TAGS],
     client: u32,
     time: u64,
     frame: &[u8],
     out: &mut [u8],
 ) -> Answer
-    requires { ⌜ Sounds (lent (now ids) (now asked) (now callers) (now deadlines) (now counts) (now clients) (now originals) (now top) (now cursor) (now attached) (now clock) (now timeout) (now join) (now tagged) (now tags)) ⌝ }
-    ensures { λ r. ⌜ Does (lent (now (ids .entry)) (now (asked .entry)) (now (callers .entry)) (now (deadlines .entry)) (now (counts .entry)) (now (clients .entry)) (now (originals .entry)) (now (top .entry)) (now (cursor .entry)) (now (attached .entry)) (now (clock .entry)) (now (timeout .entry)) (now (join .entry)) (now (tagged .entry)) (now (tags .entry))) (asks client time (now (frame .entry)) (now (out .entry))) r
-        (lent (now (ids .exit)) (now (asked .exit)) (now (callers .exit)) (now (deadlines .exit)) (now (counts .exit)) (now (clients .exit)) (now (originals .exit)) (now (top .exit)) (now (cursor .exit)) (now (attached .exit)) (now (clock .exit)) (now (timeout .exit)) (now (join .exit)) (now (tagged .exit)) (now (tags .exit))) (now (out .exit)) [] ⌝ }
+    requires { ⌜ SoundState (lent (now ids) (now asked) (now callers) (now deadlines) (now counts) (now clients) (now originals) (now top) (now cursor) (now attached) (now clock) (now timeout) (now join) (now «tag_count») (now «tag_words»)) ⌝ }
+    ensures { λ r. ⌜ Does (lent (now (ids .entry)) (now (asked .entry)) (now (callers .entry)) (now (deadlines .entry)) (now (counts .entry)) (now (clients .entry)) (now (originals .entry)) (now (top .entry)) (now (cursor .entry)) (now (attached .entry)) (now (clock .entry)) (now (timeout .entry)) (now (join .entry)) (now («tag_count» .entry)) (now («tag_words» .entry))) (asks client time (now (frame .entry)) (now (out .entry))) r
+        (lent (now (ids .exit)) (now (asked .exit)) (now (callers .exit)) (now (deadlines .exit)) (now (counts .exit)) (now (clients .exit)) (now (originals .exit)) (now (top .exit)) (now (cursor .exit)) (now (attached .exit)) (now (clock .exit)) (now (timeout .exit)) (now (join .exit)) (now («tag_count» .exit)) (now («tag_words» .exit))) (now (out .exit)) [] ⌝ }
 {
     let refused = gate(out.len(), client, *attached, time, *clock, frame);
     if refused != 0 {
@@ -297,8 +297,8 @@ pub fn request<'a>(
                 cursor,
                 *timeout,
                 *join,
-                *tagged,
-                tags,
+                *tag_count,
+                tag_words,
                 client as u8,
                 time,
                 frame,

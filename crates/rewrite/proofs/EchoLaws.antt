@@ -25,7 +25,7 @@ use Rattle.pdu.specs.declared.Asked.the-variants.{SingleWrite}
 use Rattle.rewrite.specs.declared.Way.{Way}
 use Rattle.rewrite.specs.declared.Way.the-variants.{ToBcd, ToBinary}
 use Rattle.rewrite.specs.Registers.{registersAt, laidAt}
-use Rattle.rewrite.specs.Rewriting.{turned, verdict, laidBy, Rewritten, outcome, rewriting}
+use Rattle.rewrite.specs.Rewriting.{turned, verdict, laidBy, Rewritten, withCounts, rewriting}
 use Rattle.rewrite.specs.Rewriting.Verdict.{done}
 use Rattle.rewrite.specs.Frames.{forwarded, reencoded, returned}
 use Rattle.rewrite.proofs.RegisterLaws.{laid-registers, registers-laid, laid-laid}
@@ -37,7 +37,7 @@ use Rattle.rewrite.proofs.SingleLaws.{alone}
 
 module _ (tags : List Tag) (asc : Ascending 0 tags) (a : ℕ) (t : Tag) (m : List·Memᴰ t tags) (here : t .address ≡ a) (one : registers (kindOf t) ≡ 1) where
   -- a frame d whose one register, at byte 10, is the word x, which the tag there turns into y, has y in its place
-  one-turned : (way : Way) (d : List ℕ) (x y : ℕ) → registersAt 10 1 d ≡ x ∷ [] → y < 65536 → turned way (kindOf t) x ≡ some y → rewriting way 10 a 1 tags d ≡ outcome 0 0 (laidAt 10 (y ∷ []) d)
+  one-turned : (way : Way) (d : List ℕ) (x y : ℕ) → registersAt 10 1 d ≡ x ∷ [] → y < 65536 → turned way (kindOf t) x ≡ some y → rewriting way 10 a 1 tags d ≡ withCounts 0 0 (laidAt 10 (y ∷ []) d)
   unfolding laidBy
   one-turned way d x y e l q =
       let k = kindOf t in
@@ -52,7 +52,7 @@ module _ (tags : List Tag) (asc : Ascending 0 tags) (f : List ℕ) (bytes : (k :
   sent = forwarded tags (SingleWrite Registers a (pairAt f 10)) f .bytes
 
   -- what a request that was re-encoded carries is decoded to the value
-  decoded-back : reencoded tags a (pairAt f 10) ≡ true → rewriting ToBinary 10 a 1 tags sent ≡ outcome 0 0 f
+  decoded-back : reencoded tags a (pairAt f 10) ≡ true → rewriting ToBinary 10 a 1 tags sent ≡ withCounts 0 0 f
   unfolding forwarded registersAt below registers
   decoded-back e =
       let r = reencoded-exactly tags a (pairAt f 10) .0 e in
@@ -65,12 +65,12 @@ module _ (tags : List Tag) (asc : Ascending 0 tags) (f : List ℕ) (bytes : (k :
       let there : registersAt 10 1 (laidAt 10 (s .0 ∷ []) f) ≡ s .0 ∷ [] = registers-laid 10 (s .0 ∷ []) f (omega arith) (rw (lt-ltb (s .0) 65536 small) refl) in
       rw out
       (one-turned tags asc a (r .0) (r .1) (r .2) (r .3) ToBinary (laidAt 10 (s .0 ∷ []) f) (s .0) v there fits (turned-decoded k (s .0) (Binary v) (encode-decode k v (s .0) (s .1)))
-      ∙ ap (outcome 0 0) (laid-laid 10 (s .0 ∷ []) (v ∷ []) f refl ∙ laid-registers 10 1 f bytes))
+      ∙ ap (withCounts 0 0) (laid-laid 10 (s .0 ∷ []) (v ∷ []) f refl ∙ laid-registers 10 1 f bytes))
 
   -- A controller that echoes what it was sent gives back the frame that the client wrote, and no tag is counted: whether the value was re-encoded or went out raw.
-  pub echo-back : (w : What) → w .asked ≡ SingleWrite Registers a (pairAt f 10) → excepts (w .function) sent ≡ false → returned tags w sent ≡ outcome 0 0 f
+  pub echo-back : (w : What) → w .asked ≡ SingleWrite Registers a (pairAt f 10) → excepts (w .function) sent ≡ false → returned tags w sent ≡ withCounts 0 0 f
   echo-back w asks plain =
       ⊎-elim
       (λ (e : reencoded tags a (pairAt f 10) ≡ true). returned-single tags sent w a (pairAt f 10) asks e plain ∙ decoded-back e)
-      (λ (e : reencoded tags a (pairAt f 10) ≡ false). returned-raw tags sent w a (pairAt f 10) asks e ∙ ap (outcome 0 0) (sent-raw tags f bytes a e))
+      (λ (e : reencoded tags a (pairAt f 10) ≡ false). returned-raw tags sent w a (pairAt f 10) asks e ∙ ap (withCounts 0 0) (sent-raw tags f bytes a e))
       (true-or (reencoded tags a (pairAt f 10)))

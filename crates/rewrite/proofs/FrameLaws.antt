@@ -23,7 +23,7 @@ use Rattle.pdu.specs.declared.Asked.the-variants.{Read, SingleWrite, MultipleWr
 use Rattle.rewrite.specs.declared.Way.{Way}
 use Rattle.rewrite.specs.declared.Way.the-variants.{ToBinary}
 use Rattle.rewrite.specs.Registers.{registersAt}
-use Rattle.rewrite.specs.Rewriting.{rewritten, Rewritten, outcome, rewriting}
+use Rattle.rewrite.specs.Rewriting.{rewritten, Rewritten, withCounts, rewriting}
 use Rattle.rewrite.specs.Frames.{forwarded, reencoded, returnedBy, returned, under}
 use Rattle.rewrite.specs.Plain.{OfBits}
 use Rattle.rewrite.specs.Plain.OfBits.{coils-read, discrete-read, coil-written, coils-written}
@@ -46,15 +46,15 @@ module _ (way : Way) (base start q : ℕ) (tags : List Tag) (d : List ℕ) where
 
 module _ (tags : List Tag) (f : List ℕ) where
   -- A request to read and one of any other function pass unchanged, and no tag is counted.
-  pub forwarded-read : (t : Table) (s q : ℕ) → forwarded tags (Read t s q) f ≡ outcome 0 0 f
+  pub forwarded-read : (t : Table) (s q : ℕ) → forwarded tags (Read t s q) f ≡ withCounts 0 0 f
   unfolding forwarded
   forwarded-read t s q = refl
 
-  pub forwarded-other : forwarded tags Other f ≡ outcome 0 0 f
+  pub forwarded-other : forwarded tags Other f ≡ withCounts 0 0 f
   unfolding forwarded
   forwarded-other = refl
 
-  sent-by : (n : ℕ) → OfBits n → forwarded tags (askedBy (classOf n) f) f ≡ outcome 0 0 f
+  sent-by : (n : ℕ) → OfBits n → forwarded tags (askedBy (classOf n) f) f ≡ withCounts 0 0 f
   unfolding forwarded askedBy classOf
   sent-by n coils-read = refl
   sent-by n discrete-read = refl
@@ -62,10 +62,10 @@ module _ (tags : List Tag) (f : List ℕ) where
   sent-by n coils-written = refl
 
   -- A request 01, 02, 05 or 15 passes unchanged, whatever the tags, and no tag is counted.
-  pub forwarded-bits : OfBits (functionOf f) → forwarded tags (askedOf f) f ≡ outcome 0 0 f
+  pub forwarded-bits : OfBits (functionOf f) → forwarded tags (askedOf f) f ≡ withCounts 0 0 f
   forwarded-bits = sent-by (functionOf f)
 
-  brought-by : (n : ℕ) (g : List ℕ) → OfBits n → returnedBy tags (askedBy (classOf n) g) f ≡ outcome 0 0 f
+  brought-by : (n : ℕ) (g : List ℕ) → OfBits n → returnedBy tags (askedBy (classOf n) g) f ≡ withCounts 0 0 f
   unfolding returnedBy askedBy classOf
   brought-by n g coils-read = refl
   brought-by n g discrete-read = refl
@@ -74,7 +74,7 @@ module _ (tags : List Tag) (f : List ℕ) where
 
   module _ (w : What) where
     -- An exception reply passes unchanged, and no tag is counted.
-    pub returned-exception : excepts (w .function) f ≡ true → returned tags w f ≡ outcome 0 0 f
+    pub returned-exception : excepts (w .function) f ≡ true → returned tags w f ≡ withCounts 0 0 f
     unfolding returned
     returned-exception e = rw e
 
@@ -84,19 +84,19 @@ module _ (tags : List Tag) (f : List ℕ) where
     returned-other e = rw e
 
     -- A reply that would not be rewritten passes unchanged, exception or not: to a request 15 or 16, to one of any other function, and to 01, 02 and 05.
-    unchanged : returnedBy tags (w .asked) f ≡ outcome 0 0 f → returned tags w f ≡ outcome 0 0 f
+    unchanged : returnedBy tags (w .asked) f ≡ withCounts 0 0 f → returned tags w f ≡ withCounts 0 0 f
     unchanged e = ⊎-elim returned-exception (λ x. returned-other x ∙ e) (true-or (excepts (w .function) f))
 
-    pub returned-multiple : (t : Table) (s q : ℕ) → w .asked ≡ MultipleWrite t s q → returned tags w f ≡ outcome 0 0 f
+    pub returned-multiple : (t : Table) (s q : ℕ) → w .asked ≡ MultipleWrite t s q → returned tags w f ≡ withCounts 0 0 f
     unfolding returnedBy
     returned-multiple t s q e = unchanged (rw e)
 
-    pub returned-any : w .asked ≡ Other → returned tags w f ≡ outcome 0 0 f
+    pub returned-any : w .asked ≡ Other → returned tags w f ≡ withCounts 0 0 f
     unfolding returnedBy
     returned-any e = unchanged (rw e)
 
     -- A reply to what a request 01, 02, 05 or 15 asked passes unchanged, whatever the tags, and no tag is counted.
-    pub returned-bits : (g : List ℕ) → OfBits (functionOf g) → w .asked ≡ askedOf g → returned tags w f ≡ outcome 0 0 f
+    pub returned-bits : (g : List ℕ) → OfBits (functionOf g) → w .asked ≡ askedOf g → returned tags w f ≡ withCounts 0 0 f
     returned-bits g b e = unchanged (rw e (brought-by (functionOf g) g b))
 
     -- A reply to a request to read registers is rewritten to binary: as many registers as were asked for, from byte 9 on, of the addresses from the start that was asked on.
@@ -109,16 +109,16 @@ module _ (tags : List Tag) (f : List ℕ) where
     unfolding returnedBy
     returned-single a v e r x = returned-other x ∙ rw (e, r)
 
-    pub returned-raw : (a v : ℕ) → w .asked ≡ SingleWrite Registers a v → reencoded tags a v ≡ false → returned tags w f ≡ outcome 0 0 f
+    pub returned-raw : (a v : ℕ) → w .asked ≡ SingleWrite Registers a v → reencoded tags a v ≡ false → returned tags w f ≡ withCounts 0 0 f
     unfolding returnedBy
     returned-raw a v e r = unchanged (rw (e, r))
 
-    returned-cases : (P : Rewritten → Type 0) → P (outcome 0 0 f) → P (returnedBy tags (w .asked) f) → P (returned tags w f)
+    returned-cases : (P : Rewritten → Type 0) → P (withCounts 0 0 f) → P (returnedBy tags (w .asked) f) → P (returned tags w f)
     unfolding returned
     returned-cases P x y = ⊎-elim (λ e. rw e x) (λ e. rw e y) (true-or (excepts (w .function) f))
 
   -- what holds of a frame that passes and of one whose register is rewritten holds of an echo
-  echo-cases : (P : Rewritten → Type 0) (a v : ℕ) → P (outcome 0 0 f) → P (rewriting ToBinary 10 a 1 tags f) → P (returnedBy tags (SingleWrite Registers a v) f)
+  echo-cases : (P : Rewritten → Type 0) (a v : ℕ) → P (withCounts 0 0 f) → P (rewriting ToBinary 10 a 1 tags f) → P (returnedBy tags (SingleWrite Registers a v) f)
   unfolding returnedBy
   echo-cases P a v x y = ⊎-elim (λ e. rw e y) (λ e. rw e x) (true-or (reencoded tags a v))
 
@@ -216,11 +216,11 @@ module _ (f out : List ℕ) where
   front = take-append-seam f (drop (length f) out)
 
   -- A frame of the same length in its place, under an id, is that frame under that id over the buffer.
-  pub laid-under : (id p v : ℕ) (b : List ℕ) (w : Rewritten) → 2 ≤ length f → length b ≡ length f → outcome p v b ≡ w
-      → outcome p v (laid id (b ++ drop (length f) (over f out))) ≡ under id out w
+  pub laid-under : (id p v : ℕ) (b : List ℕ) (w : Rewritten) → 2 ≤ length f → length b ≡ length f → withCounts p v b ≡ w
+      → withCounts p v (laid id (b ++ drop (length f) (over f out))) ≡ under id out w
   laid-under id p v b w h l e =
       let t = drop (length f) out in
       let n : length (laid id b) ≡ length f = omega (arith, length-drop 2 b) in
-      let s : outcome p v (laid id (b ++ drop (length f) (over f out))) ≡ under id out (outcome p v b) =
-      rw (drop-append-seam f t, drop-append-le 2 b t (omega arith)) (ap (λ (m : ℕ). outcome p v (laid id b ++ drop m out)) (sym n)) in
+      let s : withCounts p v (laid id (b ++ drop (length f) (over f out))) ≡ under id out (withCounts p v b) =
+      rw (drop-append-seam f t, drop-append-le 2 b t (omega arith)) (ap (λ (m : ℕ). withCounts p v (laid id b ++ drop m out)) (sym n)) in
       s ∙ ap (under id out) e

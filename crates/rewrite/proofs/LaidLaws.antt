@@ -16,7 +16,7 @@ use Rattle.pdu.specs.declared.Asked.{Asked}
 use Rattle.pdu.specs.declared.Asked.the-variants.{Read, SingleWrite, MultipleWrite, Other}
 use Rattle.rewrite.specs.declared.Way.{Way}
 use Rattle.rewrite.specs.Registers.{registersAt, laidAt}
-use Rattle.rewrite.specs.Rewriting.{Rewritten, outcome, rewriting, partials, values, rewritten}
+use Rattle.rewrite.specs.Rewriting.{Rewritten, withCounts, rewriting, partials, values, rewritten}
 use Rattle.rewrite.specs.Frames.{reencoded, returnedBy, returned}
 
 -- registers from the third byte on, and what is laid there, do not rest on the first two
@@ -33,14 +33,14 @@ module _ (x y : ℕ) where
 
 -- what a rewriting comes to, with an id laid over it
 abbrev pub laidOver : ℕ → Rewritten → Rewritten
-laidOver id r = outcome (r .partial) (r .value) (laid id (r .bytes))
+laidOver id r = withCounts (r .partial) (r .value) (laid id (r .bytes))
 
 module _ (way : Way) (k start q : ℕ) (tags : List Tag) where
   behind : (x y : ℕ) (d : List ℕ)
       → rewriting way (suc (suc k)) start q tags (x ∷ y ∷ d)
-      ≡ outcome (partials way start tags (registersAt k q d)) (values way start tags (registersAt k q d)) (x ∷ y ∷ laidAt k (rewritten way start tags (registersAt k q d)) d)
+      ≡ withCounts (partials way start tags (registersAt k q d)) (values way start tags (registersAt k q d)) (x ∷ y ∷ laidAt k (rewritten way start tags (registersAt k q d)) d)
   unfolding rewriting
-  behind x y d = rw (registers-behind x y k q d) (ap (outcome _ _) (laid-behind x y k (rewritten way start tags (registersAt k q d)) d))
+  behind x y d = rw (registers-behind x y k q d) (ap (withCounts _ _) (laid-behind x y k (rewritten way start tags (registersAt k q d)) d))
 
   rewriting-laid : (id : ℕ) (f : List ℕ) → 2 ≤ length f → rewriting way (suc (suc k)) start q tags (laid id f) ≡ laidOver id (rewriting way (suc (suc k)) start q tags f)
   rewriting-laid id [] h = absurd (omega arith)

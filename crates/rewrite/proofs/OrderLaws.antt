@@ -6,7 +6,7 @@ use mathlib.Core.Logic.{⊎-elim}
 use mathlib.Core.List.{List, [], _∷_, _++_, List·Memᴰ, List·Memᴰ·not-nil, List·Memᴰ·cases-cons, Memᴰ·append-right}
 use native.Mathlib.Omega.{arith}
 use lib.ListN.{length, getD}
-use Rattle.laws.specs.Numbers.{addresses}
+use Rattle.numbers.specs.Numbers.{addresses}
 use Rattle.bcd.specs.Bcd.{registers}
 use Rattle.bcd.proofs.Words.{registers-least}
 use Rattle.settings.specs.Grammar.{Tag}

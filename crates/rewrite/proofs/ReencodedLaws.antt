@@ -30,7 +30,7 @@ use Rattle.rewrite.specs.Rewriting.{Verdict, ownIn, verdict, laidBy, isR
 use Rattle.rewrite.specs.Rewriting.Verdict.{outside, partial, value, done}
 use Rattle.rewrite.specs.Frames.{forwarded, reencoded}
 use Rattle.rewrite.specs.Plain.{Has, Whole}
-use Rattle.rewrite.specs.Lent.{tagsOf, TagWords, reaches}
+use Rattle.rewrite.specs.inner.Lent.{tagsOf, TagWords, reaches}
 use Rattle.rewrite.proofs.RegisterLaws.{laid-registers}
 use Rattle.rewrite.proofs.OrderLaws.{behind-last}
 use Rattle.rewrite.proofs.TableLaws.{tag-place, tag-order, tag-in}

@@ -14,7 +14,7 @@ use Rattle.pdu.specs.declared.Asked.the-variants.{Read, SingleWrite, MultipleWr
 use Rattle.pdu.specs.declared.Checked.the-variants.{Legal}
 use Rattle.pdu.proofs.RequestLaws.{RequestRoom, legal-room}
 use Rattle.pdu.proofs.ReplyLaws.{ReplyRoom, answering-room}
-use Rattle.rewrite.specs.Lent.{Sent, Brought}
+use Rattle.rewrite.specs.inner.Lent.{Sent, Brought}
 
 sent : (a : Asked) (f : List ℕ) → RequestRoom a f → Lawful a → Sent a f
 unfolding Lawful

@@ -16,9 +16,10 @@ use Rattle.bcd.specs.declared.Kind.the-variants.{Width16, Signed16}
 use Rattle.bcd.specs.declared.Decoded.the-variants.{Binary}
 use Rattle.bcd.specs.Bcd.{packed, unpacked, decimal, registers, inRange, decoded}
 use Rattle.bcd.specs.Words.{wordsOf, numberOf}
+use Rattle.bcd.specs.Plain.{NoNumberOf}
 use Rattle.bcd.proofs.OutcomeLaws.{decoded-decimal}
 use Rattle.bcd.proofs.SignedLaws.{plus-sent, minus-sent, signed-encode-decode}
-use Rattle.bcd.proofs.RoundTrip.{NoNumberOf, decoded-in-range}
+use Rattle.bcd.proofs.RoundTrip.{decoded-in-range}
 use Rattle.settings.specs.Grammar.{Tag}
 use Rattle.settings.specs.TagWords.{kindOf, lastOf, Ascending}
 use Rattle.pdu.specs.Replies.{What, excepts}
@@ -27,7 +28,7 @@ use Rattle.pdu.specs.declared.Asked.the-variants.{SingleWrite}
 use Rattle.rewrite.specs.declared.Way.{Way}
 use Rattle.rewrite.specs.declared.Way.the-variants.{ToBinary}
 use Rattle.rewrite.specs.Registers.{registersAt, laidAt}
-use Rattle.rewrite.specs.Rewriting.{turned, Verdict, ownIn, verdict, laidBy, outcome, rewriting}
+use Rattle.rewrite.specs.Rewriting.{turned, Verdict, ownIn, verdict, laidBy, withCounts, rewriting}
 use Rattle.rewrite.specs.Rewriting.Verdict.{outside, partial, value, done}
 use Rattle.rewrite.specs.Frames.{reencoded, returned}
 use Rattle.rewrite.specs.Plain.{Has, InRun, Whole}
@@ -88,18 +89,18 @@ module _ (way : Way) (base a : ℕ) (f : List ℕ) where
 -- a reply f, of bytes, to a request 06 that wrote a value to the address a
 module _ (tags : List Tag) (asc : Ascending 0 tags) (f : List ℕ) (bytes : (k : ℕ) → getD f k 0 < 256) (w : What) (a written : ℕ) (asks : w .asked ≡ SingleWrite Registers a written) where
   -- what the request would have needed to be re-encoded is not so: the reply passes unchanged, and none is counted
-  untouched : ((t : Tag) → List·Memᴰ t tags → t .address ≡ a → registers (kindOf t) ≡ 1 → inRange (kindOf t) written ≡ true → ⊥) → returned tags w f ≡ outcome 0 0 f
+  untouched : ((t : Tag) → List·Memᴰ t tags → t .address ≡ a → registers (kindOf t) ≡ 1 → inRange (kindOf t) written ≡ true → ⊥) → returned tags w f ≡ withCounts 0 0 f
   untouched n =
       returned-raw tags f w a written asks
       (⊎-elim (λ e. absurd (let r = reencoded-exactly tags a written .0 e in n (r .0) (r .1) (r .2) (r .3) (r .4))) (λ e. e) (true-or (reencoded tags a written)))
 
   -- Where no tag has the address the reply passes unchanged, and none is counted.
-  pub single-untagged : ((t : Tag) → List·Memᴰ t tags → Has t a → ⊥) → returned tags w f ≡ outcome 0 0 f
+  pub single-untagged : ((t : Tag) → List·Memᴰ t tags → Has t a → ⊥) → returned tags w f ≡ withCounts 0 0 f
   single-untagged n = untouched (λ t m e one r. n t m (omega arith, omega arith))
 
   module _ (t : Tag) (m : List·Memᴰ t tags) (h : Has t a) where
     -- Under a tag of two registers the same.
-    pub single-wide : registers (kindOf t) ≡ 2 → returned tags w f ≡ outcome 0 0 f
+    pub single-wide : registers (kindOf t) ≡ 2 → returned tags w f ≡ withCounts 0 0 f
     single-wide two =
         untouched (λ u n e one r.
         let same : t ≡ u = one-owner 0 tags t u a asc m n h (omega arith, omega arith) in
@@ -107,7 +108,7 @@ module _ (tags : List Tag) (asc : Ascending 0 tags) (f : List ℕ) (bytes : (k :
         omega arith)
 
     -- And under one of one register, where the value that the client wrote was outside its range.
-    pub single-unencoded : inRange (kindOf t) written ≡ false → returned tags w f ≡ outcome 0 0 f
+    pub single-unencoded : inRange (kindOf t) written ≡ false → returned tags w f ≡ withCounts 0 0 f
     single-unencoded out =
         untouched (λ u n e one r.
         let same : t ≡ u = one-owner 0 tags t u a asc m n h (omega arith, omega arith) in
@@ -134,14 +135,14 @@ module _ (tags : List Tag) (asc : Ascending 0 tags) (f : List ℕ) (bytes : (k :
           rw (one, z) (ap (turned ToBinary (kindOf t)) x)
 
       -- Under one of one register a word that is no number of its kind passes unchanged, and the tag is counted as raw for its value.
-      pub single-raw : NoNumberOf (kindOf t) (pairAt f 10) → returned tags w f ≡ outcome 0 1 f
+      pub single-raw : NoNumberOf (kindOf t) (pairAt f 10) → returned tags w f ≡ withCounts 0 1 f
       unfolding laidBy
       single-raw q =
           judged-by value (value-exactly ToBinary a (registersAt 10 1 f) t .1 (here .1, number ∙ raw-decoded (kindOf t) (pairAt f 10) .1 q))
-          ∙ ap (outcome 0 1) (laid-registers 10 1 f bytes)
+          ∙ ap (withCounts 0 1) (laid-registers 10 1 f bytes)
 
       -- Under one of one register a number of its kind becomes what it decodes to, the high byte first, and nothing is counted.
-      pub single-number : (n : ℕ) → decoded (kindOf t) (pairAt f 10) ≡ Binary n → returned tags w f ≡ outcome 0 0 (set (set f 10 (n / 256)) 11 (n % 256))
+      pub single-number : (n : ℕ) → decoded (kindOf t) (pairAt f 10) ≡ Binary n → returned tags w f ≡ withCounts 0 0 (set (set f 10 (n / 256)) 11 (n % 256))
       unfolding registersAt laidBy laidAt wordsOf digits
       single-number n q =
           let z : t .address - a ≡ 0 = omega (arith, here .0) in
@@ -163,7 +164,7 @@ module _ (tags : List Tag) (asc : Ascending 0 tags) (f : List ℕ) (bytes : (k :
 
       -- Under one of width 16 without a sign four digits of at most 9 become their number, the high byte first, and nothing is counted.
       pub single-decoded : (p q r s : ℕ) → p ≤ 9 → q ≤ 9 → r ≤ 9 → s ≤ 9 → getD f 10 0 ≡ 16 * p + q → getD f 11 0 ≡ 16 * r + s
-          → returned tags w f ≡ outcome 0 0 (set (set f 10 ((1000 * p + 100 * q + 10 * r + s) / 256)) 11 ((1000 * p + 100 * q + 10 * r + s) % 256))
+          → returned tags w f ≡ withCounts 0 0 (set (set f 10 ((1000 * p + 100 * q + 10 * r + s) / 256)) 11 ((1000 * p + 100 * q + 10 * r + s) % 256))
       single-decoded p q r s hp hq hr hs high low =
           let d : pairAt f 10 ≡ 4096 * p + 256 * q + 16 * r + s = omega arith in
           single-number one range plain (1000 * p + 100 * q + 10 * r + s) (rw (narrow, d) (four-digits p q r s hp hq hr hs))
@@ -179,14 +180,14 @@ module _ (tags : List Tag) (asc : Ascending 0 tags) (f : List ℕ) (bytes : (k :
       sole = rw with-sign
 
       -- Under one with a sign three digits below the nibble 0 become their number.
-      pub single-plus : getD f 10 0 ≡ q → returned tags w f ≡ outcome 0 0 (set (set f 10 ((100 * q + 10 * r + s) / 256)) 11 ((100 * q + 10 * r + s) % 256))
+      pub single-plus : getD f 10 0 ≡ q → returned tags w f ≡ withCounts 0 0 (set (set f 10 ((100 * q + 10 * r + s) / 256)) 11 ((100 * q + 10 * r + s) % 256))
       single-plus high =
           let d : pairAt f 10 ≡ 256 * q + 16 * r + s = omega arith in
           single-number sole range plain (100 * q + 10 * r + s) (rw (with-sign, d) (plus-digits q r s hq hr hs))
 
       -- And three that are not all 0, below the nibble F, become 65,536 less their number.
       pub single-minus : getD f 10 0 ≡ 240 + q → 0 < 100 * q + 10 * r + s
-          → returned tags w f ≡ outcome 0 0 (set (set f 10 ((65536 - (100 * q + 10 * r + s)) / 256)) 11 ((65536 - (100 * q + 10 * r + s)) % 256))
+          → returned tags w f ≡ withCounts 0 0 (set (set f 10 ((65536 - (100 * q + 10 * r + s)) / 256)) 11 ((65536 - (100 * q + 10 * r + s)) % 256))
       single-minus high l =
           let d : pairAt f 10 ≡ 256 * q + 16 * r + s + 61440 = omega arith in
           single-number sole range plain (65536 - (100 * q + 10 * r + s)) (rw (with-sign, d) (minus-digits q r s hq hr hs l))

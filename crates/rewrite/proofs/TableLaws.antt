@@ -21,9 +21,9 @@ use Rattle.settings.specs.Grammar.{Tag}
 use Rattle.settings.specs.TagWords.{tagOf, lastOf, Ascending}
 use Rattle.rewrite.specs.declared.Way.{Way}
 use Rattle.rewrite.specs.Registers.{registersAt}
-use Rattle.rewrite.specs.Rewriting.{Verdict, isRawPartial, isRawValue, verdict, laidBy, rewrittenFrom, rewritten, partials, values, Rewritten, outcome, rewriting}
+use Rattle.rewrite.specs.Rewriting.{Verdict, isRawPartial, isRawValue, verdict, laidBy, rewrittenFrom, rewritten, partials, values, Rewritten, withCounts, rewriting}
 use Rattle.rewrite.specs.Rewriting.Verdict.{outside}
-use Rattle.rewrite.specs.Lent.{tagsOf, TagWords, reaches}
+use Rattle.rewrite.specs.inner.Lent.{tagsOf, TagWords, reaches}
 use Rattle.laws.proofs.MemberLaws.{mem-place, place-mem}
 use Rattle.rewrite.proofs.RegisterLaws.{length-registers, registers-below, registers-laid, laid-registers, laid-laid}
 use Rattle.rewrite.proofs.OrderLaws.{first-last, ascending-front, ascending-across, ascending-at}
@@ -71,7 +71,7 @@ module _ (way : Way) (start : ℕ) (came : List ℕ) where
 
 -- what two rewritings, the second over what the first left, come to
 abbrev pub andThen : Rewritten → Rewritten → Rewritten
-andThen x y = outcome (x .partial + y .partial) (x .value + y .value) (y .bytes)
+andThen x y = withCounts (x .partial + y .partial) (x .value + y .value) (y .bytes)
 
 module _ (way : Way) (base start q : ℕ) (d : List ℕ) where
   abbrev run : List ℕ
@@ -100,9 +100,9 @@ module _ (way : Way) (base start q : ℕ) (d : List ℕ) where
 
   module _ (bytes : (i : ℕ) → getD d i 0 < 256) where
     -- Without tags nothing changes.
-    pub idle-none : rewriting way base start q [] d ≡ outcome 0 0 d
+    pub idle-none : rewriting way base start q [] d ≡ withCounts 0 0 d
     unfolding rewriting partials values filter rewrittenFrom
-    idle-none = ap (outcome 0 0) (laid-registers base q d bytes)
+    idle-none = ap (withCounts 0 0) (laid-registers base q d bytes)
 
     module _ (room : base + 2 * q ≤ length d) (ts : List Tag) where
       -- The registers of a buffer that was rewritten are the registers rewritten.
@@ -197,7 +197,7 @@ module _ (way : Way) (start : ℕ) {base q n : ℕ} {words d : List ℕ} (known 
       verdict-outside way start (registersAt base q d) t (rw (length-registers base q d, le-leb (start + q) (t .address) h) (or-true (ltb (lastOf t) start)))
 
   -- Before the first tag that reaches the run nothing is to be done.
-  pub table-start : (i : ℕ) → i ≡ first (reaches words start) n → outcome 0 0 d ≡ upTo i
+  pub table-start : (i : ℕ) → i ≡ first (reaches words start) n → withCounts 0 0 d ≡ upTo i
   table-start i e =
       sym (idle-behind way base start q d [] (tagsOf i words) (λ u m.
       let s = tag-place words 0 i u m in
@@ -206,10 +206,10 @@ module _ (way : Way) (start : ℕ) {base q n : ℕ} {words d : List ℕ} (known 
       rw (s .2, z) (before-run (tagOf (getD words (s .0) 0)) f))
       ∙ idle-none way base start q d (known .bytes))
 
-  module _ (i p v : ℕ) (b : List ℕ) (e : outcome p v b ≡ upTo i) where
+  module _ (i p v : ℕ) (b : List ℕ) (e : withCounts p v b ≡ upTo i) where
     -- One tag more.
-    pub table-more : (p′ v′ : ℕ) (b′ : List ℕ) → i < n → outcome p′ v′ b′ ≡ rewriting way base start q (tagOf (getD words i 0) ∷ []) b
-        → outcome (p + p′) (v + v′) b′ ≡ upTo (i + 1)
+    pub table-more : (p′ v′ : ℕ) (b′ : List ℕ) → i < n → withCounts p′ v′ b′ ≡ rewriting way base start q (tagOf (getD words i 0) ∷ []) b
+        → withCounts (p + p′) (v + v′) b′ ≡ upTo (i + 1)
     table-more p′ v′ b′ h f =
         let l : i < length words = omega (arith, known .tags .places, known .tags .few) in
         let t = tagOf (getD words i 0) in
@@ -217,12 +217,12 @@ module _ (way : Way) (start : ℕ) {base q n : ℕ} {words d : List ℕ} (known 
         let a : Ascending 0 (tagsOf i words ++ (t ∷ [])) =
         rw (← tags-more words i l) (ascending-front 0 (tagsOf (i + 1) words) (map tagOf (take (n - (i + 1)) (drop (i + 1) words))) (rw (← tags-split words (i + 1) (n - (i + 1)), m) (known .tags .ascending))) in
         rw (tags-more words i l)
-        (ap (λ (x : Rewritten). andThen x (outcome p′ v′ b′)) e
+        (ap (λ (x : Rewritten). andThen x (withCounts p′ v′ b′)) e
         ∙ ap (andThen (upTo i)) (f ∙ ap (λ (x : Rewritten). rewriting way base start q (t ∷ []) (x .bytes)) e)
         ∙ sym (one-more way base start q d (known .bytes) (known .room) (tagsOf i words) t 0 a))
 
     -- Behind a tag that lies behind the run nothing is to be done.
-    pub table-done : i ≤ n → (i < n → start + q ≤ tagOf (getD words i 0) .address) → outcome p v b ≡ upTo n
+    pub table-done : i ≤ n → (i < n → start + q ≤ tagOf (getD words i 0) .address) → withCounts p v b ≡ upTo n
     table-done h g =
         let m : i + (n - i) ≡ n = omega arith in
         let s : upTo n ≡ upTo i =

@@ -20,10 +20,10 @@ use Rattle.settings.specs.Grammar.{Tag}
 use Rattle.settings.specs.TagWords.{kindOf, lastOf}
 use Rattle.rewrite.specs.declared.Way.{Way}
 use Rattle.rewrite.specs.Registers.{registersAt, laidAt}
-use Rattle.rewrite.specs.Rewriting.{turned, Verdict, isOutside, isPartial, ownIn, verdict, laidBy, rewrittenFrom, isRawPartial, isRawValue, partials, values, Rewritten, outcome, rewriting}
+use Rattle.rewrite.specs.Rewriting.{turned, Verdict, isOutside, isPartial, ownIn, verdict, laidBy, rewrittenFrom, isRawPartial, isRawValue, partials, values, Rewritten, withCounts, rewriting}
 use Rattle.rewrite.specs.Rewriting.Verdict.{outside, partial, value, done}
 use Rattle.rewrite.specs.Plain.{Whole}
-use Rattle.rewrite.specs.Lent.{wholeLaid}
+use Rattle.rewrite.specs.inner.Lent.{wholeLaid}
 use Rattle.rewrite.proofs.RegisterLaws.{length-registers, registers-part, laid-registers, laid-part}
 use Rattle.rewrite.proofs.OrderLaws.{behind-last}
 use Rattle.rewrite.proofs.VerdictLaws.{not-partial, verdict-outside, verdict-partial, value-exactly, done-exactly}
@@ -56,7 +56,7 @@ module _ (kind : Kind) (k : ℕ) (d : List ℕ) where
 module _ (way : Way) (base start q : ℕ) (t : Tag) (d : List ℕ) where
   -- what a verdict makes of the buffer, and what it adds to the counts
   abbrev pub byVerdict : Verdict → Rewritten
-  byVerdict v = outcome (length (cond (isRawPartial v) (t ∷ []) [])) (length (cond (isRawValue v) (t ∷ []) [])) (laidAt base (laidBy v (t .address - start) (registersAt base q d)) d)
+  byVerdict v = withCounts (length (cond (isRawPartial v) (t ∷ []) [])) (length (cond (isRawValue v) (t ∷ []) [])) (laidAt base (laidBy v (t .address - start) (registersAt base q d)) d)
 
   pub by-verdict : (v : Verdict) → verdict way start (registersAt base q d) t ≡ v → rewriting way base start q (t ∷ []) d ≡ byVerdict v
   unfolding rewriting partials values filter rewrittenFrom
@@ -80,17 +80,17 @@ module _ (way : Way) (base start q : ℕ) {t : Tag} {d : List ℕ} {a z : ℕ} (
   partial-test = rw (length-registers base q d, n .first-is, n .final-is)
 
   -- A tag outside the run changes nothing and is not counted.
-  pub one-outside : (ltb z start || leb (start + q) a) ≡ true → outcome 0 0 d ≡ rewriting way base start q (t ∷ []) d
+  pub one-outside : (ltb z start || leb (start + q) a) ≡ true → withCounts 0 0 d ≡ rewriting way base start q (t ∷ []) d
   unfolding laidBy
   one-outside o =
-      ap (outcome 0 0) same
+      ap (withCounts 0 0) same
       ∙ sym (by-verdict way base start q t d outside (verdict-outside way start (registersAt base q d) t (outside-test ∙ o)))
 
   -- A tag partly in the run changes nothing and is counted for partial cover.
-  pub one-partial : (ltb z start || leb (start + q) a) ≡ false → (ltb a start || leb (start + q) z) ≡ true → outcome 1 0 d ≡ rewriting way base start q (t ∷ []) d
+  pub one-partial : (ltb z start || leb (start + q) a) ≡ false → (ltb a start || leb (start + q) z) ≡ true → withCounts 1 0 d ≡ rewriting way base start q (t ∷ []) d
   unfolding laidBy
   one-partial o p =
-      ap (outcome 1 0) same
+      ap (withCounts 1 0) same
       ∙ sym (by-verdict way base start q t d partial (verdict-partial way start (registersAt base q d) t (outside-test ∙ o) (partial-test ∙ p)))
 
   module _ (p : (ltb a start || leb (start + q) z) ≡ false) where
@@ -114,13 +114,13 @@ module _ (way : Way) (base start q : ℕ) {t : Tag} {d : List ℕ} {a z : ℕ} (
           ap numberOf (registers-part base q d (t .address - start) (registers (kindOf t)) (rw (n .first-is) at (one-room .1)))
           ∙ rw (hk, n .first-is) refl
 
-      one-value : turned way (kindOf t) own ≡ none → outcome 0 1 d ≡ rewriting way base start q (t ∷ []) d
+      one-value : turned way (kindOf t) own ≡ none → withCounts 0 1 d ≡ rewriting way base start q (t ∷ []) d
       unfolding laidBy
       one-value e =
-          ap (outcome 0 1) same
+          ap (withCounts 0 1) same
           ∙ sym (by-verdict way base start q t d value (value-exactly way start (registersAt base q d) t .1 (whole-run, rw number e)))
 
-      one-done : (r : ℕ) → turned way (kindOf t) own ≡ some r → outcome 0 0 (laidAt k (wordsOf (kindOf t) r) d) ≡ rewriting way base start q (t ∷ []) d
+      one-done : (r : ℕ) → turned way (kindOf t) own ≡ some r → withCounts 0 0 (laidAt k (wordsOf (kindOf t) r) d) ≡ rewriting way base start q (t ∷ []) d
       unfolding laidBy
       one-done r e =
           let ws = wordsOf (kindOf t) r in
@@ -131,7 +131,7 @@ module _ (way : Way) (base start q : ℕ) {t : Tag} {d : List ℕ} {a z : ℕ} (
           let i = t .address - start in
           let p : laidAt k ws d ≡ laidAt base (sets rs i ws) d =
           ap (λ (x : List ℕ). laidAt k ws x) same ∙ rw (hk, n .first-is) (laid-part base ws rs d i (omega arith)) in
-          ap (outcome 0 0) p
+          ap (withCounts 0 0) p
           ∙ sym (by-verdict way base start q t d (done ws) (done-exactly way start rs t ws .1 (whole-run, (r, rw number e, refl))))
 
       -- A tag that passes both tests has its words in the buffer and is not counted, or changes nothing and is counted for its value.

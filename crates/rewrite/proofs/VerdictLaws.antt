@@ -17,15 +17,16 @@ use Rattle.bcd.specs.declared.Decoded.{Decoded}
 use Rattle.bcd.specs.declared.Encoded.the-variants.{Bcd, OutOfRange}
 use Rattle.bcd.specs.declared.Decoded.the-variants.{Binary, NoNumber}
 use Rattle.bcd.specs.Bcd.{registers, inRange, encoded, decoded}
-use Rattle.bcd.specs.Words.{wordsOf, numberOf}
-use Rattle.bcd.proofs.RoundTrip.{NoNumberOf, encode-refuses, decode-refuses}
+use Rattle.bcd.specs.Words.{wordsOf}
+use Rattle.bcd.specs.Plain.{NoNumberOf}
+use Rattle.bcd.proofs.RoundTrip.{encode-refuses, decode-refuses}
 use Rattle.settings.specs.Grammar.{Tag}
 use Rattle.settings.specs.TagWords.{kindOf, lastOf}
 use Rattle.rewrite.specs.declared.Way.{Way}
 use Rattle.rewrite.specs.declared.Way.the-variants.{ToBcd, ToBinary}
 use Rattle.rewrite.specs.Rewriting.{turned, Verdict, isOutside, isPartial, ownIn, verdict}
 use Rattle.rewrite.specs.Rewriting.Verdict.{outside, partial, value, done}
-use Rattle.rewrite.specs.Plain.{Has, InRun, Whole}
+use Rattle.rewrite.specs.Plain.{Has, InRun, Whole, turnedIn}
 use Rattle.bcd.proofs.Words.{registers-least}
 use Rattle.rewrite.proofs.OrderLaws.{first-last, behind-last}
 
@@ -121,10 +122,6 @@ judged-done k none ws e = absurd (let z : _≡_ {A = ℕ} 0 1 = cc in omega arit
 judged-done k (some n) ws e = (n, refl, cc)
 
 module _ (way : Way) (start : ℕ) (rs : List ℕ) (t : Tag) where
-  -- the tag's number rewritten
-  abbrev pub turnedIn : Option ℕ
-  turnedIn = turned way (kindOf t) (numberOf (ownIn start rs t))
-
   -- A tag that the first test catches is outside.
   pub verdict-outside : isOutside start (length rs) t ≡ true → verdict way start rs t ≡ outside
   unfolding verdict
@@ -136,7 +133,7 @@ module _ (way : Way) (start : ℕ) (rs : List ℕ) (t : Tag) where
   verdict-partial o p = rw o (rw p refl)
 
   -- A tag that is whole in the run is judged by its number.
-  pub verdict-whole : Whole start (length rs) t → verdict way start rs t ≡ judged (kindOf t) turnedIn
+  pub verdict-whole : Whole start (length rs) t → verdict way start rs t ≡ judged (kindOf t) (turnedIn way start rs t)
   unfolding verdict
   verdict-whole w = let s = whole-tests start (length rs) t w in rw (s .0) (rw (s .1) refl)
 
@@ -148,7 +145,7 @@ module _ (way : Way) (start : ℕ) (rs : List ℕ) (t : Tag) where
       (λ o. o)
       (⊎-elim
       (λ p. absurd (omega (arith, ap rank (sym (verdict-partial (p .0) (p .1)) ∙ e))))
-      (λ w. absurd (omega (arith, rank-judged (kindOf t) turnedIn, ap rank (sym (verdict-whole w) ∙ e)))))
+      (λ w. absurd (omega (arith, rank-judged (kindOf t) (turnedIn way start rs t), ap rank (sym (verdict-whole w) ∙ e)))))
       (cover start (length rs) t)
 
   was-partial : verdict way start rs t ≡ partial → (isOutside start (length rs) t ≡ false) × (isPartial start (length rs) t ≡ true)
@@ -156,10 +153,10 @@ module _ (way : Way) (start : ℕ) (rs : List ℕ) (t : Tag) where
   was-partial e =
       ⊎-elim
       (λ o. absurd (omega (arith, ap rank (sym (verdict-outside o) ∙ e))))
-      (⊎-elim (λ p. p) (λ w. absurd (omega (arith, rank-judged (kindOf t) turnedIn, ap rank (sym (verdict-whole w) ∙ e)))))
+      (⊎-elim (λ p. p) (λ w. absurd (omega (arith, rank-judged (kindOf t) (turnedIn way start rs t), ap rank (sym (verdict-whole w) ∙ e)))))
       (cover start (length rs) t)
 
-  was-judged : (v : Verdict) → 2 ≤ rank v → verdict way start rs t ≡ v → Whole start (length rs) t × (judged (kindOf t) turnedIn ≡ v)
+  was-judged : (v : Verdict) → 2 ≤ rank v → verdict way start rs t ≡ v → Whole start (length rs) t × (judged (kindOf t) (turnedIn way start rs t) ≡ v)
   unfolding rank
   was-judged v l e =
       ⊎-elim
@@ -167,14 +164,14 @@ module _ (way : Way) (start : ℕ) (rs : List ℕ) (t : Tag) where
       (⊎-elim (λ p. absurd (omega (arith, ap rank (sym (verdict-partial (p .0) (p .1)) ∙ e)))) (λ w. (w, sym (verdict-whole w) ∙ e)))
       (cover start (length rs) t)
 
-  was-value : verdict way start rs t ≡ value → Whole start (length rs) t × (turnedIn ≡ none)
+  was-value : verdict way start rs t ≡ value → Whole start (length rs) t × (turnedIn way start rs t ≡ none)
   unfolding rank
-  was-value e = let j = was-judged value (omega arith) e in (j .0, judged-value (kindOf t) turnedIn (j .1))
+  was-value e = let j = was-judged value (omega arith) e in (j .0, judged-value (kindOf t) (turnedIn way start rs t) (j .1))
 
   -- A tag that is done is whole in the run, and its words are those of its number rewritten.
-  pub was-done : (ws : List ℕ) → verdict way start rs t ≡ done ws → Whole start (length rs) t × ((n : ℕ) × (turnedIn ≡ some n) × (ws ≡ wordsOf (kindOf t) n))
+  pub was-done : (ws : List ℕ) → verdict way start rs t ≡ done ws → Whole start (length rs) t × ((n : ℕ) × (turnedIn way start rs t ≡ some n) × (ws ≡ wordsOf (kindOf t) n))
   unfolding rank
-  was-done ws e = let j = was-judged (done ws) (omega arith) e in (j .0, judged-done (kindOf t) turnedIn ws (j .1))
+  was-done ws e = let j = was-judged (done ws) (omega arith) e in (j .0, judged-done (kindOf t) (turnedIn way start rs t) ws (j .1))
 
   -- THE VERDICT IN PLAIN WORDS
 
@@ -197,12 +194,12 @@ module _ (way : Way) (start : ℕ) (rs : List ℕ) (t : Tag) where
   )
 
   -- A tag is raw for its value exactly if it is whole in the run and its number cannot be rewritten.
-  pub value-exactly : (verdict way start rs t ≡ value) ↔ (Whole start (length rs) t × (turnedIn ≡ none))
+  pub value-exactly : (verdict way start rs t ≡ value) ↔ (Whole start (length rs) t × (turnedIn way start rs t ≡ none))
   value-exactly = (was-value, λ s. verdict-whole (s .0) ∙ ap (judged (kindOf t)) (s .1))
 
   -- A tag is done exactly if it is whole in the run and its number is rewritten, to the words of what that gives.
   pub done-exactly : (ws : List ℕ)
-      → (verdict way start rs t ≡ done ws) ↔ (Whole start (length rs) t × ((n : ℕ) × (turnedIn ≡ some n) × (ws ≡ wordsOf (kindOf t) n)))
+      → (verdict way start rs t ≡ done ws) ↔ (Whole start (length rs) t × ((n : ℕ) × (turnedIn way start rs t ≡ some n) × (ws ≡ wordsOf (kindOf t) n)))
   done-exactly ws = (was-done ws, λ s. verdict-whole (s .0) ∙ ap (judged (kindOf t)) (s .1 .1) ∙ ap done (sym (s .1 .2)))
 
 -- The verdict rests on the run's length and on the tag's own registers.

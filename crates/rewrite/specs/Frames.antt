@@ -13,7 +13,7 @@ use Rattle.pdu.specs.declared.Asked.{Asked}
 use Rattle.pdu.specs.declared.Asked.the-variants.{Read, SingleWrite, MultipleWrite, Other}
 use Rattle.rewrite.specs.declared.Way.{Way}
 use Rattle.rewrite.specs.declared.Way.the-variants.{ToBcd, ToBinary}
-use Rattle.rewrite.specs.Rewriting.{verdict, isRewritten, Rewritten, outcome, rewriting}
+use Rattle.rewrite.specs.Rewriting.{verdict, isRewritten, Rewritten, withCounts, rewriting}
 
 -- the bytes at which registers begin: behind the byte count of reply 03 and 04, behind the address of 06, behind the byte count of request 16
 abbrev pub readBase : ℕ
@@ -27,14 +27,14 @@ multipleBase = 13
 
 -- the registers that a frame carries are rewritten; bits pass unchanged
 abbrev pub passing : Table → Way → (base start quantity : ℕ) → List Tag → List ℕ → Rewritten
-passing Bits way base start quantity tags f = outcome 0 0 f
+passing Bits way base start quantity tags f = withCounts 0 0 f
 passing Registers way base start quantity tags f = rewriting way base start quantity tags f
 
 unfoldable pub forwarded : List Tag → Asked → List ℕ → Rewritten
-forwarded tags (Read t s q) f = outcome 0 0 f
+forwarded tags (Read t s q) f = withCounts 0 0 f
 forwarded tags (SingleWrite t a v) f = passing t ToBcd singleBase a 1 tags f
 forwarded tags (MultipleWrite t s q) f = passing t ToBcd multipleBase s q tags f
-forwarded tags Other f = outcome 0 0 f
+forwarded tags Other f = withCounts 0 0 f
 
 -- the request 06 that wrote the value v to the address a was re-encoded: a tag's verdict over that one register is that it is rewritten
 unfoldable pub reencoded : List Tag → (address value : ℕ) → Bool
@@ -44,15 +44,15 @@ reencoded (t ∷ ts) a v = isRewritten (verdict ToBcd a (v ∷ []) t) || reencod
 -- the echo of 06 is decoded where the request was re-encoded, and passes unchanged where it was not
 unfoldable pub returnedBy : List Tag → Asked → List ℕ → Rewritten
 returnedBy tags (Read t s q) f = passing t ToBinary readBase s q tags f
-returnedBy tags (SingleWrite Bits a v) f = outcome 0 0 f
-returnedBy tags (SingleWrite Registers a v) f = cond (reencoded tags a v) (rewriting ToBinary singleBase a 1 tags f) (outcome 0 0 f)
-returnedBy tags (MultipleWrite t s q) f = outcome 0 0 f
-returnedBy tags Other f = outcome 0 0 f
+returnedBy tags (SingleWrite Bits a v) f = withCounts 0 0 f
+returnedBy tags (SingleWrite Registers a v) f = cond (reencoded tags a v) (rewriting ToBinary singleBase a 1 tags f) (withCounts 0 0 f)
+returnedBy tags (MultipleWrite t s q) f = withCounts 0 0 f
+returnedBy tags Other f = withCounts 0 0 f
 
 -- an exception reply passes unchanged
 unfoldable pub returned : List Tag → What → List ℕ → Rewritten
-returned tags w f = cond (excepts (w .function) f) (outcome 0 0 f) (returnedBy tags (w .asked) f)
+returned tags w f = cond (excepts (w .function) f) (withCounts 0 0 f) (returnedBy tags (w .asked) f)
 
 -- a rewritten frame under an id, written over the start of a buffer
 abbrev pub under : ℕ → List ℕ → Rewritten → Rewritten
-under id out w = outcome (w .partial) (w .value) (over (laid id (w .bytes)) out)
+under id out w = withCounts (w .partial) (w .value) (over (laid id (w .bytes)) out)

@@ -2,4 +2,4 @@ pub mod Registers
 pub mod Rewriting
 pub mod Plain
 pub mod Frames
-pub mod Lent
+pub mod inner

@@ -1,18 +1,20 @@
--- The plain words of the theorems on tags: a tag has an address, an address is in a run, a tag is whole in a run; a function is one of coils or discrete inputs; a frame has the registers
+-- The plain words of the theorems on tags: a tag has an address, an address is in a run, a tag is whole in a run, and its number rewritten; a function is one of coils or discrete inputs; a frame has the registers
 -- of another turned, each by its tag's verdict.
 -- Assumes nothing.
 use Prim.Native.Nat.{ℕ, _+_, _*_, _-_, _≤_, _<_}
 use mathlib.Core.Path.{_≡_}
 use mathlib.Core.Logic.{_⊎_}
+use mathlib.Core.Option.{Option}
 use mathlib.Core.List.{List, List·Memᴰ}
 use lib.ListN.{length, getD}
 use Rattle.laws.specs.Lists.{filter}
 use Rattle.laws.specs.Bytes.{pairAt}
+use Rattle.bcd.specs.Words.{numberOf}
 use Rattle.settings.specs.Grammar.{Tag}
-use Rattle.settings.specs.TagWords.{lastOf, Ascending}
+use Rattle.settings.specs.TagWords.{lastOf, Ascending, kindOf}
 use Rattle.rewrite.specs.declared.Way.{Way}
 use Rattle.rewrite.specs.Registers.{registersAt}
-use Rattle.rewrite.specs.Rewriting.{Verdict, verdict, isRawPartial, isRawValue, rewriting}
+use Rattle.rewrite.specs.Rewriting.{Verdict, verdict, isRawPartial, isRawValue, rewriting, turned, ownIn}
 use Rattle.rewrite.specs.Rewriting.Verdict.{done}
 
 -- the tag has the register of the address x
@@ -50,3 +52,8 @@ pub record Rewrites (way : Way) (tags : List Tag) (f w : List ℕ) (partial valu
   pub others : (k : ℕ) → 2 ≤ k → k < length f → (k < base) ⊎ (base + 2 * quantity ≤ k) → getD w k 0 ≡ getD f k 0
   pub raw-for-cover : partial ≡ length (filter (λ t. isRawPartial (verdictIn way base start quantity f t)) tags)
   pub raw-for-value : value ≡ length (filter (λ t. isRawValue (verdictIn way base start quantity f t)) tags)
+
+module _ (way : Way) (start : ℕ) (rs : List ℕ) (t : Tag) where
+  -- the tag's number rewritten
+  abbrev pub turnedIn : Option ℕ
+  turnedIn = turned way (kindOf t) (numberOf (ownIn start rs t))

@@ -95,10 +95,10 @@ pub record Rewritten : Type 0 where
   pub value : ℕ
   pub bytes : List ℕ
 
-abbrev pub outcome : ℕ → ℕ → List ℕ → Rewritten
-outcome p v d = record { partial = p; value = v; bytes = d }
+abbrev pub withCounts : ℕ → ℕ → List ℕ → Rewritten
+withCounts p v d = record { partial = p; value = v; bytes = d }
 
 unfoldable pub rewriting : Way → (base start quantity : ℕ) → List Tag → List ℕ → Rewritten
 rewriting way base start quantity tags d =
-    outcome (partials way start tags (registersAt base quantity d)) (values way start tags (registersAt base quantity d))
+    withCounts (partials way start tags (registersAt base quantity d)) (values way start tags (registersAt base quantity d))
     (laidAt base (rewritten way start tags (registersAt base quantity d)) d)

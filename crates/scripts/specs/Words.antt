@@ -5,7 +5,7 @@ use mathlib.Core.Bool.{Bool, cond, _||_}
 use mathlib.Core.List.{List, [], _∷_}
 use lib.ListN.{getD, set}
 use lib.Dec.{eqb}
-use Rattle.laws.specs.Numbers.{usualTimeout}
+use Rattle.numbers.specs.Numbers.{usualTimeout}
 use Rattle.settings.specs.declared.Settings.{Settings}
 use Rattle.settings.specs.Grammar.{Value}
 use Rattle.settings.specs.Values.{settingsOf}

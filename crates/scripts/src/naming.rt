@@ -35,19 +35,19 @@ pub fn letter(call: &[u8]) -> u8
 fn document_value() -> Settings
     ensures { λ r. ⌜ r ≡ settingsOf document ⌝ }
 {
-    let mut addr = [0u16; laws::MOST_TAGS];
-    let mut width = [0u16; laws::MOST_TAGS];
+    let mut addr = [0u16; numbers::MOST_TAGS];
+    let mut width = [0u16; numbers::MOST_TAGS];
     addr[0] = 1024;
     width[0] = 16;
     addr[1] = 1026;
     width[1] = 32;
     Settings {
-        timeout: laws::USUAL_TIMEOUT,
+        timeout: numbers::USUAL_TIMEOUT,
         join: 1,
         tags: 2,
         addr,
         width,
-        sign: [0u16; laws::MOST_TAGS],
+        sign: [0u16; numbers::MOST_TAGS],
     }
 }
 

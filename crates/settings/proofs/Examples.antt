@@ -1,22 +1,12 @@
 -- Document 01's settings text of 75 bytes is the text of its value in version 1 and reads to it, one of version 2 likewise, and each rule refuses a text at its line: shown by computing.
 -- Assumes nothing.
-use Prim.Native.Nat.{ℕ}
 use mathlib.Core.Path.{_≡_, refl}
-use mathlib.Core.List.{List, [], _∷_, _++_, map, flatMap}
-use lib.ListN.{length, replicate}
-use Rattle.settings.specs.Lines.{equals, lineIn, lineOf, behind, numberIn, leading, trailing, plain, numberFrom, decimalOf}
-use Rattle.settings.specs.Grammar.{Value, Tag, versionKey, timeoutKey, joinKey, tagsKey, addrKey, widthKey, signKey, versionOf, newest, textIn, readText, readIn, readBehind, readLines, readTags, versionIn, ascends, textOfLines}
+use mathlib.Core.List.{[], map, flatMap}
+use lib.ListN.{length}
+use Rattle.settings.specs.Lines.{lineIn, lineOf, behind, numberIn, leading, trailing, plain, numberFrom, decimalOf}
+use Rattle.settings.specs.Grammar.{versionOf, newest, textIn, readText, readIn, readBehind, readLines, readTags, versionIn, ascends, textOfLines}
 use Rattle.settings.specs.Grammar.Read.{got, wrong}
-
-abbrev pub shown : List ℕ
-shown =
-    118 ∷ 101 ∷ 114 ∷ 115 ∷ 105 ∷ 111 ∷ 110 ∷ 61 ∷ 49 ∷ 10 ∷ 116 ∷ 105 ∷ 109 ∷ 101 ∷ 111 ∷ 117 ∷ 116 ∷ 61 ∷ 51 ∷ 48 ∷ 48 ∷ 48 ∷ 10 ∷ 106 ∷ 111 ∷ 105 ∷ 110 ∷ 61 ∷ 49 ∷ 10 ∷ 116 ∷ 97 ∷ 103 ∷ 115 ∷ 61 ∷ 50 ∷ 10 ∷ 97 ∷ 100 ∷ 100 ∷ 114 ∷ 61 ∷ 49 ∷ 48 ∷ 50 ∷ 52 ∷ 10 ∷ 119 ∷ 105 ∷ 100 ∷ 116 ∷ 104 ∷ 61 ∷ 49 ∷ 54 ∷ 10 ∷ 97 ∷ 100 ∷ 100 ∷ 114 ∷ 61 ∷ 49 ∷ 48 ∷ 50 ∷ 54 ∷ 10 ∷ 119 ∷ 105 ∷ 100 ∷ 116 ∷ 104 ∷ 61 ∷ 51 ∷ 50 ∷ 10 ∷ []
-
-abbrev pub tag : ℕ → ℕ → ℕ → Tag
-tag a w s = record { address = a; width = w; sign = s }
-
-abbrev pub meant : Value
-meant = record { timeout = 3000; join = 1; tags = tag 1024 16 0 ∷ tag 1026 32 0 ∷ [] }
+use Rattle.settings.specs.Examples.{shown, meant, signedTag, shown2, joined, Damage, damages}
 
 pub shown-size : length shown ≡ 75
 shown-size = refl
@@ -29,14 +19,6 @@ pub shown-written : textIn (versionOf 1) meant ≡ shown
 unfolding textIn textOfLines lineOf decimalOf flatMap
 shown-written = refl
 
--- in version 2, with a tag that has a sign
-abbrev pub signedTag : Value
-signedTag = record { timeout = 3000; join = 1; tags = tag 1024 16 1 ∷ tag 1026 32 0 ∷ [] }
-
-abbrev pub shown2 : List ℕ
-shown2 =
-    118 ∷ 101 ∷ 114 ∷ 115 ∷ 105 ∷ 111 ∷ 110 ∷ 61 ∷ 50 ∷ 10 ∷ 116 ∷ 105 ∷ 109 ∷ 101 ∷ 111 ∷ 117 ∷ 116 ∷ 61 ∷ 51 ∷ 48 ∷ 48 ∷ 48 ∷ 10 ∷ 106 ∷ 111 ∷ 105 ∷ 110 ∷ 61 ∷ 49 ∷ 10 ∷ 116 ∷ 97 ∷ 103 ∷ 115 ∷ 61 ∷ 50 ∷ 10 ∷ 97 ∷ 100 ∷ 100 ∷ 114 ∷ 61 ∷ 49 ∷ 48 ∷ 50 ∷ 52 ∷ 10 ∷ 119 ∷ 105 ∷ 100 ∷ 116 ∷ 104 ∷ 61 ∷ 49 ∷ 54 ∷ 10 ∷ 115 ∷ 105 ∷ 103 ∷ 110 ∷ 61 ∷ 49 ∷ 10 ∷ 97 ∷ 100 ∷ 100 ∷ 114 ∷ 61 ∷ 49 ∷ 48 ∷ 50 ∷ 54 ∷ 10 ∷ 119 ∷ 105 ∷ 100 ∷ 116 ∷ 104 ∷ 61 ∷ 51 ∷ 50 ∷ 10 ∷ 115 ∷ 105 ∷ 103 ∷ 110 ∷ 61 ∷ 48 ∷ 10 ∷ []
-
 pub shown2-read : readText shown2 ≡ got signedTag []
 unfolding readText readIn readBehind readLines readTags versionIn ascends lineIn behind numberIn leading trailing plain numberFrom
 shown2-read = refl
@@ -44,91 +26,6 @@ shown2-read = refl
 pub shown2-written : textIn newest signedTag ≡ shown2
 unfolding textIn textOfLines lineOf decimalOf flatMap
 shown2-written = refl
-
--- texts with something wrong, by lines, and the number of the wrong line
-abbrev joined : List (List ℕ) → List ℕ
-joined [] = []
-joined (l ∷ ls) = l ++ joined ls
-
-abbrev version1 : List ℕ
-version1 = lineOf versionKey 1
-
-abbrev version2 : List ℕ
-version2 = lineOf versionKey 2
-
-abbrev timeout : ℕ → List ℕ
-timeout n = lineOf timeoutKey n
-
-abbrev join : ℕ → List ℕ
-join n = lineOf joinKey n
-
-abbrev tags : ℕ → List ℕ
-tags n = lineOf tagsKey n
-
-abbrev addr : ℕ → List ℕ
-addr n = lineOf addrKey n
-
-abbrev width : ℕ → List ℕ
-width n = lineOf widthKey n
-
-abbrev sign : ℕ → List ℕ
-sign n = lineOf signKey n
-
--- "version=1" with CR LF; "timeout=03000"; a number of 30 digits; a line without LF
-abbrev carriage : List ℕ
-carriage = versionKey ++ (equals ∷ 49 ∷ 13 ∷ 10 ∷ [])
-
-abbrev zeroed : List ℕ
-zeroed = timeoutKey ++ (equals ∷ 48 ∷ 51 ∷ 48 ∷ 48 ∷ 48 ∷ 10 ∷ [])
-
-abbrev long : List ℕ
-long = timeoutKey ++ (equals ∷ replicate 30 51 ++ (10 ∷ []))
-
-abbrev unended : List ℕ
-unended = widthKey ++ (equals ∷ 51 ∷ 50 ∷ [])
-
-pub record Damage : Type 0 where
-  pub lines : List (List ℕ)
-  pub wrongLine : ℕ
-
-abbrev damage : List (List ℕ) → ℕ → Damage
-damage ls k = record { lines = ls; wrongLine = k }
-
-abbrev pub damages : List Damage
-damages =
-    damage [] 1
-    ∷ damage (lineOf versionKey 0 ∷ timeout 3000 ∷ join 1 ∷ tags 0 ∷ []) 1
-    ∷ damage (lineOf versionKey 3 ∷ timeout 3000 ∷ join 1 ∷ tags 0 ∷ []) 1
-    ∷ damage (carriage ∷ timeout 3000 ∷ join 1 ∷ tags 0 ∷ []) 1
-    ∷ damage (version1 ∷ zeroed ∷ join 1 ∷ tags 0 ∷ []) 2
-    ∷ damage (version1 ∷ long ∷ join 1 ∷ tags 0 ∷ []) 2
-    ∷ damage (version1 ∷ timeout 99 ∷ join 1 ∷ tags 0 ∷ []) 2
-    ∷ damage (version1 ∷ timeout 60001 ∷ join 1 ∷ tags 0 ∷ []) 2
-    ∷ damage (version1 ∷ join 1 ∷ tags 0 ∷ []) 2
-    ∷ damage (version1 ∷ timeout 3000 ∷ tags 0 ∷ []) 3
-    ∷ damage (version1 ∷ timeout 3000 ∷ join 2 ∷ tags 0 ∷ []) 3
-    ∷ damage (version1 ∷ timeout 3000 ∷ join 1 ∷ tags 257 ∷ []) 4
-    ∷ damage (version1 ∷ timeout 3000 ∷ join 1 ∷ tags 0 ∷ (10 ∷ []) ∷ []) 5
-    ∷ damage (version1 ∷ timeout 3000 ∷ join 1 ∷ tags 1 ∷ addr 65536 ∷ width 16 ∷ []) 5
-    ∷ damage (version1 ∷ timeout 3000 ∷ join 1 ∷ tags 1 ∷ addr 65535 ∷ width 32 ∷ []) 6
-    ∷ damage (version1 ∷ timeout 3000 ∷ join 1 ∷ tags 1 ∷ addr 1024 ∷ width 17 ∷ []) 6
-    ∷ damage (version1 ∷ timeout 3000 ∷ join 1 ∷ tags 2 ∷ addr 1024 ∷ width 16 ∷ addr 1024 ∷ width 16 ∷ []) 7
-    ∷ damage (version1 ∷ timeout 3000 ∷ join 1 ∷ tags 2 ∷ addr 1024 ∷ width 32 ∷ addr 1025 ∷ width 16 ∷ []) 7
-    ∷ damage (version1 ∷ timeout 3000 ∷ join 1 ∷ tags 2 ∷ addr 1024 ∷ width 16 ∷ addr 1025 ∷ unended ∷ []) 8
-    ∷ damage (version1 ∷ timeout 3000 ∷ join 1 ∷ tags 3 ∷ addr 1024 ∷ width 16 ∷ addr 1026 ∷ width 32 ∷ []) 9
-    ∷ damage (version1 ∷ timeout 3000 ∷ join 1 ∷ tags 2 ∷ addr 1024 ∷ width 16 ∷ addr 1026 ∷ width 32 ∷ (48 ∷ []) ∷ []) 9
-    ∷ damage (version1 ∷ timeout 3000 ∷ join 1 ∷ tags 2 ∷ addr 1024 ∷ width 16 ∷ sign 0 ∷ addr 1026 ∷ width 32 ∷ sign 0 ∷ []) 7
-    ∷ damage (version2 ∷ timeout 3000 ∷ join 2 ∷ tags 0 ∷ []) 3
-    ∷ damage (version2 ∷ timeout 3000 ∷ join 1 ∷ tags 0 ∷ (10 ∷ []) ∷ []) 5
-    ∷ damage (version2 ∷ timeout 3000 ∷ join 1 ∷ tags 1 ∷ addr 1024 ∷ width 17 ∷ sign 0 ∷ []) 6
-    ∷ damage (version2 ∷ timeout 3000 ∷ join 1 ∷ tags 1 ∷ addr 1024 ∷ width 16 ∷ []) 7
-    ∷ damage (version2 ∷ timeout 3000 ∷ join 1 ∷ tags 1 ∷ addr 1024 ∷ width 16 ∷ sign 2 ∷ []) 7
-    ∷ damage (version2 ∷ timeout 3000 ∷ join 1 ∷ tags 1 ∷ addr 1024 ∷ width 32 ∷ sign 1 ∷ []) 7
-    ∷ damage (version2 ∷ timeout 3000 ∷ join 1 ∷ tags 2 ∷ addr 1024 ∷ width 16 ∷ addr 1026 ∷ width 32 ∷ []) 7
-    ∷ damage (version2 ∷ timeout 3000 ∷ join 1 ∷ tags 2 ∷ addr 1024 ∷ width 32 ∷ sign 0 ∷ addr 1025 ∷ width 16 ∷ sign 0 ∷ []) 8
-    ∷ damage (version2 ∷ timeout 3000 ∷ join 1 ∷ tags 2 ∷ addr 1024 ∷ width 16 ∷ sign 1 ∷ addr 1026 ∷ width 32 ∷ sign 1 ∷ []) 10
-    ∷ damage (version2 ∷ timeout 3000 ∷ join 1 ∷ tags 2 ∷ addr 1024 ∷ width 16 ∷ sign 1 ∷ addr 1026 ∷ width 32 ∷ sign 0 ∷ (48 ∷ []) ∷ []) 11
-    ∷ []
 
 pub damaged : map (λ (d : Damage). readText (joined (d .lines))) damages ≡ map (λ (d : Damage). wrong (d .wrongLine)) damages
 unfolding readText readIn readBehind readLines readTags versionIn ascends lineIn behind numberIn leading trailing plain numberFrom lineOf decimalOf

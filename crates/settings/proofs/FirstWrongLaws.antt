@@ -10,12 +10,11 @@ use native.Mathlib.Omega.{arith}
 use lib.ListN.{length, getD, take, length-append}
 use lib.Seq.{length-take-le}
 use Rattle.settings.specs.Lines.{Numbered, lineIn}
-use Rattle.settings.specs.Grammar.{Tag, Value, Line, Version, Read, tagFrom, valueFrom, versionKey, headLines, tagLines, versionOf, versions, versionIn, kept, readLines, readTags, readText}
+use Rattle.settings.specs.Grammar.{Tag, Value, Line, Version, Read, tagFrom, valueFrom, versionKey, headLines, tagLines, versionOf, versions, versionIn, ruled, readLines, readTags, readText}
 use Rattle.settings.specs.Grammar.Read.{got, wrong}
-use Rattle.settings.specs.Plain.{Right, Next, Lines, AllLines, Reads, FirstWrong}
-use Rattle.settings.proofs.LineLaws.{numbered}
-use Rattle.settings.proofs.RowLaws.{kept-rule, kept-some, line-wrong, line-right, onto, tag-wrong, tag-right}
-use Rattle.settings.proofs.VersionLaws.{one-of, tagsIn, Versioned, Went, went}
+use Rattle.settings.specs.Plain.{Right, Next, Lines, AllLines, Reads, FirstWrong, numbered, Versioned}
+use Rattle.settings.proofs.RowLaws.{ruled-follows, ruled-some, line-wrong, line-right, onto, tag-wrong, tag-right}
+use Rattle.settings.proofs.VersionLaws.{one-of, tagsIn, Went, went}
 use Rattle.settings.proofs.VersionLaws.Went.{unversioned, inHead, inTags, extra, whole}
 use Rattle.settings.proofs.PlainLines.{line-exactly, keyAt, follows, Listed, listed-bounds, first-line, none-known, all-known, one-more, next-read, one-end, nothing-follows}
 use Rattle.settings.proofs.ReadsLaws.{Tagged, tagged-long, reads, reads-one}
@@ -28,7 +27,7 @@ module _ (text : List ℕ) where
   LinesTold P (got own r) = (above : List ℕ) × Lines [] text above r × P above own
 
   place-wrong : (l : Line) (at : ℕ) (above prior own r : List ℕ) → at ≡ length above + 1 → Lines [] text above r → Place l above prior own
-      → kept (l .right prior own) (lineIn (l .key) r) ≡ none → FirstWrong text at
+      → ruled (l .right prior own) (lineIn (l .key) r) ≡ none → FirstWrong text at
   place-wrong l at above prior own r e c p h =
       record { numbers = above; rest = r; above = c; at = e; wrong = next; left = λ a z. p .unfinished a }
     where
@@ -38,21 +37,21 @@ module _ (text : List ℕ) where
           let key : a .0 ≡ l .key = follows k (a .6) .0 ∙ sym (p .key) in
           let right : l .right prior own (a .1) ≡ true = p .rule (a .1) .1 (rw key at (a .6)) in
           let line : lineIn (l .key) r ≡ some (numbered (a .1) (a .3)) = rw (p .key) (next-read k a) in
-          Option·some-ne-none _ (sym (kept-some (l .right prior own) _ _ line right) ∙ h)
+          Option·some-ne-none _ (sym (ruled-some (l .right prior own) _ _ line right) ∙ h)
 
   lines-told : (P : List ℕ → List ℕ → Type 0) (ls : List Line) (at : ℕ) (above prior own r : List ℕ) → at ≡ length above + 1 → Lines [] text above r → Row P ls above prior own
       → LinesTold P (readLines at ls prior own r)
   unfolding readLines
   lines-told P [] at above prior own r e c w = (above, c, w)
   lines-told P (l ∷ ls) at above prior own r e c w =
-      go (kept (l .right prior own) (lineIn (l .key) r)) refl (λ n q. lines-told P ls (suc at) (above ++ (n ∷ [])) prior (own ++ (n ∷ [])) q (simp length-append (omega arith)))
+      go (ruled (l .right prior own) (lineIn (l .key) r)) refl (λ n q. lines-told P ls (suc at) (above ++ (n ∷ [])) prior (own ++ (n ∷ [])) q (simp length-append (omega arith)))
     where
-      go : (o : Option Numbered) → kept (l .right prior own) (lineIn (l .key) r) ≡ o
+      go : (o : Option Numbered) → ruled (l .right prior own) (lineIn (l .key) r) ≡ o
           → ((n : ℕ) (q : List ℕ) → Lines [] text (above ++ (n ∷ [])) q → Row P ls (above ++ (n ∷ [])) prior (own ++ (n ∷ [])) → LinesTold P (readLines (suc at) ls prior (own ++ (n ∷ [])) q))
           → LinesTold P (readLines at (l ∷ ls) prior own r)
       go none h i = rw (line-wrong at l ls prior own r h) (place-wrong l at above prior own r e c (w .0) h)
       go (some x) h i =
-          let k = kept-rule (l .right prior own) (lineIn (l .key) r) x h in
+          let k = ruled-follows (l .right prior own) (lineIn (l .key) r) x h in
           let right = w .0 .rule (x .number) .0 (k .1) in
           let line = line-exactly (l .key) r (x .number) (x .rest) .0 (k .0) in
           rw (line-right at l ls prior own r x h) (i (x .number) (x .rest) (one-more c (line .1) (line .2) right) (w .1 (x .number) right))

@@ -8,38 +8,36 @@ use mathlib.Core.List.{List, [], _∷_, _++_, map, flatMap, append-nil, List·Me
 use native.Mathlib.Omega.{arith}
 use native.Mathlib.Nat.{mul-comm, mul-le-mul-left, mul-le-mul-right}
 use lib.ListN.{length, getD, length-append, length-map}
-use Rattle.laws.specs.Numbers.{mostTags, mostText, newestVersion}
+use Rattle.numbers.specs.Numbers.{mostTags, mostText, newestVersion}
 use Rattle.laws.specs.Lists.{tab}
 use Rattle.laws.proofs.Choice.{and-left, and-right, never}
 use Rattle.settings.specs.Lines.{Numbered, lineOf, decimalOf}
-use Rattle.settings.specs.Grammar.{Tag, Value, Version, Read, headNumbers, valueFrom, ascends, rightAddr, rightWidth, headLines, tagLines, versionOf, versions, newest, versionKey, versionIn, textOfLines, textIn, allRight, tagsRight, validIn, valid, toldIn, readLines, readText}
+use Rattle.settings.specs.Grammar.{Tag, Value, Version, Read, headNumbers, valueFrom, ascends, rightAddr, rightWidth, headLines, tagLines, versionOf, versions, newest, versionKey, versionIn, textOfLines, textIn, allRight, tagsRight, validIn, valid, toldByVersion, readLines, readText}
 use Rattle.settings.specs.Grammar.Read.{got, wrong}
 use Rattle.laws.proofs.ListLaws.{tab-getD}
+use Rattle.settings.specs.Plain.{Versioned, unsigned, full}
 use Rattle.settings.proofs.LineLaws.{line-length}
 use Rattle.settings.proofs.RowLaws.{told, lines-only, lines-wrong, tagsText, tags-only, tags-wrong}
-use Rattle.settings.proofs.VersionLaws.{Fit, fit, one-of, fits, found, few-tags, Long, total, lines-length, tags-length, head-long, tag-long, Versioned, Went, went, back}
+use Rattle.settings.proofs.VersionLaws.{Fit, fit, one-of, fits, found, few-tags, Long, total, lines-length, tags-length, head-long, tag-long, Went, went, back}
 use Rattle.settings.proofs.VersionLaws.Went.{unversioned, inHead, inTags, extra, whole}
 -- A line is read back from its text, and no other text is read as that line.
 pub use Rattle.settings.proofs.LineLaws.{line-back, line-only}
 
 -- In any listed version: the text of a value that is valid there is read to what it tells of the value.
-pub read-told : (x : Version) (v : Value) → List·Memᴰ x versions → validIn x v ≡ true → readText (textIn x v) ≡ got (toldIn x v) []
+pub read-told : (x : Version) (v : Value) → List·Memᴰ x versions → validIn x v ≡ true → readText (textIn x v) ≡ got (toldByVersion x v) []
 read-told x v m r = back x v (fits x m) (found x m) r
 
 -- The newest tells everything, and version 1 all but the sign, which is read as 0.
-pub newest-tells : (v : Value) → toldIn newest v ≡ v
-unfolding toldIn
+pub newest-tells : (v : Value) → toldByVersion newest v ≡ v
+unfolding toldByVersion
 newest-tells v = ap (λ (ts : List Tag). record { timeout = v .timeout; join = v .join; tags = ts }) (all (v .tags))
   where
     all : (ts : List Tag) → map (told (newest .tag)) ts ≡ ts
     all [] = refl
     all (t ∷ ts) = ap (t ∷_) (all ts)
 
-abbrev pub unsigned : Tag → Tag
-unsigned t = record { address = t .address; width = t .width; sign = 0 }
-
-pub version-1-tells : (v : Value) → toldIn (versionOf 1) v ≡ record { timeout = v .timeout; join = v .join; tags = map unsigned (v .tags) }
-unfolding toldIn
+pub version-1-tells : (v : Value) → toldByVersion (versionOf 1) v ≡ record { timeout = v .timeout; join = v .join; tags = map unsigned (v .tags) }
+unfolding toldByVersion
 version-1-tells v = refl
 
 -- Every valid value is read back from its text.
@@ -99,7 +97,7 @@ accepted t = (λ a. there (a .0) (a .1), λ b. here (b .0) (b .1) (b .2) (b .3) 
     there v h = let w = read-only t [] v h .1 in (w .0, v, w .1, w .2, w .3)
 
     here : (x : Version) (v : Value) → List·Memᴰ x versions → validIn x v ≡ true → t ≡ textIn x v → (v : Value) × (readText t ≡ got v [])
-    here x v m r e = (toldIn x v, ap readText e ∙ read-told x v m r)
+    here x v m r e = (toldByVersion x v, ap readText e ∙ read-told x v m r)
 
 -- right tags of version 1 are, unsigned, right tags of the newest
 older-tags : (prior prior′ : List ℕ) → ((n : ℕ) → ascends prior′ n ≡ ascends prior n) → (ts : List Tag) → tagsRight (versionOf 1 .tag) prior ts ≡ true → tagsRight tagLines prior′ (map unsigned ts) ≡ true
@@ -112,23 +110,23 @@ older-tags prior prior′ same (t ∷ ts) r =
     let width = and-left (rightWidth (t .address ∷ []) (t .width)) true (and-right (rightAddr prior (t .address)) _ here) in
     rw (address, width) (older-tags (t .address ∷ t .width ∷ []) (t .address ∷ t .width ∷ 0 ∷ []) (λ n. refl) ts rest)
 
-older-valid : (v : Value) → validIn (versionOf 1) v ≡ true → valid (toldIn (versionOf 1) v) ≡ true
-unfolding validIn toldIn
+older-valid : (v : Value) → validIn (versionOf 1) v ≡ true → valid (toldByVersion (versionOf 1) v) ≡ true
+unfolding validIn toldByVersion
 older-valid v r =
     let heads = and-left (allRight headLines [] [] (headNumbers v)) _ r in
     rw (length-map (v .tags) unsigned, heads) (older-tags [] [] (λ n. refl) (v .tags) (and-right (allRight headLines [] [] (headNumbers v)) _ r))
 
 -- A value that is valid in a listed version is, as far as that version tells it, valid in the newest.
-pub told-valid : (x : Version) → List·Memᴰ x versions → (v : Value) → validIn x v ≡ true → valid (toldIn x v) ≡ true
-told-valid = one-of (λ x. (v : Value) → validIn x v ≡ true → valid (toldIn x v) ≡ true) older-valid (λ v r. rw (newest-tells v) r)
+pub told-valid : (x : Version) → List·Memᴰ x versions → (v : Value) → validIn x v ≡ true → valid (toldByVersion x v) ≡ true
+told-valid = one-of (λ x. (v : Value) → validIn x v ≡ true → valid (toldByVersion x v) ≡ true) older-valid (λ v r. rw (newest-tells v) r)
 
 -- What a text is read to is a valid value.
 pub read-valid : (t r : List ℕ) (v : Value) → readText t ≡ got v r → valid v ≡ true
 read-valid t r v h =
     let w = read-only t r v h in
     let x = w .1 .0 in
-    let q : got v r ≡ got (toldIn x v) [] = sym h ∙ ap readText (w .1 .3) ∙ read-told x v (w .1 .1) (w .1 .2) in
-    let e : v ≡ toldIn x v = cc in
+    let q : got v r ≡ got (toldByVersion x v) [] = sym h ∙ ap readText (w .1 .3) ∙ read-told x v (w .1 .1) (w .1 .2) in
+    let e : v ≡ toldByVersion x v = cc in
     rw e (told-valid x (w .1 .1) v (w .1 .2))
 
 -- A wrong line is the first, or one behind a version line of a listed version: a line of that version, or one more for an extra byte.
@@ -191,10 +189,6 @@ longest-2 v r = let l = text-length 2 (11 ∷ 9 ∷ 7 ∷ []) v (omega arith) ta
 -- No right text is longer.
 pub longest : (x : Version) → List·Memᴰ x versions → (v : Value) → validIn x v ≡ true → length (textIn x v) ≤ mostText
 longest = one-of (λ x. (v : Value) → validIn x v ≡ true → length (textIn x v) ≤ mostText) (λ v r. omega (arith, longest-1 v r)) longest-2
-
--- And some valid value's text has as many, in either version.
-unfoldable pub full : Value
-full = record { timeout = 60000; join = 1; tags = tab 256 (λ k. record { address = 10000 + k; width = 16; sign = 1 }) }
 
 pub full-valid : valid full ≡ true
 unfolding full validIn allRight tagsRight ascends tab

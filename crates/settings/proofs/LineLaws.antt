@@ -13,6 +13,7 @@ use lib.Dec.{eqb, leb}
 use borrow.Author.Tests.{lt-ltb, le-ltb, le-leb, leb-true, eq-eqb, ne-eqb, eqb-true, eqb-false, not-true}
 use Rattle.laws.proofs.Choice.{true-or, lt-or, and-left, and-right}
 use Rattle.settings.specs.Lines.{Numbered, equals, lineFeed, digitZero, digitNine, isDigit, decimalOf, decimal, lineOf, leading, trailing, plain, numberFrom, behind, numberIn, lineIn}
+use Rattle.settings.specs.Plain.{numbered}
 
 -- digits: what `trailing` leaves nothing of
 
@@ -190,9 +191,6 @@ behind-only (c ∷ k) (b ∷ t) r e =
     (true-or (eqb c b))
 
 -- a number in a text: digits, and what stands behind them
-
-abbrev pub numbered : ℕ → List ℕ → Numbered
-numbered n r = record { number = n; rest = r }
 
 pub number-ends : (ds t : List ℕ) → trailing ds ≡ [] → numberIn (ds ++ (lineFeed ∷ t)) ≡ cond (plain ds) (some (numbered (numberFrom 0 ds) t)) none
 unfolding numberIn leading trailing behind

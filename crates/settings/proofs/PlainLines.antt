@@ -13,8 +13,8 @@ use lib.Dec.{eqb, ltb}
 use borrow.Author.Tests.{le-ltb, ne-eqb, eqb-false, not-true}
 use Rattle.settings.specs.Lines.{Numbered, isDigit, trailing, plain, numberFrom, lineIn}
 use Rattle.settings.specs.Grammar.{versionKey, timeoutKey, joinKey, tagsKey, addrKey, widthKey, signKey, tagLines}
-use Rattle.settings.specs.Plain.{Decimal, IsLine, linesOfTag, Right, Next, Lines, AllLines}
-use Rattle.settings.proofs.LineLaws.{numbered, digit-of, digit-range, digit-first, digits-then, number-then, number-read, line-read, line-parts, digits-back}
+use Rattle.settings.specs.Plain.{Decimal, IsLine, linesOfTag, Right, Next, Lines, AllLines, numbered}
+use Rattle.settings.proofs.LineLaws.{digit-of, digit-range, digit-first, digits-then, number-then, number-read, line-read, line-parts, digits-back}
 
 -- a decimal without leading zeros: digits that are plain and read as the number
 

@@ -9,19 +9,20 @@ use mathlib.Core.List.{List, [], _∷_, _++_, map, flatMap, append-assoc, append
 use native.Mathlib.Omega.{arith}
 use lib.ListN.{length, take}
 use lib.Seq.{length-take-le}
-use Rattle.laws.specs.Numbers.{addresses}
+use Rattle.numbers.specs.Numbers.{addresses}
 use Rattle.laws.proofs.Choice.{true-or, and-left, and-right, never}
 use Rattle.settings.specs.Lines.{Numbered, lineOf, lineIn}
-use Rattle.settings.specs.Grammar.{Tag, Line, Read, tagNumbers, tagFrom, numbersIn, textOfLines, allRight, tagsRight, readLines, readTags, kept}
+use Rattle.settings.specs.Grammar.{Tag, Line, Read, tagNumbers, tagFrom, numbersIn, textOfLines, allRight, tagsRight, readLines, readTags, ruled}
 use Rattle.settings.specs.Grammar.Read.{got, wrong}
-use Rattle.settings.proofs.LineLaws.{numbered, line-back, line-only}
+use Rattle.settings.specs.Plain.{numbered}
+use Rattle.settings.proofs.LineLaws.{line-back, line-only}
 
 -- one line of several
 
-pub kept-rule : (rule : ℕ → Bool) (o : Option Numbered) (x : Numbered) → kept rule o ≡ some x → (o ≡ some x) × (rule (x .number) ≡ true)
-unfolding kept
-kept-rule rule none x e = absurd (Option·none-ne-some x e)
-kept-rule rule (some y) x e =
+pub ruled-follows : (rule : ℕ → Bool) (o : Option Numbered) (x : Numbered) → ruled rule o ≡ some x → (o ≡ some x) × (rule (x .number) ≡ true)
+unfolding ruled
+ruled-follows rule none x e = absurd (Option·none-ne-some x e)
+ruled-follows rule (some y) x e =
     ⊎-elim
     (λ (t : rule (y .number) ≡ true).
     let q : y ≡ x = Option·some-injective y x (rw t at e) in
@@ -29,13 +30,13 @@ kept-rule rule (some y) x e =
     (λ (t : rule (y .number) ≡ false). absurd (Option·none-ne-some x (rw t at e)))
     (true-or (rule (y .number)))
 
-pub kept-some : (rule : ℕ → Bool) (o : Option Numbered) (x : Numbered) → o ≡ some x → rule (x .number) ≡ true → kept rule o ≡ some x
-unfolding kept
-kept-some rule o x e t = rw (e, t)
+pub ruled-some : (rule : ℕ → Bool) (o : Option Numbered) (x : Numbered) → o ≡ some x → rule (x .number) ≡ true → ruled rule o ≡ some x
+unfolding ruled
+ruled-some rule o x e t = rw (e, t)
 
 module _ (at : ℕ) (l : Line) (ls : List Line) (prior own t : List ℕ) where
-  pub line-wrong : kept (l .right prior own) (lineIn (l .key) t) ≡ none → readLines at (l ∷ ls) prior own t ≡ wrong at
-  unfolding readLines kept
+  pub line-wrong : ruled (l .right prior own) (lineIn (l .key) t) ≡ none → readLines at (l ∷ ls) prior own t ≡ wrong at
+  unfolding readLines ruled
   line-wrong h = go (lineIn (l .key) t) refl
     where
       go : (o : Option Numbered) → lineIn (l .key) t ≡ o → readLines at (l ∷ ls) prior own t ≡ wrong at
@@ -46,9 +47,9 @@ module _ (at : ℕ) (l : Line) (ls : List Line) (prior own t : List ℕ) where
           (λ (r : l .right prior own (x .number) ≡ false). rw (e, readLines) (rw r))
           (true-or (l .right prior own (x .number)))
 
-  pub line-right : (x : Numbered) → kept (l .right prior own) (lineIn (l .key) t) ≡ some x → readLines at (l ∷ ls) prior own t ≡ readLines (suc at) ls prior (own ++ (x .number ∷ [])) (x .rest)
+  pub line-right : (x : Numbered) → ruled (l .right prior own) (lineIn (l .key) t) ≡ some x → readLines at (l ∷ ls) prior own t ≡ readLines (suc at) ls prior (own ++ (x .number ∷ [])) (x .rest)
   unfolding readLines
-  line-right x h = let k = kept-rule (l .right prior own) (lineIn (l .key) t) x h in rw (k .0, readLines) (rw (k .1))
+  line-right x h = let k = ruled-follows (l .right prior own) (lineIn (l .key) t) x h in rw (k .0, readLines) (rw (k .1))
 
 -- every right number of these lines is below a limit
 abbrev pub Bounded : List Line → Type 0
@@ -65,7 +66,7 @@ lines-back at (l ∷ ls) prior own (n ∷ ns) rest b c r =
     let small = b .0 prior own n first in
     let t : List ℕ = textOfLines ls ns ++ rest in
     rw (append-assoc (lineOf (l .key) n) (textOfLines ls ns) rest)
-    (line-right at l ls prior own (lineOf (l .key) n ++ t) (numbered n t) (kept-some (l .right prior own) _ (numbered n t) (line-back (l .key) n t (omega arith)) first)
+    (line-right at l ls prior own (lineOf (l .key) n ++ t) (numbered n t) (ruled-some (l .right prior own) _ (numbered n t) (line-back (l .key) n t (omega arith)) first)
     ∙ lines-back (suc at) ls prior (own ++ (n ∷ [])) ns rest (b .1) (omega arith) (and-right (l .right prior own n) _ r)
     ∙ ap (λ ms. got ms rest) (append-assoc own (n ∷ []) ns))
 
@@ -84,14 +85,14 @@ lines-only at [] prior own t out r b h =
     let q : t ≡ r = cc in
     record { numbers = []; all = refl; whole = sym p ∙ sym (append-nil own); right = refl; text = q }
 lines-only at (l ∷ ls) prior own t out r b h =
-    go (kept (l .right prior own) (lineIn (l .key) t)) refl (λ x e. lines-only (suc at) ls prior (own ++ (x .number ∷ [])) (x .rest) out r (b .1) e)
+    go (ruled (l .right prior own) (lineIn (l .key) t)) refl (λ x e. lines-only (suc at) ls prior (own ++ (x .number ∷ [])) (x .rest) out r (b .1) e)
   where
-    go : (o : Option Numbered) → kept (l .right prior own) (lineIn (l .key) t) ≡ o
+    go : (o : Option Numbered) → ruled (l .right prior own) (lineIn (l .key) t) ≡ o
         → ((x : Numbered) → readLines (suc at) ls prior (own ++ (x .number ∷ [])) (x .rest) ≡ got out r → LinesRead ls prior (own ++ (x .number ∷ [])) (x .rest) out r)
         → LinesRead (l ∷ ls) prior own t out r
     go none e i = never (cc (line-wrong at l ls prior own t e))
     go (some x) e i =
-        let k = kept-rule (l .right prior own) (lineIn (l .key) t) x e in
+        let k = ruled-follows (l .right prior own) (lineIn (l .key) t) x e in
         let small = b .0 prior own (x .number) (k .1) in
         let next = i x (sym (line-right at l ls prior own t x e) ∙ h) in
         record {
@@ -109,9 +110,9 @@ pub lines-wrong : (at : ℕ) (ls : List Line) (prior own t : List ℕ) (k : ℕ)
 unfolding readLines
 lines-wrong at [] prior own t k h = never (cc)
 lines-wrong at (l ∷ ls) prior own t k h =
-    go (kept (l .right prior own) (lineIn (l .key) t)) refl (λ x e. lines-wrong (suc at) ls prior (own ++ (x .number ∷ [])) (x .rest) k e)
+    go (ruled (l .right prior own) (lineIn (l .key) t)) refl (λ x e. lines-wrong (suc at) ls prior (own ++ (x .number ∷ [])) (x .rest) k e)
   where
-    go : (o : Option Numbered) → kept (l .right prior own) (lineIn (l .key) t) ≡ o
+    go : (o : Option Numbered) → ruled (l .right prior own) (lineIn (l .key) t) ≡ o
         → ((x : Numbered) → readLines (suc at) ls prior (own ++ (x .number ∷ [])) (x .rest) ≡ wrong k → (suc at ≤ k) × (k < suc at + length ls))
         → (at ≤ k) × (k < at + suc (length ls))
     go none e i = let z : at ≡ k = cc (line-wrong at l ls prior own t e) in omega arith

@@ -1,17 +1,16 @@
 -- Tag words: a word gives its tag back, the tags of a valid value ascend, and what a valid value's numbers are bounded by.
 -- Assumes nothing.
 use Prim.Native.Nat.{ℕ, zero, suc, _+_, _*_, _/_, _%_, _≤_, _<_}
-use mathlib.Core.Path.{_≡_, refl, ap, sym, _∙_}
-use mathlib.Core.Logic.{⊎-elim, _⊎_, inl, inr}
+use mathlib.Core.Path.{_≡_, refl, sym, _∙_}
+use mathlib.Core.Logic.{⊎-elim, inl, inr}
 use mathlib.Core.Bool.{true, cond, _&&_}
 use mathlib.Core.List.{List, [], _∷_, _++_, map, map-append}
 use native.Mathlib.Nat.{mod-eq-of-lt}
 use native.Mathlib.Omega.{arith}
 use lib.ListN.{length, getD, set, take, replicate, length-map}
-use lib.Seq.{take-at, take-suc, length-take-le}
+use lib.Seq.{take-at}
 use lib.Dec.{eqb}
-use native.Mathlib.Numerals.{add-one}
-use Rattle.laws.specs.Numbers.{mostTags, addresses, leastTimeout, mostTimeout}
+use Rattle.numbers.specs.Numbers.{mostTags, addresses}
 use Rattle.laws.specs.Lists.{tab}
 use Rattle.laws.proofs.Choice.{true-or, eq-or, and-right}
 use Rattle.laws.proofs.ListLaws.{tab-more, length-tab, set-padded}
@@ -21,15 +20,11 @@ use Rattle.bcd.specs.Bcd.{registers}
 use Rattle.bcd.proofs.Words.{registers-least}
 use Rattle.settings.specs.declared.Settings.{Settings}
 use Rattle.settings.specs.Grammar.{Tag, Value, newest, tagNumbers, lastRegister, rightTimeout, rightJoin, rightTags, tagsRight, valid}
-use Rattle.settings.specs.Plain.{RightTag}
-use Rattle.settings.specs.Values.{settings, padded, settingsOf}
-use Rattle.settings.specs.TagWords.{kindOf, widthOf, signOf, kindNumber, kindFrom, wordOf, tagOfKind, tagOf, lastOf, Ascending}
+use Rattle.settings.specs.Plain.{RightTag, Wide, Bounds}
+use Rattle.settings.specs.Values.{padded}
+use Rattle.settings.specs.TagWords.{kindOf, widthOf, signOf, kindNumber, kindFrom, tagWord, tagOfKind, tagOf, lastOf, Ascending}
 use Rattle.settings.proofs.ValueLaws.{tagAt, tag-ext, fromOf, valid-parts}
 use Rattle.settings.proofs.ValidLaws.{first-exactly, valid-exactly}
-
--- a tag has one of the two widths, and a sign only with the first
-abbrev pub Wide : Tag → Type 0
-Wide t = ((t .width ≡ 16) × (t .sign ≡ 0)) ⊎ ((t .width ≡ 32) × (t .sign ≡ 0)) ⊎ ((t .width ≡ 16) × (t .sign ≡ 1))
 
 -- a kind's number gives the kind back
 kind-back : (kind : Kind) → kindFrom (kindNumber kind) ≡ kind
@@ -59,8 +54,8 @@ kind-of-tag Width32 address = refl
 kind-of-tag Signed16 address = refl
 
 -- a tag's word gives the tag back
-pub word-back : (t : Tag) → t .address < addresses → Wide t → tagOf (wordOf t) ≡ t
-unfolding wordOf tagOf
+pub word-back : (t : Tag) → t .address < addresses → Wide t → tagOf (tagWord t) ≡ t
+unfolding tagWord tagOf
 word-back t l w =
     let n = kind-low (kindOf t) in
     let a : (t .address + addresses * kindNumber (kindOf t)) % addresses ≡ t .address = omega arith in
@@ -71,15 +66,6 @@ word-back t l w =
 pub kind-of-word : (word : ℕ) → kindOf (tagOf word) ≡ kindFrom (word / addresses % 256)
 unfolding tagOf
 kind-of-word word = kind-of-tag (kindFrom (word / addresses % 256)) (word % addresses)
-
--- the width and the sign of a word's tag are its kind's
-pub width-of-word : (word : ℕ) → widthOf (kindOf (tagOf word)) ≡ tagOf word .width
-unfolding tagOf
-width-of-word word = ap widthOf (kind-of-word word)
-
-pub sign-of-word : (word : ℕ) → signOf (kindOf (tagOf word)) ≡ tagOf word .sign
-unfolding tagOf
-sign-of-word word = ap signOf (kind-of-word word)
 
 -- how many registers a tag has, by its width
 registers-wide : (t : Tag) → registers (kindOf t) ≡ cond (eqb (t .width) 32) 2 1
@@ -141,27 +127,19 @@ ascending-apart from (t ∷ ts) i zero d a h l = absurd (omega arith)
 ascending-apart from (t ∷ ts) zero (suc j) d a h l = let r = ascending-at (lastOf t + 1) ts j d (a .2) (omega arith) in omega (arith, r .0)
 ascending-apart from (t ∷ ts) (suc i) (suc j) d a h l = ascending-apart (lastOf t + 1) ts i j d (a .2) (omega arith) (omega arith)
 
-right-back : (prior : List ℕ) (ts : List Tag) → tagsRight (newest .tag) prior ts ≡ true → map tagOf (map wordOf ts) ≡ ts
+right-back : (prior : List ℕ) (ts : List Tag) → tagsRight (newest .tag) prior ts ≡ true → map tagOf (map tagWord ts) ≡ ts
 right-back prior [] r = refl
 right-back prior (t ∷ ts) r =
     let f = first-exactly prior t ts .0 r in
     cc (word-back t (right-low t (f .0 .0)) (right-wide t (f .0 .0)), right-back (tagNumbers t) ts (f .1))
 
 -- the words of a valid value's tags give the tags back
-pub words-back : (v : Value) → valid v ≡ true → map tagOf (map wordOf (v .tags)) ≡ v .tags
+pub words-back : (v : Value) → valid v ≡ true → map tagOf (map tagWord (v .tags)) ≡ v .tags
 words-back v h = right-back [] (v .tags) (right-tags v h)
 
 -- the words that the state keeps, padded, give the tags of a valid value back
-pub words-kept : (v : Value) → valid v ≡ true → map tagOf (take (length (v .tags)) (padded (map wordOf (v .tags)))) ≡ v .tags
-words-kept v h = rw (take-at (map wordOf (v .tags)) _ (length (v .tags)) (length-map (v .tags) wordOf)) (words-back v h)
-
--- document 01's bounds on a value's numbers
-pub record Bounds (v : Value) : Type 0 where
-  pub least : leastTimeout ≤ v .timeout
-  pub most : v .timeout ≤ mostTimeout
-  pub joins : v .join ≤ 1
-  pub few : length (v .tags) ≤ mostTags
-  pub wide : (i : ℕ) (d : Tag) → i < length (v .tags) → Wide (getD (v .tags) i d)
+pub words-kept : (v : Value) → valid v ≡ true → map tagOf (take (length (v .tags)) (padded (map tagWord (v .tags)))) ≡ v .tags
+words-kept v h = rw (take-at (map tagWord (v .tags)) _ (length (v .tags)) (length-map (v .tags) tagWord)) (words-back v h)
 
 -- a valid value is within the bounds
 pub valid-bounds : (v : Value) → valid v ≡ true → Bounds v
@@ -185,67 +163,19 @@ filled-more f xs x k v e h q =
 pub record Worded (s : Settings) (words : List ℕ) (k : ℕ) : Type 0 where
   pub within : k ≤ s .tags
   pub few : s .tags ≤ mostTags
-  pub filled : words ≡ padded (map wordOf (tab k (tagAt s)))
+  pub filled : words ≡ padded (map tagWord (tab k (tagAt s)))
 
 pub worded-none : (s : Settings) → s .tags ≤ mostTags → Worded s (replicate mostTags 0) 0
 unfolding tab
 worded-none s h = record { within = omega arith; few = h; filled = refl }
 
-pub worded-more : {s : Settings} {words : List ℕ} {k v : ℕ} → k < s .tags → Worded s words k → v ≡ wordOf (tagAt s k) → Worded s (set words k v) (k + 1)
+pub worded-more : {s : Settings} {words : List ℕ} {k v : ℕ} → k < s .tags → Worded s words k → v ≡ tagWord (tagAt s k) → Worded s (set words k v) (k + 1)
 worded-more {s} {k = k} {v = v} h w e =
     record {
       within = omega arith;
       few = w .few;
-      filled = rw (w .filled, tab-more k (tagAt s)) (filled-more wordOf (tab k (tagAt s)) (tagAt s k) k v (length-tab k (tagAt s)) (omega (arith, w .few)) e);
+      filled = rw (w .filled, tab-more k (tagAt s)) (filled-more tagWord (tab k (tagAt s)) (tagAt s k) k v (length-tab k (tagAt s)) (omega (arith, w .few)) e);
     }
 
-pub worded-all : {s : Settings} {words : List ℕ} {k : ℕ} → s .tags ≤ k → Worded s words k → words ≡ padded (map wordOf (tab (s .tags) (tagAt s)))
+pub worded-all : {s : Settings} {words : List ℕ} {k : ℕ} → s .tags ≤ k → Worded s words k → words ≡ padded (map tagWord (tab (s .tags) (tagAt s)))
 worded-all {s} {k = k} h w = let e : k ≡ s .tags = omega (arith, w .within) in w .filled ∙ rw e
-
--- the tags of the first k words
-abbrev pub tagsOf : List ℕ → ℕ → List Tag
-tagsOf words k = map tagOf (take k words)
-
-pub record Taken (words : List ℕ) (tagged : ℕ) (addr width sign : List ℕ) (k : ℕ) : Type 0 where
-  pub within : k ≤ tagged
-  pub few : tagged ≤ mostTags
-  pub long : length words ≡ mostTags
-  pub addrs : addr ≡ padded (map (λ (t : Tag). t .address) (tagsOf words k))
-  pub widths : width ≡ padded (map (λ (t : Tag). t .width) (tagsOf words k))
-  pub signs : sign ≡ padded (map (λ (t : Tag). t .sign) (tagsOf words k))
-
-pub taken-none : (words : List ℕ) (tagged : ℕ) → tagged ≤ mostTags → length words ≡ mostTags → Taken words tagged (replicate mostTags 0) (replicate mostTags 0) (replicate mostTags 0) 0
-taken-none words tagged h l = record { within = omega arith; few = h; long = l; addrs = refl; widths = refl; signs = refl }
-
-pub taken-more : {words : List ℕ} {tagged : ℕ} {addr width sign : List ℕ} {k a w s : ℕ} → k < tagged → Taken words tagged addr width sign k
-    → a ≡ tagOf (getD words k 0) .address → w ≡ tagOf (getD words k 0) .width → s ≡ tagOf (getD words k 0) .sign
-    → Taken words tagged (set addr k a) (set width k w) (set sign k s) (k + 1)
-taken-more {words} {k = k} {a = a} {w = w} {s = s} h t p q r =
-    record {
-      within = omega arith;
-      few = t .few;
-      long = t .long;
-      addrs = rw (t .addrs, more) (filled-more (λ (t : Tag). t .address) (tagsOf words k) (tagOf (getD words k 0)) k a sized low p);
-      widths = rw (t .widths, more) (filled-more (λ (t : Tag). t .width) (tagsOf words k) (tagOf (getD words k 0)) k w sized low q);
-      signs = rw (t .signs, more) (filled-more (λ (t : Tag). t .sign) (tagsOf words k) (tagOf (getD words k 0)) k s sized low r);
-    }
-  where
-    low : k < mostTags
-    low = omega (arith, t .few)
-
-    sized : length (tagsOf words k) ≡ k
-    sized = length-map (take k words) tagOf ∙ length-take-le k words (omega (arith, t .few, t .long))
-
-    more : tagsOf words (k + 1) ≡ tagsOf words k ++ (tagOf (getD words k 0) ∷ [])
-    more = rw (add-one k, take-suc words k 0 (omega (arith, t .few, t .long))) (map-append tagOf (take k words) (getD words k 0 ∷ []))
-
-pub taken-all : (timeout join : ℕ) {words : List ℕ} {tagged : ℕ} {addr width sign : List ℕ} {k : ℕ} → tagged ≤ k → Taken words tagged addr width sign k
-    → settings timeout join tagged addr width sign ≡ settingsOf (record { timeout = timeout; join = join; tags = tagsOf words tagged })
-unfolding settingsOf
-taken-all timeout join {words} {tagged} {k = k} h t =
-    let e : k ≡ tagged = omega (arith, t .within) in
-    let a = rw e at (t .addrs) in
-    let w = rw e at (t .widths) in
-    let s = rw e at (t .signs) in
-    let n : length (tagsOf words tagged) ≡ tagged = length-map (take tagged words) tagOf ∙ length-take-le tagged words (omega (arith, t .few, t .long)) in
-    rw (a, w, s, n)

@@ -10,7 +10,7 @@ use native.Mathlib.Omega.{arith}
 use lib.ListN.{length, getD}
 use lib.Dec.{eqb, ltb, leb}
 use borrow.Author.Tests.{ltb-true, leb-true, lt-ltb, le-leb}
-use Rattle.laws.specs.Numbers.{mostTags, addresses, leastTimeout, mostTimeout}
+use Rattle.numbers.specs.Numbers.{mostTags, addresses, leastTimeout, mostTimeout}
 use Rattle.laws.proofs.Choice.{eq-or}
 use Rattle.laws.proofs.ListLaws.{length-tab, getD-tab}
 use Rattle.laws.proofs.TestLaws.{holds-eq, holds-and, holds-or, holds-always}

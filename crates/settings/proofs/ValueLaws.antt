@@ -1,20 +1,18 @@
 -- Settings values tag by tag: what makes one valid, when two are equal, the value of the boundary's struct and back, and that struct's size.
 -- Assumes nothing.
 use prog.Memory.{size}
-use Prim.Native.Nat.{ℕ, zero, suc, _+_, _-_, _≤_, _<_, min}
+use Prim.Native.Nat.{ℕ, _+_, _-_, _≤_, _<_}
 use mathlib.Core.Path.{_≡_, refl, ap, sym, _∙_}
-use mathlib.Core.Logic.{⊎-elim}
-use mathlib.Core.Bool.{Bool, true, false, _&&_, and-true, and-false, and-assoc, false≢true}
+use mathlib.Core.Bool.{Bool, true, false, _&&_, and-true, and-assoc, false≢true}
 use mathlib.Core.List.{List, [], _∷_, _++_, map}
-use native.Mathlib.Nat.{add-zero}
 use native.Mathlib.Numerals.{add-one}
 use native.Mathlib.Omega.{arith}
 use lib.ListN.{length, getD, length-append, length-map, length-replicate, List·getD-eq-default}
 use lib.Dec.{eqb, leb, leb·zero}
-use borrow.Author.Tests.{leb-true, eqb-true, eq-eqb, ne-eqb, lt-ltb}
-use Rattle.laws.specs.Numbers.{mostTags, addresses}
+use borrow.Author.Tests.{leb-true, eqb-true, eq-eqb, lt-ltb}
+use Rattle.numbers.specs.Numbers.{mostTags, addresses}
 use Rattle.laws.specs.Lists.{tab}
-use Rattle.laws.proofs.Choice.{eq-or, and-left, and-right}
+use Rattle.laws.proofs.Choice.{and-left, and-right}
 use Rattle.laws.proofs.ListLaws.{tab-ext, tab-more, length-tab, tab-getD, getD-map, getD-zeros}
 use Rattle.settings.specs.declared.Settings.{Settings}
 use Rattle.settings.specs.Grammar.{Tag, Value, newest, tagNumbers, lastRegister, ascends, rightTimeout, rightJoin, rightTags, rightWidth, rightSign, allRight, tagsRight, validIn, valid}
@@ -121,77 +119,6 @@ valid-few s t = few s refl (and-left (headRight s) _ (sym (valid-struct s) ∙ t
 
 pub checked-all : (s : Settings) {head right : Bool} {from k : ℕ} → head ≡ headRight s → head ≡ true → k ≡ s .tags → Checked (tagAt s) right from k → right ≡ valid (valueOf s)
 checked-all s e t q w = w .so-far ∙ rw q (sym (valid-struct s ∙ rw (← e) (rw t)))
-
--- two lists of tags, tag by tag
-abbrev pub sameTag : Tag → Tag → Bool
-sameTag t u = eqb (t .address) (u .address) && (eqb (t .width) (u .width) && eqb (t .sign) (u .sign))
-
-same-snoc : (ts us : List Tag) (t u : Tag) → length ts ≡ length us → sameTags (ts ++ (t ∷ [])) (us ++ (u ∷ [])) ≡ (sameTags ts us && sameTag t u)
-unfolding sameTags
-same-snoc [] [] t u e = rw and-true
-same-snoc [] (y ∷ us) t u e = absurd (omega arith)
-same-snoc (x ∷ ts) [] t u e = absurd (omega arith)
-same-snoc (x ∷ ts) (y ∷ us) t u e = rw (same-snoc ts us t u (omega arith)) (simp and-assoc)
-
-same-length : (ts us : List Tag) → (length ts ≡ length us → ⊥) → sameTags ts us ≡ false
-unfolding sameTags
-same-length [] [] e = absurd (e refl)
-same-length [] (y ∷ us) e = refl
-same-length (x ∷ ts) [] e = refl
-same-length (x ∷ ts) (y ∷ us) e = rw (same-length ts us (λ z. e (ap suc z))) (simp and-false)
-
-same-tag : (t : Tag) → sameTag t t ≡ true
-same-tag t = rw (eq-eqb (t .address) (t .address) refl, eq-eqb (t .width) (t .width) refl, eq-eqb (t .sign) (t .sign) refl)
-
-module _ (f g : ℕ → Tag) where
-  pub same-more : (k : ℕ) → sameTags (tab (k + 1) f) (tab (k + 1) g) ≡ (sameTags (tab k f) (tab k g) && sameTag (f k) (g k))
-  same-more k = rw (tab-more k f, tab-more k g) (same-snoc (tab k f) (tab k g) (f k) (g k) (length-tab k f ∙ sym (length-tab k g)))
-
-  -- places where both have the same tag do not tell them apart
-  same-beyond : (m d : ℕ) → ((k : ℕ) → m ≤ k → k < m + d → f k ≡ g k) → sameTags (tab (m + d) f) (tab (m + d) g) ≡ sameTags (tab m f) (tab m g)
-  same-beyond m zero h = rw (add-zero m)
-  same-beyond m (suc d) h =
-      let e : m + suc d ≡ m + d + 1 = omega arith in
-      rw (e, same-more (m + d), h (m + d) (omega arith) (omega arith), same-tag (g (m + d)), and-true) (same-beyond m d (λ k l u. h k l (omega arith)))
-
--- equality of the boundary's structs: timeout, join, the number of tags, and the places that there are of the listed tags
-abbrev pub sameHead : Settings → Settings → Bool
-sameHead a b = eqb (a .timeout) (b .timeout) && (eqb (a .join) (b .join) && eqb (a .tags) (b .tags))
-
-abbrev pub sameTo : Settings → Settings → ℕ → Bool
-sameTo a b k = sameHead a b && sameTags (tab k (tagAt a)) (tab k (tagAt b))
-
-pub record Sized (s : Settings) : Type 0 where
-  pub addresses : length (s .addr) ≡ mostTags
-  pub widths : length (s .width) ≡ mostTags
-  pub signs : length (s .sign) ≡ mostTags
-
-blank-beyond : (s : Settings) (k : ℕ) → Sized s → mostTags ≤ k → tagAt s k ≡ blank
-blank-beyond s k z h =
-    tag-ext (tagAt s k) blank (List·getD-eq-default (s .addr) 0 (omega (arith, z .addresses))) (List·getD-eq-default (s .width) 0 (omega (arith, z .widths)))
-    (List·getD-eq-default (s .sign) 0 (omega (arith, z .signs)))
-
-pub same-none : (a b : Settings) → sameTo a b 0 ≡ sameHead a b
-unfolding tab sameTags
-same-none a b = and-true (sameHead a b)
-
-pub same-turn : (a b : Settings) (k : ℕ) {equal : Bool} → equal ≡ sameTo a b k → (equal && sameTag (tagAt a k) (tagAt b k)) ≡ sameTo a b (k + 1)
-same-turn a b k e = rw (e, same-more (tagAt a) (tagAt b) k) (and-assoc (sameHead a b) (sameTags (tab k (tagAt a)) (tab k (tagAt b))) (sameTag (tagAt a k) (tagAt b k)))
-
-pub same-struct : (a b : Settings) → Sized a → Sized b → same (valueOf a) (valueOf b) ≡ sameTo a b (min (a .tags) mostTags)
-unfolding same valueOf
-same-struct a b y z =
-    ⊎-elim
-    (λ (e : a .tags ≡ b .tags).
-    let q : sameTags (tab (a .tags) (tagAt a)) (tab (b .tags) (tagAt b)) ≡ sameTags (tab (min (a .tags) mostTags) (tagAt a)) (tab (min (a .tags) mostTags) (tagAt b)) =
-    rw (← e) (rw p at (same-beyond (tagAt a) (tagAt b) (min (a .tags) mostTags) (a .tags - mostTags) (λ k l u. blank-beyond a k y (omega arith) ∙ sym (blank-beyond b k z (omega arith)))))
-    in
-    rw (q, eq-eqb (a .tags) (b .tags) e) (simp (and-true, and-assoc)))
-    (λ (e : a .tags ≡ b .tags → ⊥). rw (same-length (tab (a .tags) (tagAt a)) (tab (b .tags) (tagAt b)) (λ q. e (sym (length-tab (a .tags) (tagAt a)) ∙ q ∙ length-tab (b .tags) (tagAt b))), ne-eqb (a .tags) (b .tags) e) (simp and-false))
-    (eq-or (a .tags) (b .tags))
-  where
-    p : min (a .tags) mostTags + (a .tags - mostTags) ≡ a .tags
-    p = omega arith
 
 tags-equal : (ts us : List Tag) → sameTags ts us ≡ true → ts ≡ us
 unfolding sameTags

@@ -11,12 +11,13 @@ use native.Mathlib.Omega.{arith}
 use lib.ListN.{length, getD, take, length-append, length-take}
 use lib.Dec.{eqb, ltb, leb}
 use borrow.Author.Tests.{leb-true, ltb-true, eqb-true, ne-eqb}
-use Rattle.laws.specs.Numbers.{mostTags, leastTimeout, mostTimeout, addresses}
+use Rattle.numbers.specs.Numbers.{mostTags, leastTimeout, mostTimeout, addresses}
 use Rattle.laws.proofs.Choice.{true-or, and-left, and-right, or-second}
 use Rattle.settings.specs.Lines.{Numbered, lineOf, lineIn}
-use Rattle.settings.specs.Grammar.{Tag, Value, Line, Version, Read, headNumbers, valueFrom, numbersIn, addrKey, widthKey, signKey, rightSign, rightWidth, headLines, tagLines, versionOf, versions, timeoutKey, joinKey, tagsKey, versionKey, versionIn, textOfLines, textIn, allRight, tagsRight, validIn, toldIn, readLines, readTags, readIn, readText, readBehind}
+use Rattle.settings.specs.Grammar.{Tag, Value, Line, Version, Read, headNumbers, valueFrom, numbersIn, addrKey, widthKey, signKey, rightSign, rightWidth, headLines, tagLines, versionOf, versions, timeoutKey, joinKey, tagsKey, versionKey, versionIn, textOfLines, textIn, allRight, tagsRight, validIn, toldByVersion, readLines, readTags, readIn, readText, readBehind}
 use Rattle.settings.specs.Grammar.Read.{got, wrong}
-use Rattle.settings.proofs.LineLaws.{numbered, line-length, line-back}
+use Rattle.settings.specs.Plain.{numbered, Versioned}
+use Rattle.settings.proofs.LineLaws.{line-length, line-back}
 use Rattle.settings.proofs.RowLaws.{Bounded, Few, told, lines-back, tagsText, tags-back}
 
 -- what is asked of a version: a line for each number of a value, none that a tag has no number for, and rules that bound the numbers
@@ -121,12 +122,6 @@ pub text-tags : (x : Version) (ns t : List ℕ) (ts : List Tag) → tagsIn x ns 
 unfolding readBehind
 text-tags x ns t ts e = rw (e, readBehind)
 
--- the version line of a text, and the version
-pub record Versioned (t : List ℕ) (y : Numbered) (x : Version) : Type 0 where
-  pub line : lineIn versionKey t ≡ some y
-  pub listed : List·Memᴰ x versions
-  pub number : x .number ≡ y .number
-
 -- how reading a text goes: no listed version, a wrong line before the tags, a wrong line of a tag, an extra byte, or all of it
 pub data Went (t : List ℕ) : Read Value → Type 0 where
   unversioned : ((y : Numbered) → lineIn versionKey t ≡ some y → versionIn versions (y .number) ≡ none) → Went t (wrong 1)
@@ -161,8 +156,8 @@ went t = version (lineIn versionKey t) refl
     version (some y) e = number y e (versionIn versions (y .number)) refl
 
 -- a valid value's text is read to what it tells
-pub back : (x : Version) (v : Value) → Fit x → versionIn versions (x .number) ≡ some x → validIn x v ≡ true → readText (textIn x v) ≡ got (toldIn x v) []
-unfolding textIn validIn toldIn
+pub back : (x : Version) (v : Value) → Fit x → versionIn versions (x .number) ≡ some x → validIn x v ≡ true → readText (textIn x v) ≡ got (toldByVersion x v) []
+unfolding textIn validIn toldByVersion
 back x v f l r =
     let first : Bool = allRight (x .head) [] [] (headNumbers v) in
     let head : List ℕ = textOfLines (x .head) (headNumbers v) in

@@ -6,7 +6,7 @@ use mathlib.Core.Option.{Option, some, none}
 use mathlib.Core.List.{List, [], _∷_, _++_, map, flatMap}
 use lib.ListN.{length, getD, take}
 use lib.Dec.{eqb, ltb, leb}
-use Rattle.laws.specs.Numbers.{mostTags, leastTimeout, mostTimeout, addresses, newestVersion}
+use Rattle.numbers.specs.Numbers.{mostTags, leastTimeout, mostTimeout, addresses, newestVersion}
 use Rattle.settings.specs.Lines.{Numbered, lineOf, lineIn}
 
 -- a settings value: timeout, join, and its tags in their order
@@ -150,13 +150,13 @@ abbrev pub valid : Value → Bool
 valid v = validIn newest v
 
 -- what a version's text tells of a value: the numbers of the lines that it has, and 0 for the others
-unfoldable pub toldIn : Version → Value → Value
-toldIn x v = record { timeout = v .timeout; join = v .join; tags = map (λ (t : Tag). tagFrom (numbersIn (x .tag) t)) (v .tags) }
+unfoldable pub toldByVersion : Version → Value → Value
+toldByVersion x v = record { timeout = v .timeout; join = v .join; tags = map (λ (t : Tag). tagFrom (numbersIn (x .tag) t)) (v .tags) }
 
 -- a line whose number follows a rule
-unfoldable pub kept : (ℕ → Bool) → Option Numbered → Option Numbered
-kept rule none = none
-kept rule (some x) = cond (rule (x .number)) (some x) none
+unfoldable pub ruled : (ℕ → Bool) → Option Numbered → Option Numbered
+ruled rule none = none
+ruled rule (some x) = cond (rule (x .number)) (some x) none
 
 -- what reading comes to: what was read with the text behind it, or the number of the first wrong line
 pub data Read (A : Type 0) : Type 0 where

@@ -3,3 +3,4 @@ pub mod Grammar
 pub mod Plain
 pub mod Values
 pub mod TagWords
+pub mod Examples

@@ -1,12 +1,16 @@
--- The plain words of the theorems on settings: which values are valid, in numbers; which line of a text is the first wrong one, and which value right lines tell, without the reader.
+-- The plain words of the theorems on settings: which values are valid, in numbers; which line of a text is the first wrong one, and which value right lines tell, without the reader; the bounds of a valid value, the line and the version that a text begins with, and the value with the longest text.
 -- Assumes nothing.
 use Prim.Native.Nat.{ℕ, _+_, _*_, _≤_, _<_}
 use mathlib.Core.Path.{_≡_}
 use mathlib.Core.Logic.{_⊎_}
-use mathlib.Core.List.{List, [], _∷_, _++_}
+use mathlib.Core.Option.{some}
+use mathlib.Core.List.{List, [], _∷_, _++_, List·Memᴰ}
 use lib.ListN.{length, getD}
-use Rattle.settings.specs.Grammar.{Tag, Value, versionKey, timeoutKey, joinKey, tagsKey, addrKey, widthKey, signKey}
+use Rattle.numbers.specs.Numbers.{mostTags, leastTimeout, mostTimeout}
+use Rattle.laws.specs.Lists.{tab}
+use Rattle.settings.specs.Grammar.{Tag, Value, versionKey, timeoutKey, joinKey, tagsKey, addrKey, widthKey, signKey, Version, versions}
 use Rattle.settings.specs.declared.Settings.{Settings}
+use Rattle.settings.specs.Lines.{Numbered, lineIn}
 
 -- a tag of a valid value: of width 16 with or without a sign, or of width 32 without one, and within the addresses
 abbrev pub RightTag : Tag → Type 0
@@ -114,3 +118,33 @@ pub record FirstWrong (t : List ℕ) (k : ℕ) : Type 0 where
   pub at : k ≡ length numbers + 1
   pub wrong : Next numbers rest → ⊥
   pub left : AllLines numbers → rest ≡ [] → ⊥
+
+-- a tag has one of the two widths, and a sign only with the first
+abbrev pub Wide : Tag → Type 0
+Wide t = ((t .width ≡ 16) × (t .sign ≡ 0)) ⊎ ((t .width ≡ 32) × (t .sign ≡ 0)) ⊎ ((t .width ≡ 16) × (t .sign ≡ 1))
+
+-- document 01's bounds on a value's numbers
+pub record Bounds (v : Value) : Type 0 where
+  pub least : leastTimeout ≤ v .timeout
+  pub most : v .timeout ≤ mostTimeout
+  pub joins : v .join ≤ 1
+  pub few : length (v .tags) ≤ mostTags
+  pub wide : (i : ℕ) (d : Tag) → i < length (v .tags) → Wide (getD (v .tags) i d)
+
+-- a line's number, and what is behind the line
+abbrev pub numbered : ℕ → List ℕ → Numbered
+numbered n r = record { number = n; rest = r }
+
+-- the version line of a text, and the version
+pub record Versioned (t : List ℕ) (y : Numbered) (x : Version) : Type 0 where
+  pub line : lineIn versionKey t ≡ some y
+  pub listed : List·Memᴰ x versions
+  pub number : x .number ≡ y .number
+
+-- the tag without its sign
+abbrev pub unsigned : Tag → Tag
+unsigned t = record { address = t .address; width = t .width; sign = 0 }
+
+-- a valid value whose text is the longest, in either version
+unfoldable pub full : Value
+full = record { timeout = 60000; join = 1; tags = tab 256 (λ k. record { address = 10000 + k; width = 16; sign = 1 }) }

@@ -4,7 +4,7 @@ use Prim.Native.Nat.{ℕ, _+_, _*_, _-_, _/_, _%_, _<_, _≤_}
 use mathlib.Core.Bool.{cond}
 use mathlib.Core.List.{List, [], _∷_}
 use lib.Dec.{eqb}
-use Rattle.laws.specs.Numbers.{addresses}
+use Rattle.numbers.specs.Numbers.{addresses}
 use Rattle.bcd.specs.declared.Kind.{Kind}
 use Rattle.bcd.specs.declared.Kind.the-variants.{Width16, Width32, Signed16}
 use Rattle.bcd.specs.Bcd.{registers}
@@ -34,8 +34,8 @@ unfoldable pub kindFrom : ℕ → Kind
 kindFrom n = cond (eqb n 1) Width32 (cond (eqb n 2) Signed16 Width16)
 
 -- a tag's word; and the tag of any word
-unfoldable pub wordOf : Tag → ℕ
-wordOf t = t .address + addresses * kindNumber (kindOf t)
+unfoldable pub tagWord : Tag → ℕ
+tagWord t = t .address + addresses * kindNumber (kindOf t)
 
 abbrev pub tagOfKind : ℕ → Kind → Tag
 tagOfKind a k = record { address = a; width = widthOf k; sign = signOf k }

@@ -5,7 +5,7 @@ use mathlib.Core.Bool.{Bool, true, false, _&&_}
 use mathlib.Core.List.{List, [], _∷_, _++_, map}
 use lib.ListN.{length, getD, replicate}
 use lib.Dec.{eqb}
-use Rattle.laws.specs.Numbers.{mostTags, usualTimeout}
+use Rattle.numbers.specs.Numbers.{mostTags, usualTimeout}
 use Rattle.laws.specs.Lists.{tab}
 use Rattle.settings.specs.Grammar.{Tag, Value}
 use Rattle.settings.specs.declared.Settings.{Settings}

@@ -10,9 +10,9 @@ pub struct Settings {
     pub timeout: u32,
     pub join: u32,
     pub tags: u32,
-    pub addr: [u16; laws::MOST_TAGS],
-    pub width: [u16; laws::MOST_TAGS],
-    pub sign: [u16; laws::MOST_TAGS],
+    pub addr: [u16; numbers::MOST_TAGS],
+    pub width: [u16; numbers::MOST_TAGS],
+    pub sign: [u16; numbers::MOST_TAGS],
 }
 
 // The kind of a tag, which its width and its sign decide.

@@ -12,18 +12,18 @@ use lib.ListN.{length, getD, take, drop, length-append, length-drop}
 use lib.Seq.{take-nil, drop-drop, drop-append-seam}
 use lib.Dec.{eqb, ltb, leb}
 use borrow.Author.Tests.{le-leb, lt-leb, leb-true, lt-ltb, le-ltb, ltb-true, ne-eqb}
-use Rattle.laws.specs.Numbers.{addresses}
+use Rattle.numbers.specs.Numbers.{addresses}
 use Rattle.laws.proofs.Choice.{true-or, eq-or, lt-or, and-left, and-right, same-test, never}
 use Rattle.settings.specs.Lines.{Numbered, equals, lineFeed, behind, numberIn, lineIn}
-use Rattle.settings.specs.Grammar.{Tag, Line, line, addrKey, widthKey, signKey, lastRegister, ascends, rightAddr, rightWidth, rightSign, tagLines, versionOf, tagFrom, textOfLines, allRight, Read, readLines, kept}
+use Rattle.settings.specs.Grammar.{Tag, Line, line, addrKey, widthKey, signKey, lastRegister, ascends, rightAddr, rightWidth, rightSign, tagLines, versionOf, tagFrom, textOfLines, allRight, Read, readLines, ruled}
 use Rattle.settings.specs.Grammar.Read.{got, wrong}
 use Rattle.settingstext.specs.declared.reading.LineRead.{LineRead}
 use Rattle.settingstext.specs.declared.reading.LineRead.the-variants.{Numbered as numberedAt, Wrong}
 use Rattle.settingstext.specs.declared.reading.TagRead.{TagRead}
 use Rattle.settingstext.specs.declared.reading.TagRead.the-variants.{Tagged, WrongAt}
-use Rattle.settingstext.specs.Reading.{ceiling, capped, found, lineBehind, within, lowest, placed, placedTag, signRead}
+use Rattle.settingstext.specs.inner.Reading.{ceiling, capped, found, lineBehind, within, lowest, placed, placedTag, signRead}
 use Rattle.settings.proofs.LineLaws.{behind-only, number-read, line-read}
-use Rattle.settings.proofs.RowLaws.{Bounded, kept-rule, line-wrong, line-right, lines-only}
+use Rattle.settings.proofs.RowLaws.{Bounded, ruled-follows, line-wrong, line-right, lines-only}
 use Rattle.settings.proofs.VersionLaws.{widths, Fit, fit}
 
 -- what an answer says of what was read
@@ -39,40 +39,40 @@ replaced text n next (some x) e = (x, refl, cc, cc)
 
 -- a line's answer: the rule keeps it or not, and cannot tell a number that was capped
 
-pub kept-wrong : (text : List ℕ) (rule : ℕ → Bool) (o : Option Numbered) → Wrong ≡ placed text o → Wrong ≡ placed text (kept rule o)
-unfolding placed kept
-kept-wrong text rule none e = e
-kept-wrong text rule (some x) e = never (cc)
+pub ruled-wrong : (text : List ℕ) (rule : ℕ → Bool) (o : Option Numbered) → Wrong ≡ placed text o → Wrong ≡ placed text (ruled rule o)
+unfolding placed ruled
+ruled-wrong text rule none e = e
+ruled-wrong text rule (some x) e = never (cc)
 
 module _ (text : List ℕ) (rule : ℕ → Bool) (n next : ℕ) where
-  pub kept-in : (o : Option Numbered) → numberedAt n next ≡ placed text o → rule n ≡ true → numberedAt n next ≡ placed text (kept rule o)
-  unfolding placed kept
-  kept-in none e t = e
-  kept-in (some x) e t = let q : n ≡ x .number = cc in e ∙ rw (rw q at t)
+  pub ruled-in : (o : Option Numbered) → numberedAt n next ≡ placed text o → rule n ≡ true → numberedAt n next ≡ placed text (ruled rule o)
+  unfolding placed ruled
+  ruled-in none e t = e
+  ruled-in (some x) e t = let q : n ≡ x .number = cc in e ∙ rw (rw q at t)
 
-  pub kept-out : (o : Option Numbered) → numberedAt n next ≡ placed text o → rule n ≡ false → Wrong ≡ placed text (kept rule o)
-  unfolding placed kept
-  kept-out none e t = refl
-  kept-out (some x) e t = let q : n ≡ x .number = cc in rw (rw q at t)
+  pub ruled-out : (o : Option Numbered) → numberedAt n next ≡ placed text o → rule n ≡ false → Wrong ≡ placed text (ruled rule o)
+  unfolding placed ruled
+  ruled-out none e t = refl
+  ruled-out (some x) e t = let q : n ≡ x .number = cc in rw (rw q at t)
 
-pub kept-ext : (rule rule′ : ℕ → Bool) → ((n : ℕ) → rule n ≡ rule′ n) → (o : Option Numbered) → kept rule o ≡ kept rule′ o
-unfolding kept
-kept-ext rule rule′ h none = refl
-kept-ext rule rule′ h (some x) = rw (h (x .number))
+pub ruled-ext : (rule rule′ : ℕ → Bool) → ((n : ℕ) → rule n ≡ rule′ n) → (o : Option Numbered) → ruled rule o ≡ ruled rule′ o
+unfolding ruled
+ruled-ext rule rule′ h none = refl
+ruled-ext rule rule′ h (some x) = rw (h (x .number))
 
-pub kept-kept : (rule rule′ : ℕ → Bool) → ((n : ℕ) → rule n ≡ true → rule′ n ≡ true) → (o : Option Numbered) → kept rule (kept rule′ o) ≡ kept rule o
-unfolding kept
-kept-kept rule rule′ h none = refl
-kept-kept rule rule′ h (some x) =
+pub ruled-twice : (rule rule′ : ℕ → Bool) → ((n : ℕ) → rule n ≡ true → rule′ n ≡ true) → (o : Option Numbered) → ruled rule (ruled rule′ o) ≡ ruled rule o
+unfolding ruled
+ruled-twice rule rule′ h none = refl
+ruled-twice rule rule′ h (some x) =
     ⊎-elim
     (λ (t : rule (x .number) ≡ true). rw (h (x .number) t, t))
     (λ (t : rule (x .number) ≡ false). rw t (⊎-elim (λ (u : rule′ (x .number) ≡ true). rw (u, t)) (λ (u : rule′ (x .number) ≡ false). rw u) (true-or (rule′ (x .number)))))
     (true-or (rule (x .number)))
 
-pub kept-capped : (rule : ℕ → Bool) → ((n : ℕ) → rule n ≡ true → n < ceiling) → (o : Option Numbered) → kept rule (capped o) ≡ kept rule o
-unfolding kept capped
-kept-capped rule h none = refl
-kept-capped rule h (some x) =
+pub ruled-capped : (rule : ℕ → Bool) → ((n : ℕ) → rule n ≡ true → n < ceiling) → (o : Option Numbered) → ruled rule (capped o) ≡ ruled rule o
+unfolding ruled capped
+ruled-capped rule h none = refl
+ruled-capped rule h (some x) =
     ⊎-elim
     (λ (l : x .number < ceiling). let q : min (x .number) ceiling ≡ x .number = omega arith in rw q)
     (λ (l : ceiling ≤ x .number). let q : min (x .number) ceiling ≡ ceiling = omega arith in rw (q, above ceiling (omega arith), above (x .number) l))
@@ -108,24 +108,24 @@ within-below least most n h t = omega (arith, leb-true n most (and-right (leb le
 -- the outcomes of reading one line
 module _ (key text : List ℕ) (at least most : ℕ) (small : most < ceiling) where
   abbrev read : Option Numbered
-  read = kept (within least most) (lineBehind key (drop at text))
+  read = ruled (within least most) (lineBehind key (drop at text))
 
   pub line-unkeyed : found (behind key (drop at text)) ≡ false → Wrong ≡ placed text read
-  unfolding placed kept
+  unfolding placed ruled
   line-unkeyed f = rw (key-missing key text at f)
 
   module _ (f : found (behind key (drop at text)) ≡ true) where
-    uncapped : kept (within least most) (capped (numberIn (drop (at + length key) text))) ≡ read
-    uncapped = kept-capped (within least most) (λ n t. within-below least most n small t) _ ∙ ap (kept (within least most)) (sym (key-found key text at f))
+    uncapped : ruled (within least most) (capped (numberIn (drop (at + length key) text))) ≡ read
+    uncapped = ruled-capped (within least most) (λ n t. within-below least most n small t) _ ∙ ap (ruled (within least most)) (sym (key-found key text at f))
 
     pub line-unnumbered : Wrong ≡ placed text (capped (numberIn (drop (at + length key) text))) → Wrong ≡ placed text read
-    line-unnumbered e = rw uncapped at (kept-wrong text (within least most) _ e)
+    line-unnumbered e = rw uncapped at (ruled-wrong text (within least most) _ e)
 
     pub line-kept : (n next : ℕ) → numberedAt n next ≡ placed text (capped (numberIn (drop (at + length key) text))) → within least most n ≡ true → numberedAt n next ≡ placed text read
-    line-kept n next e t = rw uncapped at (kept-in text (within least most) n next _ e t)
+    line-kept n next e t = rw uncapped at (ruled-in text (within least most) n next _ e t)
 
     pub line-left : (n next : ℕ) → numberedAt n next ≡ placed text (capped (numberIn (drop (at + length key) text))) → within least most n ≡ false → Wrong ≡ placed text read
-    line-left n next e t = rw uncapped at (kept-out text (within least most) n next _ e t)
+    line-left n next e t = rw uncapped at (ruled-out text (within least most) n next _ e t)
 
 -- the place behind a line is where its rest begins
 
@@ -149,23 +149,23 @@ key-line key t = refl
 -- a line's answer is a step of reading several: a wrong line, a right one
 module _ (text : List ℕ) (at k : ℕ) (l : Line) (ls : List Line) (prior own : List ℕ) (rule : ℕ → Bool) (alike : (n : ℕ) → rule n ≡ l .right prior own n) where
   abbrev answer : LineRead
-  answer = placed text (kept rule (lineBehind (l .key ++ (equals ∷ [])) (drop at text)))
+  answer = placed text (ruled rule (lineBehind (l .key ++ (equals ∷ [])) (drop at text)))
 
-  abbrev ruled : Option Numbered
-  ruled = kept (l .right prior own) (lineIn (l .key) (drop at text))
+  abbrev ruledLine : Option Numbered
+  ruledLine = ruled (l .right prior own) (lineIn (l .key) (drop at text))
 
-  answered : answer ≡ placed text ruled
-  answered = ap (placed text) (kept-ext rule (l .right prior own) alike _ ∙ ap (kept (l .right prior own)) (key-line (l .key) (drop at text)))
+  answered : answer ≡ placed text ruledLine
+  answered = ap (placed text) (ruled-ext rule (l .right prior own) alike _ ∙ ap (ruled (l .right prior own)) (key-line (l .key) (drop at text)))
 
   pub read-stop : Wrong ≡ answer → readLines k (l ∷ ls) prior own (drop at text) ≡ wrong k
-  read-stop e = line-wrong k l ls prior own (drop at text) (unplaced text ruled (e ∙ answered))
+  read-stop e = line-wrong k l ls prior own (drop at text) (unplaced text ruledLine (e ∙ answered))
 
   pub read-step : (n next : ℕ) → at ≤ length text → numberedAt n next ≡ answer → readLines k (l ∷ ls) prior own (drop at text) ≡ readLines (suc k) ls prior (own ++ (n ∷ [])) (drop next text)
-  read-step n next h e = let x = replaced text n next ruled (e ∙ answered) in go (x .0) (x .1) (x .2) (x .3)
+  read-step n next h e = let x = replaced text n next ruledLine (e ∙ answered) in go (x .0) (x .1) (x .2) (x .3)
     where
-      go : (x : Numbered) → ruled ≡ some x → n ≡ x .number → next ≡ length text - length (x .rest) → readLines k (l ∷ ls) prior own (drop at text) ≡ readLines (suc k) ls prior (own ++ (n ∷ [])) (drop next text)
+      go : (x : Numbered) → ruledLine ≡ some x → n ≡ x .number → next ≡ length text - length (x .rest) → readLines k (l ∷ ls) prior own (drop at text) ≡ readLines (suc k) ls prior (own ++ (n ∷ [])) (drop next text)
       go x r p q =
-          let behind = line-placed (l .key) text at x h (kept-rule (l .right prior own) (lineIn (l .key) (drop at text)) x r .0) in
+          let behind = line-placed (l .key) text at x h (ruled-follows (l .right prior own) (lineIn (l .key) (drop at text)) x r .0) in
           line-right k l ls prior own (drop at text) x r ∙ rw (p, q, behind)
 
 -- the rules as ranges
@@ -196,16 +196,16 @@ width-rule own n t =
 pub placed-inside : (text : List ℕ) (n next : ℕ) (o : Option Numbered) → numberedAt n next ≡ placed text o → next ≤ length text
 placed-inside text n next o e = omega (arith, replaced text n next o e .3)
 
-pub placed-most : (text : List ℕ) (least most n next : ℕ) (o : Option Numbered) → numberedAt n next ≡ placed text (kept (within least most) o) → n ≤ most
+pub placed-most : (text : List ℕ) (least most n next : ℕ) (o : Option Numbered) → numberedAt n next ≡ placed text (ruled (within least most) o) → n ≤ most
 placed-most text least most n next o e =
-    let x = replaced text n next (kept (within least most) o) e in
-    let t = kept-rule (within least most) o (x .0) (x .1) .1 in
+    let x = replaced text n next (ruled (within least most) o) e in
+    let t = ruled-follows (within least most) o (x .0) (x .1) .1 in
     rw (x .2) (leb-true (x .0 .number) most (and-right (leb least (x .0 .number)) _ t))
 
-pub placed-least : (text : List ℕ) (least most n next : ℕ) (o : Option Numbered) → numberedAt n next ≡ placed text (kept (within least most) o) → least ≤ n
+pub placed-least : (text : List ℕ) (least most n next : ℕ) (o : Option Numbered) → numberedAt n next ≡ placed text (ruled (within least most) o) → least ≤ n
 placed-least text least most n next o e =
-    let x = replaced text n next (kept (within least most) o) e in
-    let t = kept-rule (within least most) o (x .0) (x .1) .1 in
+    let x = replaced text n next (ruled (within least most) o) e in
+    let t = ruled-follows (within least most) o (x .0) (x .1) .1 in
     rw (x .2) (leb-true least (x .0 .number) (and-left (leb least (x .0 .number)) _ t))
 
 -- the sign's rule is a range by the width
@@ -220,10 +220,10 @@ pub sign-small : (width : ℕ) → cond (eqb width 16) 1 0 ≤ 1
 sign-small width = ⊎-elim (λ e. rw e (omega arith)) (λ e. rw e (omega arith)) (true-or (eqb width 16))
 
 pub sign-read : (text : List ℕ) (v width at : ℕ) → 2 ≤ v
-    → placed text (kept (within 0 (cond (eqb width 16) 1 0)) (lineBehind (signKey ++ (equals ∷ [])) (drop at text))) ≡ signRead v width at text
+    → placed text (ruled (within 0 (cond (eqb width 16) 1 0)) (lineBehind (signKey ++ (equals ∷ [])) (drop at text))) ≡ signRead v width at text
 unfolding signRead
 sign-read text v width at l =
-    ap (placed text) (kept-ext (within 0 (cond (eqb width 16) 1 0)) (rightSign (0 ∷ width ∷ [])) (sign-rule width) _ ∙ ap (kept (rightSign (0 ∷ width ∷ []))) (key-line signKey (drop at text)))
+    ap (placed text) (ruled-ext (within 0 (cond (eqb width 16) 1 0)) (rightSign (0 ∷ width ∷ [])) (sign-rule width) _ ∙ ap (ruled (rightSign (0 ∷ width ∷ []))) (key-line signKey (drop at text)))
     ∙ rw (le-ltb v 2 l)
 
 -- the outcomes of reading a tag's lines
@@ -243,7 +243,7 @@ laterLines m = take m (signLine ∷ [])
 
 module _ (text : List ℕ) (at number least : ℕ) (inside : at ≤ length text) (prior : List ℕ) (low : least ≡ lowest prior) where
   abbrev addressAnswer : LineRead
-  addressAnswer = placed text (kept (within least (addresses - 1)) (lineBehind (addrKey ++ (equals ∷ [])) (drop at text)))
+  addressAnswer = placed text (ruled (within least (addresses - 1)) (lineBehind (addrKey ++ (equals ∷ [])) (drop at text)))
 
   abbrev tagAnswer : ℕ → TagRead
   tagAnswer v = placedTag text (readLines number (versionOf v .tag) prior [] (drop at text))
@@ -258,41 +258,41 @@ module _ (text : List ℕ) (at number least : ℕ) (inside : at ≤ length text)
 
   module _ (address second : ℕ) (first : numberedAt address second ≡ addressAnswer) where
     abbrev widthAnswer : LineRead
-    widthAnswer = placed text (kept (within 16 32) (lineBehind (widthKey ++ (equals ∷ [])) (drop second text)))
+    widthAnswer = placed text (ruled (within 16 32) (lineBehind (widthKey ++ (equals ∷ [])) (drop second text)))
 
     fit-in : ℕ → Bool
     fit-in n = rightWidth (address ∷ []) n
 
-    narrowed : kept fit-in (kept (within 16 32) (lineBehind (widthKey ++ (equals ∷ [])) (drop second text))) ≡ kept fit-in (lineBehind (widthKey ++ (equals ∷ [])) (drop second text))
+    narrowed : ruled fit-in (ruled (within 16 32) (lineBehind (widthKey ++ (equals ∷ [])) (drop second text))) ≡ ruled fit-in (lineBehind (widthKey ++ (equals ∷ [])) (drop second text))
     unfolding fit-in
-    narrowed = kept-kept fit-in (within 16 32) (width-rule (address ∷ [])) _
+    narrowed = ruled-twice fit-in (within 16 32) (width-rule (address ∷ [])) _
 
     addressed : (m : ℕ) → readLines number (versionOf (suc m) .tag) prior [] (drop at text) ≡ readLines (suc number) (widthLine ∷ laterLines m) prior (address ∷ []) (drop second text)
     addressed m = read-step text at number addressLine (widthLine ∷ laterLines m) prior [] (within least (addresses - 1)) ruled-by address second inside first
 
-    stopped : (v : ℕ) → 1 ≤ v → Wrong ≡ placed text (kept fit-in (kept (within 16 32) (lineBehind (widthKey ++ (equals ∷ [])) (drop second text)))) → WrongAt (number + 1) ≡ tagAnswer v
+    stopped : (v : ℕ) → 1 ≤ v → Wrong ≡ placed text (ruled fit-in (ruled (within 16 32) (lineBehind (widthKey ++ (equals ∷ [])) (drop second text)))) → WrongAt (number + 1) ≡ tagAnswer v
     unfolding fit-in placedTag
     stopped zero l e = absurd (omega arith)
     stopped (suc m) l e =
         sym (ap (placedTag text) (addressed m ∙ read-stop text second (suc number) widthLine (laterLines m) prior (address ∷ []) fit-in (λ n. refl) (rw narrowed at e)) ∙ rw (add-one number))
 
     pub tag-unwidthed : (v : ℕ) → 1 ≤ v → Wrong ≡ widthAnswer → WrongAt (number + 1) ≡ tagAnswer v
-    tag-unwidthed v l e = stopped v l (kept-wrong text fit-in _ e)
+    tag-unwidthed v l e = stopped v l (ruled-wrong text fit-in _ e)
 
     module _ (width third : ℕ) (last : numberedAt width third ≡ widthAnswer) where
       pub tag-unfit : (v : ℕ) → 1 ≤ v → rightWidth (address ∷ []) width ≡ false → WrongAt (number + 1) ≡ tagAnswer v
       unfolding fit-in
-      tag-unfit v l f = stopped v l (kept-out text fit-in width third _ last f)
+      tag-unfit v l f = stopped v l (ruled-out text fit-in width third _ last f)
 
       module _ (t : rightWidth (address ∷ []) width ≡ true) where
         widened : (m : ℕ) → readLines number (versionOf (suc m) .tag) prior [] (drop at text) ≡ readLines (suc (suc number)) (laterLines m) prior (address ∷ width ∷ []) (drop third text)
         unfolding fit-in
         widened m =
-            let e : numberedAt width third ≡ placed text (kept fit-in (lineBehind (widthKey ++ (equals ∷ [])) (drop second text))) = rw narrowed at (kept-in text fit-in width third _ last t) in
+            let e : numberedAt width third ≡ placed text (ruled fit-in (lineBehind (widthKey ++ (equals ∷ [])) (drop second text))) = rw narrowed at (ruled-in text fit-in width third _ last t) in
             addressed m ∙ read-step text second (suc number) widthLine (laterLines m) prior (address ∷ []) fit-in (λ n. refl) width third (placed-inside text address second _ first) e
 
         -- from version 2 on the sign's line is asked for
-        sign-asked : (m : ℕ) → signRead (suc (suc m)) width third text ≡ placed text (kept (rightSign (0 ∷ width ∷ [])) (lineBehind (signKey ++ (equals ∷ [])) (drop third text)))
+        sign-asked : (m : ℕ) → signRead (suc (suc m)) width third text ≡ placed text (ruled (rightSign (0 ∷ width ∷ [])) (lineBehind (signKey ++ (equals ∷ [])) (drop third text)))
         unfolding signRead
         sign-asked m = rw (le-ltb (suc (suc m)) 2 (omega arith), key-line signKey (drop third text))
 

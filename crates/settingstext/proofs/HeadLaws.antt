@@ -10,22 +10,22 @@ use native.Mathlib.Omega.{arith}
 use lib.ListN.{length, drop}
 use lib.Dec.{leb}
 use borrow.Author.Tests.{le-leb, leb-true, ne-eqb}
-use Rattle.laws.specs.Numbers.{newestVersion, leastTimeout, mostTimeout, mostTags}
+use Rattle.numbers.specs.Numbers.{newestVersion, leastTimeout, mostTimeout, mostTags}
 use Rattle.laws.proofs.Choice.{true-or, eq-or, and-left, and-right}
 use Rattle.settings.specs.Lines.{Numbered, equals, lineIn}
-use Rattle.settings.specs.Grammar.{Value, Read, Line, line, versionKey, timeoutKey, joinKey, tagsKey, rightTimeout, rightJoin, rightTags, headLines, versions, versionOf, versionIn, readLines, readIn, readText, readBehind, kept}
+use Rattle.settings.specs.Grammar.{Value, Read, Line, line, versionKey, timeoutKey, joinKey, tagsKey, rightTimeout, rightJoin, rightTags, headLines, versions, versionOf, versionIn, readLines, readIn, readText, readBehind, ruled}
 use Rattle.settings.specs.Grammar.Read.{wrong}
 use Rattle.settingstext.specs.declared.reading.LineRead.{LineRead}
 use Rattle.settingstext.specs.declared.reading.LineRead.the-variants.{Numbered as numberedAt, Wrong}
 use Rattle.settingstext.specs.declared.reading.Head.{Head}
-use Rattle.settingstext.specs.Reading.{lineBehind, within, placed, stoppedAt, Headed}
-use Rattle.settings.proofs.RowLaws.{kept-rule}
+use Rattle.settingstext.specs.inner.Reading.{lineBehind, within, placed, stoppedAt, Headed}
+use Rattle.settings.proofs.RowLaws.{ruled-follows}
 use Rattle.settings.proofs.VersionLaws.{text-version, text-head}
 use Rattle.settingstext.proofs.AnswerLaws.{unplaced, replaced, placed-inside, placed-least, placed-most, key-line, line-placed, read-stop, read-step}
 
 -- the answer of the code's line reader
 abbrev pub asked : List ℕ → ℕ → List ℕ → ℕ → ℕ → LineRead
-asked text at key least most = placed text (kept (within least most) (lineBehind (key ++ (equals ∷ [])) (drop at text)))
+asked text at key least most = placed text (ruled (within least most) (lineBehind (key ++ (equals ∷ [])) (drop at text)))
 
 abbrev timeoutLine : Line
 timeoutLine = line timeoutKey (λ prior own n. rightTimeout n)
@@ -54,24 +54,24 @@ from-zero : (most n : ℕ) → within 0 most n ≡ leb n most
 from-zero most n = rw (le-leb 0 n (omega arith))
 
 pub version-stop : (text : List ℕ) → Wrong ≡ asked text 0 versionKey 1 newestVersion → readText text ≡ wrong 1
-unfolding readText kept
+unfolding readText ruled
 version-stop text e = go (lineIn versionKey text) refl
   where
-    unkept : kept (within 1 newestVersion) (lineIn versionKey text) ≡ none
-    unkept = unplaced text _ (e ∙ ap (λ o. placed text (kept (within 1 newestVersion) o)) (key-line versionKey text))
+    unruled : ruled (within 1 newestVersion) (lineIn versionKey text) ≡ none
+    unruled = unplaced text _ (e ∙ ap (λ o. placed text (ruled (within 1 newestVersion) o)) (key-line versionKey text))
 
     go : (o : Option Numbered) → lineIn versionKey text ≡ o → readText text ≡ wrong 1
     go none q = rw (q, readText)
     go (some x) q =
         ⊎-elim
-        (λ (t : within 1 newestVersion (x .number) ≡ true). absurd (Option·some-ne-none x (rw (q, t) at unkept)))
+        (λ (t : within 1 newestVersion (x .number) ≡ true). absurd (Option·some-ne-none x (rw (q, t) at unruled)))
         (λ (t : within 1 newestVersion (x .number) ≡ false). rw (q, readText) (rw (version-unlisted (x .number) t)))
         (true-or (within 1 newestVersion (x .number)))
 
 pub version-read : (text : List ℕ) (n second : ℕ) → numberedAt n second ≡ asked text 0 versionKey 1 newestVersion → readText text ≡ readIn (versionOf n) (drop second text)
 version-read text n second e =
-    let x = replaced text n second _ (e ∙ ap (λ o. placed text (kept (within 1 newestVersion) o)) (key-line versionKey text)) in
-    go (x .0) (kept-rule (within 1 newestVersion) (lineIn versionKey text) (x .0) (x .1)) (x .2) (x .3)
+    let x = replaced text n second _ (e ∙ ap (λ o. placed text (ruled (within 1 newestVersion) o)) (key-line versionKey text)) in
+    go (x .0) (ruled-follows (within 1 newestVersion) (lineIn versionKey text) (x .0) (x .1)) (x .2) (x .3)
   where
     go : (x : Numbered) → (lineIn versionKey text ≡ some x) × (within 1 newestVersion (x .number) ≡ true) → n ≡ x .number → second ≡ length text - length (x .rest) → readText text ≡ readIn (versionOf n) (drop second text)
     go x k m p =

@@ -11,12 +11,12 @@ use lib.ListN.{length, drop, set, replicate, length-append, length-drop}
 use lib.Seq.{drop-length, length-take-le}
 use lib.Dec.{eqb}
 use borrow.Author.Tests.{eq-eqb, ne-eqb}
-use Rattle.laws.specs.Numbers.{mostTags, newestVersion}
+use Rattle.numbers.specs.Numbers.{mostTags, newestVersion}
 use Rattle.settings.specs.Grammar.{Tag, Value, Read, versionOf, tagFrom, readLines, readTags, readBehind, readText, tagLines}
 use Rattle.settings.specs.Grammar.Read.{got, wrong}
 use Rattle.settings.specs.Values.{settings, padded, settingsOf}
 use Rattle.settingstext.specs.TextRead.{reported, answered}
-use Rattle.settingstext.specs.Reading.{lowest, placedTag, Headed, wrongLine}
+use Rattle.settingstext.specs.inner.Reading.{lowest, placedTag, Headed, wrongLine}
 use Rattle.settingstext.specs.declared.reading.Head.{Head}
 use Rattle.settings.specs.declared.Settings.{Settings}
 use Rattle.settingstext.specs.declared.reading.ReadText.{ReadText}

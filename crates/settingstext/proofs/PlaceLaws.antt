@@ -15,7 +15,7 @@ use borrow.Author.Tests.{eq-eqb, ne-eqb, le-leb, le-ltb, eqb-true, eqb-false, lt
 use Rattle.laws.proofs.Choice.{true-or, eq-or, and-left, and-right, or-left, or-right, or-second}
 use Rattle.settings.specs.Lines.{Numbered, lineFeed, digitZero, digitNine, isDigit, leading, trailing, plain, numberFrom, behind, numberIn}
 use Rattle.settingstext.specs.declared.reading.LineRead.the-variants.{Numbered as numberedAt, Wrong}
-use Rattle.settingstext.specs.Reading.{ceiling, capped, found, placed}
+use Rattle.settingstext.specs.inner.Reading.{ceiling, capped, found, placed}
 use Rattle.settings.proofs.LineLaws.{digit-range, digit-first, digits-then, digits-lead, number-then, number-grows, number-ends, number-unended, number-unplain}
 use Rattle.laws.proofs.ListLaws.{nothing}
 

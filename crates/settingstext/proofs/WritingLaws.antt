@@ -21,7 +21,7 @@ use Rattle.settings.specs.declared.Settings.{Settings}
 use Rattle.settings.specs.Values.{valueOf}
 use Rattle.settingstext.specs.TextWritten.{writing, writtenTo}
 use Rattle.settingstext.specs.declared.writing.Wrote.the-variants.{Text, TooShort, Invalid}
-use Rattle.settingstext.specs.Parts.{Laid, headText, tagText, tagsText}
+use Rattle.settingstext.specs.inner.Parts.{Laid, headText, tagText, tagsText}
 use Rattle.settings.proofs.ValueLaws.{tagAt}
 use Rattle.laws.proofs.ByteLaws.{overAt-none, overAt-paste, length-overAt, overAt-front, overAt-behind, overAt-over}
 

@@ -1,4 +1,3 @@
 pub mod TextRead
-pub mod Reading
 pub mod TextWritten
-pub mod Parts
+pub mod inner

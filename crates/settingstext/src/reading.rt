@@ -6,12 +6,12 @@ ghost use Prim.Native.Nat.{ℕ, _+_, _*_, _-_, _≤_, _<_, min};
 ghost use lib.Dec.{eqb};
 ghost use lib.ListN.{length, drop};
 ghost use Rattle.settings.specs.Lines.{behind, numberIn};
-ghost use Rattle.laws.specs.Numbers.{newestVersion};
+ghost use Rattle.numbers.specs.Numbers.{newestVersion};
 ghost use Rattle.settings.specs.Grammar.{versionOf, readLines, readIn, readText};
 ghost use Rattle.settings.specs.Values.{settings};
 ghost use Rattle.settingstext.specs.TextRead.{reported, answered};
-ghost use Rattle.settings.specs.Grammar.{kept};
-ghost use Rattle.settingstext.specs.Reading.{ceiling, found, capped, placed, within, lineBehind, lowest, placedTag, signRead, stoppedAt, Headed, wrongLine};
+ghost use Rattle.settings.specs.Grammar.{ruled};
+ghost use Rattle.settingstext.specs.inner.Reading.{ceiling, found, capped, placed, within, lineBehind, lowest, placedTag, signRead, stoppedAt, Headed, wrongLine};
 use settings::Settings;
 
 // What reading a text comes to: line 0 and the value, or the first wrong line and the usual value.
@@ -87,7 +87,7 @@ fn number_at(text: &[u8], at: usize) -> LineRead
 // The line with this key at a place, if its number is one of least to most.
 fn line_at(text: &[u8], at: usize, key: &[u8], least: u32, most: u32) -> LineRead
     requires { ⌜ (at ≤ length (now text)) × (most < ceiling) ⌝ }
-    ensures { λ r. ⌜ r ≡ placed (now (text .entry)) (kept (within least most) (lineBehind (now (key .entry)) (drop at (now (text .entry))))) ⌝ }
+    ensures { λ r. ⌜ r ≡ placed (now (text .entry)) (ruled (within least most) (lineBehind (now (key .entry)) (drop at (now (text .entry))))) ⌝ }
 {
     if !begins(text, at, key) {
         return LineRead::Wrong;
@@ -130,14 +130,14 @@ fn tag_at(text: &[u8], at: usize, version: u32, line: u32, least: u32) -> TagRea
         at,
         b"addr=",
         least,
-        laws::ADDRESSES - 1,
+        numbers::ADDRESSES - 1,
     ) else {
         return TagRead::WrongAt(line);
     };
     let LineRead::Numbered(width, third) = line_at(text, second, b"width=", 16, 32) else {
         return TagRead::WrongAt(line + 1);
     };
-    if !((width == 16) | ((width == 32) & (address + 1 < laws::ADDRESSES))) {
+    if !((width == 16) | ((width == 32) & (address + 1 < numbers::ADDRESSES))) {
         return TagRead::WrongAt(line + 1);
     }
     let LineRead::Numbered(sign, next) = sign_at(text, third, version, width) else {
@@ -162,8 +162,8 @@ fn stopped_at(line: u32) -> Head
 {
     Head {
         wrong: line,
-        version: laws::NEWEST_VERSION,
-        timeout: laws::USUAL_TIMEOUT,
+        version: numbers::NEWEST_VERSION,
+        timeout: numbers::USUAL_TIMEOUT,
         join: 1,
         tags: 0,
         next: 0,
@@ -179,16 +179,21 @@ fn read_in(text: &[u8], start: usize, version: u32) -> Head
         text,
         start,
         b"timeout=",
-        laws::LEAST_TIMEOUT,
-        laws::MOST_TIMEOUT,
+        numbers::LEAST_TIMEOUT,
+        numbers::MOST_TIMEOUT,
     ) else {
         return stopped_at(2);
     };
     let LineRead::Numbered(join, fourth) = line_at(text, third, b"join=", 0, 1) else {
         return stopped_at(3);
     };
-    let LineRead::Numbered(tags, next) = line_at(text, fourth, b"tags=", 0, laws::MOST_TAGS as u32)
-    else {
+    let LineRead::Numbered(tags, next) = line_at(
+        text,
+        fourth,
+        b"tags=",
+        0,
+        numbers::MOST_TAGS as u32,
+    ) else {
         return stopped_at(4);
     };
     Head {
@@ -205,8 +210,13 @@ fn read_in(text: &[u8], start: usize, version: u32) -> Head
 fn read_head(text: &[u8]) -> Head
     ensures { λ r. ⌜ Headed (readText (now (text .entry))) (now (text .entry)) r ⌝ }
 {
-    let LineRead::Numbered(version, next) = line_at(text, 0, b"version=", 1, laws::NEWEST_VERSION)
-    else {
+    let LineRead::Numbered(version, next) = line_at(
+        text,
+        0,
+        b"version=",
+        1,
+        numbers::NEWEST_VERSION,
+    ) else {
         return stopped_at(1);
     };
     read_in(text, next, version)
@@ -227,17 +237,17 @@ fn first_wrong(stopped: u32, line: u32, ended: bool) -> u32
 fn answer(
     wrong: u32,
     mut head: Head,
-    mut addr: [u16; laws::MOST_TAGS],
-    mut width: [u16; laws::MOST_TAGS],
-    mut sign: [u16; laws::MOST_TAGS],
+    mut addr: [u16; numbers::MOST_TAGS],
+    mut width: [u16; numbers::MOST_TAGS],
+    mut sign: [u16; numbers::MOST_TAGS],
 ) -> ReadText
     ensures { λ r. ⌜ r ≡ answered wrong (settings (head .timeout) (head .join) (head .tags) addr width sign) ⌝ }
 {
     if wrong != 0 {
         head = stopped_at(wrong);
-        addr = [0u16; laws::MOST_TAGS];
-        width = [0u16; laws::MOST_TAGS];
-        sign = [0u16; laws::MOST_TAGS];
+        addr = [0u16; numbers::MOST_TAGS];
+        width = [0u16; numbers::MOST_TAGS];
+        sign = [0u16; numbers::MOST_TAGS];
     }
     let settings = Settings {
         timeout: head.timeout,
@@ -259,9 +269,9 @@ pub fn read_text(text: &[u8]) -> ReadText
 {
     let head = read_head(text);
     let count = head.tags as usize;
-    let mut addr = [0u16; laws::MOST_TAGS];
-    let mut width = [0u16; laws::MOST_TAGS];
-    let mut sign = [0u16; laws::MOST_TAGS];
+    let mut addr = [0u16; numbers::MOST_TAGS];
+    let mut width = [0u16; numbers::MOST_TAGS];
+    let mut sign = [0u16; numbers::MOST_TAGS];
     let mut stopped = head.wrong;
     let mut at = head.next;
     let mut line: u32 = 5;

@@ -3,12 +3,12 @@ ghost use mathlib.Core.Path.{_≡_};
 ghost use mathlib.Core.List.{[], _∷_};
 ghost use Prim.Native.Nat.{_+_, _%_, _≤_, _<_};
 ghost use lib.ListN.{length};
-ghost use Rattle.laws.specs.Numbers.{mostTags};
+ghost use Rattle.numbers.specs.Numbers.{mostTags};
 ghost use Rattle.settings.specs.Lines.{digitZero, decimal, lineOf};
 ghost use Rattle.settings.specs.Grammar.{newest, textIn};
 ghost use Rattle.settings.specs.Values.{settings, listed, valueOf};
 ghost use Rattle.settingstext.specs.TextWritten.{writing, writtenTo};
-ghost use Rattle.settingstext.specs.Parts.{Laid, headText, tagText, tagsText};
+ghost use Rattle.settingstext.specs.inner.Parts.{Laid, headText, tagText, tagsText};
 use values::is_valid;
 
 // What writing comes to: the text's length, or a refusal: the buffer is too short, the value is invalid.
@@ -40,7 +40,7 @@ fn line_length(key: &[u8], n: u32) -> usize
 fn head_length(timeout: u32, join: u32, tags: u32) -> usize
     ensures { λ r. ⌜ r ≡ length (headText timeout join tags) ⌝ }
 {
-    line_length(b"version", laws::NEWEST_VERSION)
+    line_length(b"version", numbers::NEWEST_VERSION)
         + line_length(b"timeout", timeout)
         + line_length(b"join", join)
         + line_length(b"tags", tags)
@@ -58,9 +58,9 @@ fn text_length<'a>(
     timeout: u32,
     join: u32,
     tags: u32,
-    addr: &'a [u16; laws::MOST_TAGS],
-    width: &'a [u16; laws::MOST_TAGS],
-    sign: &'a [u16; laws::MOST_TAGS],
+    addr: &'a [u16; numbers::MOST_TAGS],
+    width: &'a [u16; numbers::MOST_TAGS],
+    sign: &'a [u16; numbers::MOST_TAGS],
 ) -> usize
     requires { ⌜ tags ≤ mostTags ⌝ }
     ensures { λ r. ⌜ r ≡ length (textIn newest (valueOf (settings timeout join tags (now (addr .entry)) (now (width .entry)) (now (sign .entry))))) ⌝ }
@@ -132,7 +132,7 @@ fn write_head(timeout: u32, join: u32, tags: u32, text: &mut [u8]) -> usize
     requires { ⌜ length (headText timeout join tags) ≤ length (now text) ⌝ }
     ensures { λ r. ⌜ Laid (headText timeout join tags) 0 (now (text .entry)) (now (text .exit)) r ⌝ }
 {
-    let second = write_line(b"version", laws::NEWEST_VERSION, 0, text);
+    let second = write_line(b"version", numbers::NEWEST_VERSION, 0, text);
     let third = write_line(b"timeout", timeout, second, text);
     let fourth = write_line(b"join", join, third, text);
     write_line(b"tags", tags, fourth, text)
@@ -149,9 +149,9 @@ fn write_tag(address: u16, width: u16, sign: u16, at: usize, text: &mut [u8]) ->
 
 fn write_tags<'a>(
     tags: u32,
-    addr: &'a [u16; laws::MOST_TAGS],
-    width: &'a [u16; laws::MOST_TAGS],
-    sign: &'a [u16; laws::MOST_TAGS],
+    addr: &'a [u16; numbers::MOST_TAGS],
+    width: &'a [u16; numbers::MOST_TAGS],
+    sign: &'a [u16; numbers::MOST_TAGS],
     at: usize,
     text: &mut [u8],
 ) -> usize
@@ -172,9 +172,9 @@ pub fn write_text<'a>(
     timeout: u32,
     join: u32,
     tags: u32,
-    addr: &'a [u16; laws::MOST_TAGS],
-    width: &'a [u16; laws::MOST_TAGS],
-    sign: &'a [u16; laws::MOST_TAGS],
+    addr: &'a [u16; numbers::MOST_TAGS],
+    width: &'a [u16; numbers::MOST_TAGS],
+    sign: &'a [u16; numbers::MOST_TAGS],
     text: &mut [u8],
 ) -> Wrote
     ensures { λ r. ⌜ writing r (now (text .exit)) ≡ writtenTo (valueOf (settings timeout join tags (now (addr .entry)) (now (width .entry)) (now (sign .entry)))) (now (text .entry)) ⌝ }

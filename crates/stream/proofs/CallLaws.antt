@@ -1,41 +1,32 @@
 -- A call on a stream in plain words: what is kept, what is taken, which refusal is said, and the one refusal that does not leave the stream as it was.
 -- Assumes nothing.
 use prog.Memory.{size}
-use Prim.Native.Nat.{ℕ, _-_, _≤_, _<_}
+use Prim.Native.Nat.{ℕ, _≤_, _<_}
 use mathlib.Core.Path.{_≡_, refl, ap, sym, _∙_}
 use mathlib.Core.Logic.{⊎-elim, _⊎_, inl, inr}
 use mathlib.Core.Bool.{Bool, true, false, cond, _||_}
 use mathlib.Core.List.{List, [], _∷_, _++_, append-nil}
 use native.Mathlib.Omega.{arith}
-use lib.ListN.{length, take, length-append}
+use lib.ListN.{length, length-append}
 use lib.Dec.{ltb}
-use Rattle.laws.specs.Numbers.{frameBuffer}
+use Rattle.numbers.specs.Numbers.{frameBuffer}
 use Rattle.laws.proofs.Choice.{true-or, lt-or}
-use Rattle.wire.specs.Splitting.{badHeader, standingOf}
+use Rattle.wire.specs.Splitting.{standingOf}
 use Rattle.wire.specs.declared.splitting.Split.{Split}
 use Rattle.wire.specs.declared.splitting.Split.the-variants.{Frame, MoreNeeded, Refused}
 use Rattle.wire.proofs.SplittingLaws.{starts, first-size, refused as is-refused}
-use Rattle.stream.specs.Stream.{Stream, stream, refused, Outcome, outcome, found, took}
+use Rattle.stream.specs.Stream.{Stream, stream, refused, TakeOutcome, takeOutcome, found, took}
 use Rattle.stream.specs.Hosts.{Fed, start, with, Offer, calls, isBad}
-use Rattle.stream.specs.Lent.{streamOf, Made, Takes, Resets}
+use Rattle.stream.specs.Lent.{streamOf, MadeStream, Takes, Resets}
 use Rattle.stream.specs.Lives.{Line, came, offersOf, Lived, heard}
 use Rattle.stream.specs.Lives.Lived.{none, then}
 use Rattle.stream.specs.declared.Taken.{Taken}
-use Rattle.stream.specs.declared.Inlet.{Inlet}
-use Rattle.stream.proofs.Inlet.Laws as inlet
+use Rattle.stream.specs.declared.LentStream.{LentStream}
+use Rattle.stream.specs.Plain.{Reads, SetsTheMark}
+use Rattle.stream.proofs.LentStream.Laws as lentStream
 use Rattle.stream.proofs.Taken.Laws as taken
-use Rattle.stream.proofs.StreamLaws.{Reads, unmarked, frame-ends-behind, refusal-is-new, six-are-taken, six-are-bad, waits-short, short-refused, marked-refused, waiting-finds}
+use Rattle.stream.proofs.StreamLaws.{unmarked, frame-ends-behind, refusal-is-new, six-are-taken, six-are-bad, waits-short, short-refused, marked-refused, waiting-finds}
 use Rattle.stream.proofs.CuttingLaws.{any-calls-read}
-
--- the refusal that changes a stream: 4, in the call that brings the sixth byte of a bad header; the bytes up to that one are taken and kept, and the mark is set
-pub record SetsTheMark (s : Stream) (p : List ℕ) (d : Outcome) : Type 0 where
-  pub four : d .says ≡ refused 4 (6 - length (s .kept))
-  pub brought : 0 < d .says .taken
-  pub unmarked : s .marked ≡ false
-  pub marked : d .after .marked ≡ true
-  pub kept : d .after .kept ≡ s .kept ++ take (d .says .taken) p
-  pub six : length (d .after .kept) ≡ 6
-  pub bad : badHeader (d .after .kept) ≡ true
 
 -- which refusal a call says: 1 for a buffer of fewer than 260 bytes, before all else; 4 where the mark is set, or a bad header has come
 pub refusal-exactly : (s : Stream) (p o : List ℕ) → took s p o .says .refusal ≡ cond (ltb (length o) 260) 1 (cond (s .marked || isBad (standingOf (s .kept ++ p))) 4 0)
@@ -47,16 +38,16 @@ refusal-exactly s p o = by-short (ltb (length o) 260)
     by-split MoreNeeded = refl
     by-split Refused = refl
 
-    by-mark : (b : Bool) → cond b (outcome (refused 4 0) s o) (found (s .kept) p o (standingOf (s .kept ++ p))) .says .refusal ≡ cond (b || isBad (standingOf (s .kept ++ p))) 4 0
+    by-mark : (b : Bool) → cond b (takeOutcome (refused 4 0) s o) (found (s .kept) p o (standingOf (s .kept ++ p))) .says .refusal ≡ cond (b || isBad (standingOf (s .kept ++ p))) 4 0
     by-mark true = refl
     by-mark false = by-split (standingOf (s .kept ++ p))
 
-    by-short : (b : Bool) → cond b (outcome (refused 1 0) s o) (cond (s .marked) (outcome (refused 4 0) s o) (found (s .kept) p o (standingOf (s .kept ++ p)))) .says .refusal ≡ cond b 1 (cond (s .marked || isBad (standingOf (s .kept ++ p))) 4 0)
+    by-short : (b : Bool) → cond b (takeOutcome (refused 1 0) s o) (cond (s .marked) (takeOutcome (refused 4 0) s o) (found (s .kept) p o (standingOf (s .kept ++ p)))) .says .refusal ≡ cond b 1 (cond (s .marked || isBad (standingOf (s .kept ++ p))) 4 0)
     by-short true = refl
     by-short false = by-mark (s .marked)
 
 -- what is said of a call that is offered p
-record Tells (s : Stream) (p o : List ℕ) (d : Outcome) : Type 0 where
+record Tells (s : Stream) (p o : List ℕ) (d : TakeOutcome) : Type 0 where
   -- it takes no more than there is
   fits : d .says .taken ≤ length p
   -- a refusal leaves the buffer, and the stream but where it sets the mark
@@ -132,28 +123,28 @@ module _ (xs : List Offer) where
       (lt-or (length o) frameBuffer)
 
 -- a lent stream that these calls made keeps at most 259 bytes, as many as its count says
-pub made-keeps : (i : Inlet) → Made i → (i .count ≤ 259) × (length (i .bytes) ≡ 260)
+pub made-keeps : (i : LentStream) → MadeStream i → (i .count ≤ 259) × (length (i .bytes) ≡ 260)
 made-keeps i h = let l = h .most in (omega arith, h .long)
 
 -- a lent stream, and what a call on it answers, have the sizes in memory of zb_stream and zb_taken
-pub stream-size : size inlet.mir ≡ 268
+pub stream-size : size lentStream.mir ≡ 268
 stream-size = refl
 
 pub taken-size : size taken.mir ≡ 16
 taken-size = refl
 
 -- a line of the life of a lent stream that goes on from f came as the definition says
-pub line-took : (f : Fed) {i : Inlet} (x : Line) → f .after ≡ streamOf i → Takes i (x .offer .piece) (x .offer .buffer) (x .says) (x .after) (x .written)
+pub line-took : (f : Fed) {i : LentStream} (x : Line) → f .after ≡ streamOf i → Takes i (x .offer .piece) (x .offer .buffer) (x .says) (x .after) (x .written)
     → came x ≡ took (f .after) (x .offer .piece) (x .offer .buffer)
 line-took f x e t = t .comes ∙ ap (λ s. took s (x .offer .piece) (x .offer .buffer)) (sym e)
 
 -- so the host hears what the calls come to
-lives : {i : Inlet} {ls : List Line} (f : Fed) → f .after ≡ streamOf i → Lived i ls → heard f ls ≡ calls f (offersOf ls)
+lives : {i : LentStream} {ls : List Line} (f : Fed) → f .after ≡ streamOf i → Lived i ls → heard f ls ≡ calls f (offersOf ls)
 unfolding heard calls
 lives f e none = refl
 lives {ls = x ∷ ls} f e (then t l) = lives (with f (x .offer .piece) (came x)) refl l ∙ ap (λ d. calls (with f (x .offer .piece) d) (offersOf ls)) (line-took f x e t)
 
 -- Whatever calls a host makes of a stream that it lends, after the reset: the frames, the bytes taken, the refusals and the stream are those of the definition. So what is said of any
 -- calls is said of the exported functions.
-pub a-lent-stream-lives : {r : Taken} {i : Inlet} {ls : List Line} → Resets r i → Lived i ls → heard start ls ≡ calls start (offersOf ls)
+pub a-lent-stream-lives : {r : Taken} {i : LentStream} {ls : List Line} → Resets r i → Lived i ls → heard start ls ≡ calls start (offersOf ls)
 a-lent-stream-lives h l = lives start (sym (h .after)) l

@@ -8,17 +8,19 @@ use mathlib.Core.List.{List, [], _∷_, _++_, append-assoc, append-nil, flatten,
 use native.Mathlib.Omega.{arith}
 use lib.ListN.{length, take, drop, length-append, length-drop, take-append-drop}
 use lib.Seq.{take-append-le, take-length}
-use Rattle.laws.specs.Numbers.{uncounted, frameBuffer}
+use Rattle.numbers.specs.Numbers.{uncounted, frameBuffer}
 use Rattle.laws.proofs.Choice.{true-or}
 use Rattle.wire.proofs.FrameLaws.{framed as is-framed}
 use Rattle.wire.specs.Splitting.{standingOf, frames}
 use Rattle.wire.specs.declared.splitting.Split.{Split}
 use Rattle.wire.specs.declared.splitting.Split.the-variants.{Frame, MoreNeeded, Refused}
-use Rattle.wire.proofs.SplittingLaws.{starts, first-size, first-none, refusal-stays, Whole, frames-back-rest}
-use Rattle.stream.specs.Stream.{stream, Outcome, found, took}
+use Rattle.wire.specs.Plain.{Whole}
+use Rattle.wire.proofs.SplittingLaws.{starts, first-size, first-none, refusal-stays, frames-back-rest}
+use Rattle.stream.specs.Stream.{stream, TakeOutcome, found, took}
 use Rattle.stream.specs.Hosts.{Fed, start, again, with, Offer, calls, Lends, drained, pieces, isBad, remains, isRefused, keptOf, uncut}
 use Rattle.stream.specs.Lent.{stood}
-use Rattle.stream.proofs.StreamLaws.{Reads, more-frame, unmarked, frame-ends-behind, marked-refused, waiting-finds, flatten-more, reads-nothing, reads-on, found-reads, took-reads}
+use Rattle.stream.specs.Plain.{Reads}
+use Rattle.stream.proofs.StreamLaws.{more-frame, unmarked, frame-ends-behind, marked-refused, waiting-finds, flatten-more, reads-nothing, reads-on, found-reads, took-reads}
 
 -- there are no more frames than bytes
 few : (fs : List (List ℕ)) → Whole fs → length fs ≤ length (flatten fs)
@@ -112,7 +114,7 @@ pub offered-rest : (r : List ℕ) (n : ℕ) (p : List ℕ) → (r ++ take n p) +
 offered-rest r n p = append-assoc r (take n p) (drop n p) ∙ ap (λ x. r ++ x) (take-append-drop n p)
 
 -- one call more, with a piece p: where a frame comes, some of the piece was offered, and what is behind that is left; else all of it was
-pub record Offers (r : List ℕ) (f : Fed) (p : List ℕ) (d : Outcome) : Type 0 where
+pub record Offers (r : List ℕ) (f : Fed) (p : List ℕ) (d : TakeOutcome) : Type 0 where
   pub some : again (d .says) ≡ true → Offered (r ++ take (d .says .taken) p) (with f p d) × (0 < d .says .taken) × (d .says .taken ≤ length p)
   pub all : again (d .says) ≡ false → Offered (r ++ p) (with f p d)
 

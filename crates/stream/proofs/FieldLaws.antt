@@ -10,19 +10,19 @@ use native.Mathlib.Numerals.{add-one}
 use lib.ListN.{length, take, drop, getD, set, length-append, length-take, take-append-drop}
 use lib.Seq.{paste, paste-suc, take-paste, take-all, take-append-add, length-take-le, take-take}
 use borrow.Author.Tests.{lt-ltb, le-ltb, eq-eqb, ne-eqb}
-use Rattle.laws.specs.Numbers.{uncounted, frameBuffer, mostFrame}
+use Rattle.numbers.specs.Numbers.{uncounted, frameBuffer, mostFrame}
 use Rattle.laws.specs.Bytes.{over}
 use Rattle.laws.proofs.Choice.{lt-or}
 use Rattle.wire.specs.Splitting.{standingOf, firstFrame}
 use Rattle.wire.specs.declared.splitting.Split.{Split}
 use Rattle.wire.specs.declared.splitting.Split.the-variants.{Frame, MoreNeeded, Refused}
 use Rattle.wire.proofs.SplittingLaws.{short-waits, starts, first-size, first-none, frame-stays, refused as is-refused, refusal-stays}
-use Rattle.stream.specs.Stream.{fresh, refused, framed, wanting, outcome, found, took}
-use Rattle.stream.specs.Lent.{inlet, streamOf, Made, Takes, Filled}
+use Rattle.stream.specs.Stream.{fresh, refused, framed, wanting, takeOutcome, found, took}
+use Rattle.stream.specs.Lent.{lentStream, streamOf, MadeStream, Takes, Filled}
 use Rattle.stream.proofs.StreamLaws.{unmarked, frame-ends-behind, refusal-is-new, six-are-bad, waits-short}
 
 -- nothing kept and no mark
-pub fresh-made : (b : List ℕ) (k : ℕ) → length b ≡ mostFrame → k ≡ 0 → Made (inlet b 0 k)
+pub fresh-made : (b : List ℕ) (k : ℕ) → length b ≡ mostFrame → k ≡ 0 → MadeStream (lentStream b 0 k)
 fresh-made b k l z = record { long = l; most = omega arith; stands = rw (eq-eqb k 0 z) (short-waits [] (omega arith)); six = λ y. absurd (unmarked (rw (eq-eqb k 0 z) at y)) }
 
 -- one byte more behind the bytes kept
@@ -75,27 +75,27 @@ pub most-long : (r : List ℕ) → standingOf r ≡ Frame → length (firstFrame
 most-long r e = let q = starts r e .most in omega (arith, first-size r e)
 
 -- a call over lent fields, by its outcomes: a short buffer,
-pub short-comes : (b : List ℕ) (n k : ℕ) (p o : List ℕ) → Made (inlet b n k) → length o < frameBuffer → Takes (inlet b n k) p o (refused 1 0) (inlet b n k) o
+pub short-comes : (b : List ℕ) (n k : ℕ) (p o : List ℕ) → MadeStream (lentStream b n k) → length o < frameBuffer → Takes (lentStream b n k) p o (refused 1 0) (lentStream b n k) o
 unfolding took
 short-comes b n k p o s l = record { comes = rw (lt-ltb (length o) frameBuffer l); made = s; left = λ _ _. refl }
 
 -- a mark,
-pub stuck-comes : (b : List ℕ) (n k : ℕ) (p o : List ℕ) → Made (inlet b n k) → frameBuffer ≤ length o → (k ≡ 0 → ⊥) → Takes (inlet b n k) p o (refused 4 0) (inlet b n k) o
+pub stuck-comes : (b : List ℕ) (n k : ℕ) (p o : List ℕ) → MadeStream (lentStream b n k) → frameBuffer ≤ length o → (k ≡ 0 → ⊥) → Takes (lentStream b n k) p o (refused 4 0) (lentStream b n k) o
 unfolding took
 stuck-comes b n k p o s l h = record { comes = rw (le-ltb (length o) frameBuffer l, ne-eqb k 0 h); made = s; left = λ _ _. refl }
 
 -- a frame that lies whole in the piece,
-pub whole-comes : (b : List ℕ) (n k : ℕ) (p o : List ℕ) → Made (inlet b n k) → frameBuffer ≤ length o → k ≡ 0 → n ≡ 0 → standingOf p ≡ Frame
-    → Takes (inlet b n k) p o (framed (length (firstFrame p)) (length (firstFrame p))) (inlet b n k) (over (firstFrame p) o)
+pub whole-comes : (b : List ℕ) (n k : ℕ) (p o : List ℕ) → MadeStream (lentStream b n k) → frameBuffer ≤ length o → k ≡ 0 → n ≡ 0 → standingOf p ≡ Frame
+    → Takes (lentStream b n k) p o (framed (length (firstFrame p)) (length (firstFrame p))) (lentStream b n k) (over (firstFrame p) o)
 unfolding took found
 whole-comes b n k p o s l z e v =
     let g = firstFrame p in
     let m : length g ≡ length g - 0 = omega arith in
-    record { comes = rw (e, le-ltb (length o) frameBuffer l, eq-eqb k 0 z) (rw v (ap (λ t. outcome (framed (length g) t) fresh (over g o)) m)); made = s; left = λ h _. absurd (h refl) }
+    record { comes = rw (e, le-ltb (length o) frameBuffer l, eq-eqb k 0 z) (rw v (ap (λ t. takeOutcome (framed (length g) t) fresh (over g o)) m)); made = s; left = λ h _. absurd (h refl) }
 
 -- and, once the piece is written behind the bytes kept, what stands first there
 pub record Ready (b : List ℕ) (n k : ℕ) (p o : List ℕ) (end : ℕ) (d : List ℕ) : Type 0 where
-  pub made : Made (inlet b n k)
+  pub made : MadeStream (lentStream b n k)
   pub long : frameBuffer ≤ length o
   pub none : k ≡ 0
   pub filled : Filled b n p end d
@@ -116,7 +116,7 @@ module _ {b : List ℕ} {n k : ℕ} {p o : List ℕ} {end : ℕ} {d : List ℕ} 
   in-run : (v : Split) → standingOf (take end d) ≡ v → standingOf run ≡ v
   in-run v e = sym (cut-stands run) ∙ ap standingOf (sym (f .run)) ∙ e
 
-  found-is : (v : Split) → standingOf (take end d) ≡ v → took (streamOf (inlet b n k)) p o ≡ found (take n b) p o v
+  found-is : (v : Split) → standingOf (take end d) ≡ v → took (streamOf (lentStream b n k)) p o ≡ found (take n b) p o v
   unfolding took
   found-is v e = rw (le-ltb (length o) frameBuffer (h .long), eq-eqb k 0 (h .none)) (ap (found (take n b) p o) (in-run v e))
 
@@ -132,7 +132,7 @@ module _ {b : List ℕ} {n k : ℕ} {p o : List ℕ} {end : ℕ} {d : List ℕ} 
       (omega arith, most-long (take end d) e)
 
   pub frame-comes : standingOf (take end d) ≡ Frame
-      → Takes (inlet b n k) p o (framed (length (firstFrame (take end d))) (length (firstFrame (take end d)) - n)) (inlet d 0 k) (over (firstFrame (take end d)) o)
+      → Takes (lentStream b n k) p o (framed (length (firstFrame (take end d))) (length (firstFrame (take end d)) - n)) (lentStream d 0 k) (over (firstFrame (take end d)) o)
   unfolding found
   frame-comes e =
       record {
@@ -141,7 +141,7 @@ module _ {b : List ℕ} {n k : ℕ} {p o : List ℕ} {end : ℕ} {d : List ℕ} 
         left = λ y _. absurd (y refl);
       }
 
-  pub more-comes : standingOf (take end d) ≡ MoreNeeded → Takes (inlet b n k) p o (wanting (end - n)) (inlet d end k) o
+  pub more-comes : standingOf (take end d) ≡ MoreNeeded → Takes (lentStream b n k) p o (wanting (end - n)) (lentStream d end k) o
   unfolding found
   more-comes e =
       let q = waits-short (take end d) e in
@@ -158,7 +158,7 @@ module _ {b : List ℕ} {n k : ℕ} {p o : List ℕ} {end : ℕ} {d : List ℕ} 
   pub bad-new : standingOf (take end d) ≡ Refused → n < uncounted
   bad-new e = rw had at (refusal-is-new (take n b) p waits (in-run Refused e))
 
-  pub bad-comes : standingOf (take end d) ≡ Refused → Takes (inlet b n k) p o (refused 4 (uncounted - n)) (inlet d uncounted 1) o
+  pub bad-comes : standingOf (take end d) ≡ Refused → Takes (lentStream b n k) p o (refused 4 (uncounted - n)) (lentStream d uncounted 1) o
   unfolding found
   bad-comes e =
       let a = is-refused (take end d) e .0 in

@@ -10,24 +10,18 @@ use lib.ListN.{length, take, drop, take-append-drop}
 use lib.Seq.{length-take-le, take-length, take-append-add, take-append-seam}
 use lib.Dec.{ltb, eqb}
 use borrow.Author.Tests.{ltb-false, lt-ltb, le-ltb}
-use Rattle.laws.specs.Numbers.{uncounted, frameBuffer, leastLength, mostLength, mostFrame}
+use Rattle.numbers.specs.Numbers.{uncounted, frameBuffer, leastLength, mostLength, mostFrame}
 use Rattle.laws.proofs.Choice.{true-or, lt-or, or-right}
 use Rattle.laws.proofs.ByteLaws.{pair-append}
 use Rattle.wire.specs.Frame.{protocolOf, lengthOf, misframed}
 use Rattle.wire.specs.Splitting.{badHeader, standingOf, firstFrame}
 use Rattle.wire.specs.declared.splitting.Split.{Split}
 use Rattle.wire.specs.declared.splitting.Split.the-variants.{Frame, MoreNeeded, Refused}
-use Rattle.wire.proofs.SplittingLaws.{starts, stands, refused as is-refused, six-decide, short-waits, whole-stands, first-taken, first-size, first-is-whole, Whole}
-use Rattle.stream.specs.Stream.{Stream, stream, fresh, refused, Outcome, outcome, found, took}
+use Rattle.wire.specs.Plain.{Whole}
+use Rattle.wire.proofs.SplittingLaws.{starts, stands, refused as is-refused, six-decide, short-waits, whole-stands, first-taken, first-size, first-is-whole}
+use Rattle.stream.specs.Stream.{Stream, stream, fresh, refused, TakeOutcome, takeOutcome, found, took}
 use Rattle.stream.specs.Hosts.{Fed, start, with}
-use Rattle.stream.specs.Lent.{stood}
-
--- the bytes taken are whole frames with what is kept behind them: the start of a frame that needs more, or, where the mark is set, a bad header up to its sixth byte
-pub record Reads (f : Fed) : Type 0 where
-  pub whole : Whole (f .frames)
-  pub parts : flatten (f .frames) ++ f .after .kept ≡ f .bytes
-  pub stands : standingOf (f .after .kept) ≡ stood (f .after .marked)
-  pub six : f .after .marked ≡ true → length (f .after .kept) ≡ uncounted
+use Rattle.stream.specs.Plain.{Reads}
 
 pub more-frame : MoreNeeded ≡ Frame → ⊥
 more-frame e = let z : _≡_ {A = ℕ} 0 1 = cc in omega arith
@@ -115,7 +109,7 @@ unfolding flatten
 reads-nothing = record { whole = λ f i. absurd (List·Memᴰ·not-nil i); parts = refl; stands = short-waits [] (omega arith); six = λ z. absurd (unmarked z) }
 
 -- a call that takes nothing and leaves the stream
-pub reads-on : (f : Fed) (p : List ℕ) (n : ℕ) (o : List ℕ) → Reads f → Reads (with f p (outcome (refused n 0) (f .after) o))
+pub reads-on : (f : Fed) (p : List ℕ) (n : ℕ) (o : List ℕ) → Reads f → Reads (with f p (takeOutcome (refused n 0) (f .after) o))
 reads-on f p n o h = record { whole = rw (append-nil (f .frames)) (h .whole); parts = rw (append-nil (f .frames), append-nil (f .bytes)) (h .parts); stands = h .stands; six = h .six }
 
 -- a call on a stream that still waits
@@ -150,12 +144,12 @@ found-reads f p o m h Refused e =
     })
 
 -- a short buffer is refusal 1 before all else
-pub short-refused : (s : Stream) (p o : List ℕ) → length o < frameBuffer → took s p o ≡ outcome (refused 1 0) s o
+pub short-refused : (s : Stream) (p o : List ℕ) → length o < frameBuffer → took s p o ≡ takeOutcome (refused 1 0) s o
 unfolding took
 short-refused s p o l = rw (lt-ltb (length o) frameBuffer l)
 
 -- a stream with the mark refuses again, and takes nothing
-pub marked-refused : (s : Stream) (p o : List ℕ) → frameBuffer ≤ length o → s .marked ≡ true → took s p o ≡ outcome (refused 4 0) s o
+pub marked-refused : (s : Stream) (p o : List ℕ) → frameBuffer ≤ length o → s .marked ≡ true → took s p o ≡ takeOutcome (refused 4 0) s o
 unfolding took
 marked-refused s p o l e = rw (le-ltb (length o) frameBuffer l, e)
 

@@ -5,11 +5,11 @@ use mathlib.Core.Bool.{Bool, true, false, cond}
 use mathlib.Core.List.{List, [], _∷_, _++_, flatten}
 use lib.ListN.{length, take, drop}
 use lib.Dec.{eqb}
-use Rattle.laws.specs.Numbers.{uncounted}
+use Rattle.numbers.specs.Numbers.{uncounted}
 use Rattle.wire.specs.Splitting.{standingOf, frames}
 use Rattle.wire.specs.declared.splitting.Split.{Split}
 use Rattle.wire.specs.declared.splitting.Split.the-variants.{Frame, MoreNeeded, Refused}
-use Rattle.stream.specs.Stream.{Stream, stream, fresh, isFrame, Outcome, took}
+use Rattle.stream.specs.Stream.{Stream, stream, fresh, isFrame, TakeOutcome, took}
 use Rattle.stream.specs.declared.Taken.{Taken}
 
 -- what has come of the calls since the reset: the frames yielded, the bytes taken, the refusal that the last call said (0: none), the stream
@@ -30,11 +30,11 @@ start = fed [] [] 0 fresh
 abbrev pub again : Taken → Bool
 again a = eqb (a .outcome) isFrame
 
-abbrev pub yielded : Outcome → List (List ℕ)
+abbrev pub yielded : TakeOutcome → List (List ℕ)
 yielded d = cond (again (d .says)) (take (d .says .length) (d .written) ∷ []) []
 
 -- one call more, with the piece p
-abbrev pub with : Fed → List ℕ → Outcome → Fed
+abbrev pub with : Fed → List ℕ → TakeOutcome → Fed
 with f p d = fed (f .frames ++ yielded d) (f .bytes ++ take (d .says .taken) p) (d .says .refusal) (d .after)
 
 -- any calls, each with a piece and a buffer

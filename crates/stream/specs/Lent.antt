@@ -6,19 +6,19 @@ use mathlib.Core.Bool.{Bool, true, false, not}
 use mathlib.Core.List.{List, _++_}
 use lib.ListN.{length, take}
 use lib.Dec.{eqb}
-use Rattle.laws.specs.Numbers.{uncounted, mostFrame}
+use Rattle.numbers.specs.Numbers.{uncounted, mostFrame}
 use Rattle.wire.specs.Splitting.{standingOf}
 use Rattle.wire.specs.declared.splitting.Split.{Split}
 use Rattle.wire.specs.declared.splitting.Split.the-variants.{MoreNeeded, Refused}
-use Rattle.stream.specs.Stream.{Stream, stream, fresh, isDone, taking, outcome, took}
+use Rattle.stream.specs.Stream.{Stream, stream, fresh, isDone, taking, takeOutcome, took}
 use Rattle.stream.specs.declared.Taken.{Taken}
-use Rattle.stream.specs.declared.Inlet.{Inlet}
+use Rattle.stream.specs.declared.LentStream.{LentStream}
 
-abbrev pub inlet : (bytes : List ℕ) (count mark : ℕ) → Inlet
-inlet b n k = record { bytes = b; count = n; mark = k }
+abbrev pub lentStream : (bytes : List ℕ) (count mark : ℕ) → LentStream
+lentStream b n k = record { bytes = b; count = n; mark = k }
 
--- the stream that an inlet is: the first `count` of its bytes, and whether its mark is set
-abbrev pub streamOf : Inlet → Stream
+-- the stream that a lent one is: the first `count` of its bytes, and whether its mark is set
+abbrev pub streamOf : LentStream → Stream
 streamOf i = stream (take (i .count) (i .bytes)) (not (eqb (i .mark) 0))
 
 -- what stands first in the bytes that a stream keeps: more are needed, or, where the mark is set, a bad header
@@ -26,24 +26,24 @@ abbrev pub stood : Bool → Split
 stood true = Refused
 stood false = MoreNeeded
 
--- every inlet that these calls made: at most 259 bytes are kept, of a frame that needs more, or the six of a bad header
-pub record Made (i : Inlet) : Type 0 where
+-- every lent stream that these calls made: at most 259 bytes are kept, of a frame that needs more, or the six of a bad header
+pub record MadeStream (i : LentStream) : Type 0 where
   pub long : length (i .bytes) ≡ mostFrame
   pub most : i .count < mostFrame
   pub stands : standingOf (streamOf i .kept) ≡ stood (streamOf i .marked)
   pub six : streamOf i .marked ≡ true → i .count ≡ uncounted
 
 -- a piece: the answer, the stream afterwards and every byte of the buffer; a refusal that took nothing leaves every field, so that only the one that sets the mark does not
-pub record Takes (i : Inlet) (piece out : List ℕ) (r : Taken) (i′ : Inlet) (out′ : List ℕ) : Type 0 where
-  pub comes : outcome r (streamOf i′) out′ ≡ took (streamOf i) piece out
-  pub made : Made i′
+pub record Takes (i : LentStream) (piece out : List ℕ) (r : Taken) (i′ : LentStream) (out′ : List ℕ) : Type 0 where
+  pub comes : takeOutcome r (streamOf i′) out′ ≡ took (streamOf i) piece out
+  pub made : MadeStream i′
   pub left : (r .refusal ≡ 0 → ⊥) → r .taken ≡ 0 → i′ ≡ i
 
 -- a new connection
-pub record Resets (r : Taken) (i : Inlet) : Type 0 where
+pub record Resets (r : Taken) (i : LentStream) : Type 0 where
   pub says : r ≡ taking 0 isDone 0 0
   pub after : streamOf i ≡ fresh
-  pub made : Made i
+  pub made : MadeStream i
 
 -- a piece written behind the bytes kept, as far as there is room
 pub record Filled (bytes : List ℕ) (from : ℕ) (piece : List ℕ) (end : ℕ) (bytes′ : List ℕ) : Type 0 where

@@ -4,29 +4,29 @@ use Prim.Native.Nat.{ℕ, _≤_}
 use mathlib.Core.Path.{_≡_}
 use mathlib.Core.List.{List, [], _∷_, map}
 use lib.ListN.{length, drop}
-use Rattle.stream.specs.Stream.{Outcome, outcome}
+use Rattle.stream.specs.Stream.{TakeOutcome, takeOutcome}
 use Rattle.stream.specs.Hosts.{Fed, with, Offer}
 use Rattle.stream.specs.Lent.{streamOf, Takes}
 use Rattle.stream.specs.declared.Taken.{Taken}
-use Rattle.stream.specs.declared.Inlet.{Inlet}
+use Rattle.stream.specs.declared.LentStream.{LentStream}
 
 -- one line of it: the piece and the buffer that were given; the answer, the lent stream and the buffer as they are afterwards
 pub record Line : Type 0 where
   pub offer : Offer
   pub says : Taken
-  pub after : Inlet
+  pub after : LentStream
   pub written : List ℕ
 
-abbrev pub came : Line → Outcome
-came x = outcome (x .says) (streamOf (x .after)) (x .written)
+abbrev pub came : Line → TakeOutcome
+came x = takeOutcome (x .says) (streamOf (x .after)) (x .written)
 
 abbrev pub offersOf : List Line → List Offer
 offersOf ls = map (λ (x : Line). x .offer) ls
 
 -- each line came as its exported function promises, from the lent stream that the one before left
-pub data Lived : Inlet → List Line → Type 0 where
-  none : {i : Inlet} → Lived i []
-  then : {i : Inlet} {x : Line} {ls : List Line} → Takes i (x .offer .piece) (x .offer .buffer) (x .says) (x .after) (x .written) → Lived (x .after) ls → Lived i (x ∷ ls)
+pub data Lived : LentStream → List Line → Type 0 where
+  none : {i : LentStream} → Lived i []
+  then : {i : LentStream} {x : Line} {ls : List Line} → Takes i (x .offer .piece) (x .offer .buffer) (x .says) (x .after) (x .written) → Lived (x .after) ls → Lived i (x ∷ ls)
 
 -- what the host gathers from these lines alone
 unfoldable pub heard : Fed → List Line → Fed

@@ -5,7 +5,7 @@ use mathlib.Core.Bool.{Bool, true, false, cond}
 use mathlib.Core.List.{List, [], _++_}
 use lib.ListN.{length, take}
 use lib.Dec.{ltb}
-use Rattle.laws.specs.Numbers.{uncounted, frameBuffer}
+use Rattle.numbers.specs.Numbers.{uncounted, frameBuffer}
 use Rattle.laws.specs.Bytes.{over}
 use Rattle.wire.specs.Splitting.{standingOf, firstFrame}
 use Rattle.wire.specs.declared.splitting.Split.{Split}
@@ -49,24 +49,24 @@ abbrev pub wanting : (taken : ℕ) → Taken
 wanting t = taking 0 isMore 0 t
 
 -- the whole outcome of a call: the answer, the stream afterwards, every byte of the lent buffer
-pub record Outcome : Type 0 where
+pub record TakeOutcome : Type 0 where
   pub says : Taken
   pub after : Stream
   pub written : List ℕ
 
-abbrev pub outcome : Taken → Stream → List ℕ → Outcome
-outcome a s w = record { says = a; after = s; written = w }
+abbrev pub takeOutcome : Taken → Stream → List ℕ → TakeOutcome
+takeOutcome a s w = record { says = a; after = s; written = w }
 
 -- by what stands first in the bytes kept with the piece behind them: a frame is written and nothing of it is kept; where more bytes are needed the whole piece is kept;
 -- a bad header is refusal 4 at its sixth byte: the bytes up to that are taken, and the mark is set
-unfoldable pub found : (kept piece out : List ℕ) → Split → Outcome
-found k p o Frame = let f = firstFrame (k ++ p) in outcome (framed (length f) (length f - length k)) fresh (over f o)
-found k p o MoreNeeded = outcome (wanting (length p)) (stream (k ++ p) false) o
-found k p o Refused = outcome (refused 4 (uncounted - length k)) (stream (take uncounted (k ++ p)) true) o
+unfoldable pub found : (kept piece out : List ℕ) → Split → TakeOutcome
+found k p o Frame = let f = firstFrame (k ++ p) in takeOutcome (framed (length f) (length f - length k)) fresh (over f o)
+found k p o MoreNeeded = takeOutcome (wanting (length p)) (stream (k ++ p) false) o
+found k p o Refused = takeOutcome (refused 4 (uncounted - length k)) (stream (take uncounted (k ++ p)) true) o
 
 -- a call: refusal 1 for a short buffer before all else, refusal 4 while the mark is set, and both leave the stream; else what was found
-unfoldable pub took : Stream → (piece out : List ℕ) → Outcome
+unfoldable pub took : Stream → (piece out : List ℕ) → TakeOutcome
 took s p o =
-    cond (ltb (length o) frameBuffer) (outcome (refused 1 0) s o)
-    (cond (s .marked) (outcome (refused 4 0) s o)
+    cond (ltb (length o) frameBuffer) (takeOutcome (refused 1 0) s o)
+    (cond (s .marked) (takeOutcome (refused 4 0) s o)
     (found (s .kept) p o (standingOf (s .kept ++ p))))

@@ -2,14 +2,14 @@
 ghost use mathlib.Core.Path.{_≡_};
 ghost use Prim.Native.Nat.{_≤_, min};
 ghost use lib.ListN.{length};
-ghost use Rattle.laws.specs.Numbers.{mostFrame, frameBuffer};
-ghost use Rattle.stream.specs.Lent.{inlet, Made, Takes, Resets, Filled};
+ghost use Rattle.numbers.specs.Numbers.{mostFrame, frameBuffer};
+ghost use Rattle.stream.specs.Lent.{lentStream, MadeStream, Takes, Resets, Filled};
 use wire::splitting::Split;
 
 // The stream that a host lends, changed in place: C's struct zb_stream.
 #[repr(C)]
-pub struct Inlet {
-    pub bytes: [u8; laws::MOST_FRAME],
+pub struct LentStream {
+    pub bytes: [u8; numbers::MOST_FRAME],
     pub count: u32,
     pub mark: u32,
 }
@@ -41,11 +41,11 @@ fn lesser(a: usize, b: usize) -> usize
 }
 
 // Writes a piece behind the bytes kept, as far as there is room, and says where it ends.
-fn fill(bytes: &mut [u8; laws::MOST_FRAME], from: usize, piece: &[u8]) -> usize
+fn fill(bytes: &mut [u8; numbers::MOST_FRAME], from: usize, piece: &[u8]) -> usize
     requires { ⌜ (from ≤ mostFrame) × (length (now bytes) ≡ mostFrame) ⌝ }
     ensures { λ r. ⌜ Filled (now (bytes .entry)) from (now (piece .entry)) r (now (bytes .exit)) ⌝ }
 {
-    let n = lesser(laws::MOST_FRAME - from, piece.len());
+    let n = lesser(numbers::MOST_FRAME - from, piece.len());
     let mut i: usize = 0;
     while i < n {
         bytes[from + i] = piece[i];
@@ -56,14 +56,14 @@ fn fill(bytes: &mut [u8; laws::MOST_FRAME], from: usize, piece: &[u8]) -> usize
 
 // Takes a piece behind the bytes kept, of which no frame is whole, and writes the frame once it is.
 fn take_behind<'a>(
-    bytes: &'a mut [u8; laws::MOST_FRAME],
+    bytes: &'a mut [u8; numbers::MOST_FRAME],
     count: &'a mut u32,
     mark: &'a mut u32,
     piece: &[u8],
     out: &mut [u8],
 ) -> Taken
-    requires { ⌜ Made (inlet (now bytes) (now count) (now mark)) × (frameBuffer ≤ length (now out)) × (now mark ≡ 0) ⌝ }
-    ensures { λ r. ⌜ Takes (inlet (now (bytes .entry)) (now (count .entry)) (now (mark .entry))) (now (piece .entry)) (now (out .entry)) r (inlet (now (bytes .exit)) (now (count .exit)) (now (mark .exit))) (now (out .exit)) ⌝ }
+    requires { ⌜ MadeStream (lentStream (now bytes) (now count) (now mark)) × (frameBuffer ≤ length (now out)) × (now mark ≡ 0) ⌝ }
+    ensures { λ r. ⌜ Takes (lentStream (now (bytes .entry)) (now (count .entry)) (now (mark .entry))) (now (piece .entry)) (now (out .entry)) r (lentStream (now (bytes .exit)) (now (count .exit)) (now (mark .exit))) (now (out .exit)) ⌝ }
 {
     let before = *count;
     let end = fill(bytes, before as usize, piece);
@@ -94,7 +94,7 @@ fn take_behind<'a>(
             }
         }
         Split::Refused => {
-            let header = laws::UNCOUNTED as u32;
+            let header = numbers::UNCOUNTED as u32;
             *count = header;
             *mark = 1;
             Taken {
@@ -109,16 +109,16 @@ fn take_behind<'a>(
 
 // Takes of a piece what belongs to the next frame, and writes that frame once it is whole. One that lies whole in the piece is copied from there.
 pub fn take_piece<'a>(
-    bytes: &'a mut [u8; laws::MOST_FRAME],
+    bytes: &'a mut [u8; numbers::MOST_FRAME],
     count: &'a mut u32,
     mark: &'a mut u32,
     piece: &[u8],
     out: &mut [u8],
 ) -> Taken
-    requires { ⌜ Made (inlet (now bytes) (now count) (now mark)) ⌝ }
-    ensures { λ r. ⌜ Takes (inlet (now (bytes .entry)) (now (count .entry)) (now (mark .entry))) (now (piece .entry)) (now (out .entry)) r (inlet (now (bytes .exit)) (now (count .exit)) (now (mark .exit))) (now (out .exit)) ⌝ }
+    requires { ⌜ MadeStream (lentStream (now bytes) (now count) (now mark)) ⌝ }
+    ensures { λ r. ⌜ Takes (lentStream (now (bytes .entry)) (now (count .entry)) (now (mark .entry))) (now (piece .entry)) (now (out .entry)) r (lentStream (now (bytes .exit)) (now (count .exit)) (now (mark .exit))) (now (out .exit)) ⌝ }
 {
-    if out.len() < laws::FRAME_BUFFER {
+    if out.len() < numbers::FRAME_BUFFER {
         return Taken {
             refusal: 1,
             outcome: 0,
@@ -151,19 +151,19 @@ pub fn take_piece<'a>(
 }
 
 // An array has as many bytes as its type says: proved, and nothing in the compiled code.
-fn told(a: [u8; laws::MOST_FRAME])
+fn tells_length(a: [u8; numbers::MOST_FRAME])
     ensures { λ r. ⌜ length a ≡ mostFrame ⌝ }
 {}
 
 // A stream for a new connection, whatever it was.
 pub fn reset<'a>(
-    bytes: &'a mut [u8; laws::MOST_FRAME],
+    bytes: &'a mut [u8; numbers::MOST_FRAME],
     count: &'a mut u32,
     mark: &'a mut u32,
 ) -> Taken
-    ensures { λ r. ⌜ Resets r (inlet (now (bytes .exit)) (now (count .exit)) (now (mark .exit))) ⌝ }
+    ensures { λ r. ⌜ Resets r (lentStream (now (bytes .exit)) (now (count .exit)) (now (mark .exit))) ⌝ }
 {
-    told(*bytes);
+    tells_length(*bytes);
     *count = 0;
     *mark = 0;
     Taken {

@@ -7,7 +7,7 @@ use mathlib.Core.Option.{some, Option·map}
 use mathlib.Core.List.{List, [], _∷_, _++_, map}
 use lib.ListN.{getD, set}
 use lib.Dec.{eqb}
-use Rattle.laws.specs.Numbers.{ids, places}
+use Rattle.numbers.specs.Numbers.{ids, places}
 use Rattle.laws.specs.Circle.{turn}
 use Rattle.laws.proofs.Choice.{true-or, lt-or}
 use Rattle.laws.proofs.ListLaws.{tab-ext, map-tab}
@@ -18,8 +18,8 @@ use Rattle.book.specs.Book.{Party, Live, book, entry, added, struck, marked, is
 use Rattle.book.specs.Book.Move.{join, issue, reply, strike, mark}
 use Rattle.machine.specs.Machine.{Note, opened, rules}
 use Rattle.machine.specs.Requests.{closing}
-use Rattle.table.specs.Columns.{Columns, columns, party, partiesAt, entryAt, tableOf, bookOf, Sound}
-use Rattle.table.specs.Changes.{Joined, Struck, reach, blank}
+use Rattle.table.specs.Columns.{Columns, columns, party, partiesAt, entryAt, tableOf, bookOf, SoundTable}
+use Rattle.table.specs.inner.Changes.{Joined, Struck, reach, blank}
 use Rattle.table.proofs.EntryLaws.{table-at, table-set, withParties, parties-sound, freedAt, freed-table, freed-sound, blank-sound}
 
 -- other parties of one place: its entry has them, and is otherwise as it was
@@ -30,7 +30,7 @@ regrouped-at : (g : List Party → List Party) (c : Columns) (ns cs os : List �
     → entryAt (withParties c ns cs os) k ≡ Option·map (regrouped g) (entryAt c k)
 regrouped-at g c ns cs os k e = rw e (⊎-elim (λ t. rw t) (λ t. rw t) (true-or (eqb (getD (c .ids) k 0) 0)))
 
-module _ (v : Value) (x t : ℕ) (c : Columns) (s : Sound c) where
+module _ (v : Value) (x t : ℕ) (c : Columns) (s : SoundTable c) where
   -- A table with a new entry, and what that spoils closed, is the book after its issue and that closing, with the cursor behind its id.
   pub issue-is : (c′ : Columns) (place id word deadline client original : ℕ)
       → tableOf c′ ≡ map (Option·map (marked (closing (whatOf word)))) (set (tableOf c) place (some (entry id (whatOf word) client opened deadline (party client original ∷ []))))
@@ -48,7 +48,7 @@ module _ (v : Value) (x t : ℕ) (c : Columns) (s : Sound c) where
         (λ k ne. rw (j .elsewhere k ne)))
 
     -- One party more keeps the columns sound.
-    pub join-sound : Sound (withParties c ns cs os)
+    pub join-sound : SoundTable (withParties c ns cs os)
     join-sound = parties-sound c ns cs os s (j .runs)
 
   module _ (place : ℕ) (is : List ℕ) (top : ℕ) (low : place < places) (f : (is ≡ set (c .ids) place 0) × (top ≡ reach is (c .top))) where
@@ -63,7 +63,7 @@ module _ (v : Value) (x t : ℕ) (c : Columns) (s : Sound c) where
     remove-is-reply e = ap (λ m. book v m x t) (ap tableOf freed-is ∙ freed-table c s place low)
 
     -- A freed place keeps the columns sound.
-    pub remove-sound : Sound freed
+    pub remove-sound : SoundTable freed
     remove-sound = rw freed-is (freed-sound c s place low)
 
   module _ (client : ℕ) (ns cs os : List ℕ) (d : Struck (c .top) client (c .counts) (c .clients) (c .originals) ns cs os) where
@@ -81,9 +81,9 @@ module _ (v : Value) (x t : ℕ) (c : Columns) (s : Sound c) where
         ap (λ m. book v m x t) (tab-ext places _ _ (λ k l. struck-at k) ∙ sym (map-tab (Option·map (struck client)) places (entryAt c)))
 
     -- A strike keeps the columns sound.
-    pub strike-sound : Sound (withParties c ns cs os)
+    pub strike-sound : SoundTable (withParties c ns cs os)
     strike-sound = parties-sound c ns cs os s (d .runs)
 
 -- Columns of zeros are sound, whatever the columns were.
-pub clear-sound : (c′ : Columns) → c′ ≡ blank → Sound c′
+pub clear-sound : (c′ : Columns) → c′ ≡ blank → SoundTable c′
 clear-sound c′ e = rw e blank-sound

@@ -11,7 +11,7 @@ use lib.ListN.{length, getD, set, length-set}
 use lib.Seq.{getD-set-same, getD-set-other}
 use lib.Dec.{eqb}
 use borrow.Author.Tests.{ne-eqb, eqb-false}
-use Rattle.laws.specs.Numbers.{places}
+use Rattle.numbers.specs.Numbers.{places}
 use Rattle.laws.specs.Bits.{has, with}
 use Rattle.laws.proofs.Choice.{true-or, eq-or, lt-or}
 use Rattle.laws.proofs.BitLaws.{with-there, in-with}
@@ -24,8 +24,8 @@ use Rattle.pdu.proofs.WordLaws.{marked-back}
 use Rattle.pdu.proofs.SpoilingLaws.{read-spoils-none}
 use Rattle.book.specs.Book.{marked}
 use Rattle.machine.specs.Requests.{closing}
-use Rattle.table.specs.Columns.{columns, noteOf, placeWord, entryAt, tableOf, Sound}
-use Rattle.table.specs.Changes.{wordAfter, Closes}
+use Rattle.table.specs.Columns.{columns, noteOf, placeWord, entryAt, tableOf, SoundTable}
+use Rattle.table.specs.inner.Changes.{wordAfter, Closes}
 
 -- a word that a live place may have
 abbrev pub Fit : ℕ → Type 0
@@ -88,7 +88,7 @@ closed-next k word is ws₀ ws c = record {
 }
 
 -- Once the places below top are closed, the table has every entry so marked, and the columns are sound.
-module _ (word top : ℕ) (is ws₀ ws : List ℕ) (c : ClosedTo top word is ws₀ ws) (n d m e o : List ℕ) (s : Sound (columns is ws₀ n d m e o top)) where
+module _ (word top : ℕ) (is ws₀ ws : List ℕ) (c : ClosedTo top word is ws₀ ws) (n d m e o : List ℕ) (s : SoundTable (columns is ws₀ n d m e o top)) where
   live-word : (k : ℕ) → eqb (getD is k 0) 0 ≡ false → Becomes word (getD ws₀ k 0) (getD ws k 0)
   live-word k live =
       let held = eqb-false (getD is k 0) 0 live in
@@ -108,7 +108,7 @@ module _ (word top : ℕ) (is ws₀ ws : List ℕ) (c : ClosedTo top word is ws�
   unfolding tableOf
   closed-table = tab-ext places _ _ (λ k l. closed-entry k) ∙ sym (map-tab (Option·map (marked (closing (whatOf word)))) places (entryAt (columns is ws₀ n d m e o top)))
 
-  closed-sound : Sound (columns is ws n d m e o top)
+  closed-sound : SoundTable (columns is ws n d m e o top)
   closed-sound = record {
     ids-long = s .ids-long;
     asked-long = c .long ∙ s .asked-long;

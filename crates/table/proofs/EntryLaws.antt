@@ -13,7 +13,7 @@ use lib.ListN.{getD, set, replicate, length-set, length-replicate}
 use lib.Seq.{getD-set-same, getD-set-other}
 use lib.Dec.{eqb}
 use borrow.Author.Tests.{eq-eqb, ne-eqb, eqb-true}
-use Rattle.laws.specs.Numbers.{ids, places, room, partyPlaces}
+use Rattle.numbers.specs.Numbers.{ids, places, room, partyPlaces}
 use Rattle.laws.specs.Lists.{tab}
 use Rattle.laws.specs.Bits.{has}
 use Rattle.laws.proofs.Choice.{true-or, eq-or, lt-or}
@@ -23,13 +23,13 @@ use Rattle.pdu.specs.Words.{wordOf, whatOf, closedBit, Proper}
 use Rattle.book.specs.Book.{Live, entry}
 use Rattle.pdu.proofs.WordLaws.{word-unmarked}
 use Rattle.machine.specs.Machine.{Note, opened}
-use Rattle.table.specs.Columns.{Columns, columns, party, partiesAt, noteOf, placeWord, entryAt, tableOf, Sound}
-use Rattle.table.specs.Changes.{Runs, reach, blank}
+use Rattle.table.specs.Columns.{Columns, columns, party, partiesAt, noteOf, placeWord, entryAt, tableOf, SoundTable}
+use Rattle.table.specs.inner.Changes.{Runs, reach, blank}
 use Rattle.laws.proofs.StoreLaws.{set-each}
 use Rattle.table.proofs.PartyLaws.{put-here, put-elsewhere, put-runs}
 
 -- the party columns of sound columns
-pub runs-of : (c : Columns) → Sound c → Runs (c .counts) (c .clients) (c .originals)
+pub runs-of : (c : Columns) → SoundTable c → Runs (c .counts) (c .clients) (c .originals)
 runs-of c s = record { counts-long = s .counts-long; clients-long = s .clients-long; originals-long = s .originals-long; roomy = s .roomy }
 
 -- what stands at a place of the table
@@ -61,7 +61,7 @@ unfolding tableOf
 table-set c c′ place o h here other = tab-set places place (entryAt c) (entryAt c′) o h here (λ k l. other k)
 
 -- a new entry with its first party
-module _ (c : Columns) (s : Sound c) (place id word deadline client original : ℕ) (low : place < places) (short : id < ids) where
+module _ (c : Columns) (s : SoundTable c) (place id word deadline client original : ℕ) (low : place < places) (short : id < ids) where
   abbrev pub issuedAt : Columns
   issuedAt =
       columns (set (c .ids) place (id + 1)) (set (c .asked) place word) (set (c .callers) place client) (set (c .deadlines) place deadline)
@@ -103,7 +103,7 @@ module _ (c : Columns) (s : Sound c) (place id word deadline client original : �
         issued-elsewhere k ne,
       ))
 
-  issued-sound : Proper (whatOf word) × (placeWord (whatOf word) (noteOf word) ≡ word) → Sound issuedAt
+  issued-sound : Proper (whatOf word) × (placeWord (whatOf word) (noteOf word) ≡ word) → SoundTable issuedAt
   issued-sound w =
       let a = s .ids-long in
       record {
@@ -127,7 +127,7 @@ module _ (c : Columns) (s : Sound c) (place id word deadline client original : �
 
   -- what is stored is a new entry, and the columns stay sound
   pub issued : Proper (whatOf word) × (wordOf (whatOf word) ≡ word)
-      → (tableOf issuedAt ≡ set (tableOf c) place (some (entry id (whatOf word) client opened deadline (party client original ∷ [])))) × Sound issuedAt
+      → (tableOf issuedAt ≡ set (tableOf c) place (some (entry id (whatOf word) client opened deadline (party client original ∷ [])))) × SoundTable issuedAt
   issued w = let u = word-open word w in (issued-table (u .0), issued-sound (w .0, u .1))
 
 -- other parties, everything else as it was
@@ -135,7 +135,7 @@ abbrev pub withParties : Columns → List ℕ → List ℕ → List ℕ → Colu
 withParties c ns cs os = columns (c .ids) (c .asked) (c .callers) (c .deadlines) ns cs os (c .top)
 
 -- other parties, no more than there is room for, keep the columns sound
-pub parties-sound : (c : Columns) (ns cs os : List ℕ) → Sound c → Runs ns cs os → Sound (withParties c ns cs os)
+pub parties-sound : (c : Columns) (ns cs os : List ℕ) → SoundTable c → Runs ns cs os → SoundTable (withParties c ns cs os)
 parties-sound c ns cs os s r = record {
   ids-long = s .ids-long;
   asked-long = s .asked-long;
@@ -182,7 +182,7 @@ reach-behind is (suc n) k h l =
     (true-or (eqb (getD is n 0) 0))
 
 -- a freed place
-module _ (c : Columns) (s : Sound c) (place : ℕ) (low : place < places) where
+module _ (c : Columns) (s : SoundTable c) (place : ℕ) (low : place < places) where
   abbrev pub freedAt : Columns
   freedAt =
       columns (set (c .ids) place 0) (c .asked) (c .callers) (c .deadlines) (c .counts) (c .clients) (c .originals) (reach (set (c .ids) place 0) (c .top))
@@ -193,7 +193,7 @@ module _ (c : Columns) (s : Sound c) (place : ℕ) (low : place < places) where
       let a = s .ids-long in
       table-set c freedAt place none low (rw (getD-set-same (c .ids) place 0 0 (omega arith))) (λ k ne. rw (getD-set-other (c .ids) place k 0 0 ne))
 
-  pub freed-sound : Sound freedAt
+  pub freed-sound : SoundTable freedAt
   freed-sound =
       let a = s .ids-long in
       let t = s .within in
@@ -226,7 +226,7 @@ pub blank-table : tableOf blank ≡ replicate places none
 unfolding tableOf blank
 blank-table = tab-ext places (entryAt blank) (λ k. none) (λ k l. rw (getD-repeat {A = ℕ} places k 0)) ∙ tab-repeat places none
 
-pub blank-sound : Sound blank
+pub blank-sound : SoundTable blank
 unfolding blank
 blank-sound = record {
   ids-long = length-replicate {A = ℕ} places 0;

@@ -8,7 +8,7 @@ use mathlib.Core.Option.{Option, some, none}
 use lib.ListN.{getD}
 use lib.Dec.{eqb}
 use borrow.Author.Tests.{eq-eqb, eqb-true, eqb-false, not-true}
-use Rattle.laws.specs.Numbers.{ids, places, room}
+use Rattle.numbers.specs.Numbers.{ids, places, room}
 use Rattle.laws.specs.Search.{best, least, count}
 use Rattle.laws.specs.Circle.{turn}
 use Rattle.laws.proofs.Choice.{true-or, and-left, same-test}
@@ -24,13 +24,13 @@ use Rattle.book.specs.Desk.{isLive, lowerId, sooner, joinPlace, freePlace, dueP
 use Rattle.machine.specs.Machine.{Note, machine, rules}
 use Rattle.machine.specs.Waiting.{noDeadline, deadlineOf, nextDeadline}
 use Rattle.machine.specs.Requests.{alike, joins}
-use Rattle.table.specs.Columns.{Columns, noteOf, placeWord, entryAt, bookOf, Sound}
-use Rattle.table.specs.Places.{isFree, isTaken, holds, isOpen, isDue, isLower, isSooner, freeIdFrom}
+use Rattle.table.specs.Columns.{Columns, noteOf, placeWord, entryAt, bookOf, SoundTable}
+use Rattle.table.specs.inner.Places.{isFree, isTaken, holds, isOpen, isDue, isLower, isSooner, freeIdFrom}
 use Rattle.pdu.proofs.WordLaws.{word-back, word-unmarked}
 use Rattle.machine.proofs.JoinLaws.{joins-exact, joins-like, joins-none}
 use Rattle.table.proofs.ViewLaws.{at-place, entry-free, free-same, holds-same, due-same, lower-same, sooner-same, live-same}
 
-module _ (v : Value) (c : Columns) (x t : ℕ) (s : Sound c) where
+module _ (v : Value) (c : Columns) (x t : ℕ) (s : SoundTable c) where
   -- A scan up to top by tests on the columns is the book's search over all places by the same tests.
   chosen : (test : ℕ → Bool) (beats : ℕ → ℕ → Bool) (test′ : Option (Live What Note) → Bool) (beats′ : Option (Live What Note) → Option (Live What Note) → Bool)
       → test′ none ≡ false

@@ -6,14 +6,14 @@ use mathlib.Core.List.{List, [], _∷_, _++_, append-assoc, flatMap}
 use native.Mathlib.Omega.{arith}
 use lib.ListN.{length, getD, set, length-set, length-append}
 use lib.Seq.{getD-set-same, getD-set-other}
-use Rattle.laws.specs.Numbers.{places, room}
+use Rattle.numbers.specs.Numbers.{places, room}
 use Rattle.laws.specs.Lists.{tab}
 use Rattle.laws.specs.Bytes.{over}
 use Rattle.laws.proofs.ListLaws.{tab-ext, tab-more, length-tab, flatMap-append}
 use Rattle.book.specs.Book.{Party}
 use Rattle.machine.specs.Replies.{pairs}
 use Rattle.table.specs.Columns.{party, run, partiesAt}
-use Rattle.table.specs.Changes.{Runs, Joined, Alike}
+use Rattle.table.specs.inner.Changes.{Runs, Joined, Alike}
 use Rattle.laws.proofs.StoreLaws.{set-each}
 use Rattle.laws.proofs.ByteLaws.{over-more}
 

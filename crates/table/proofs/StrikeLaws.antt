@@ -9,24 +9,24 @@ use native.Mathlib.Omega.{arith}
 use lib.ListN.{length, getD, set, length-set}
 use lib.Seq.{getD-set-same, getD-set-other}
 use borrow.Author.Tests.{eq-eqb, ne-eqb}
-use Rattle.laws.specs.Numbers.{places, room}
+use Rattle.numbers.specs.Numbers.{places, room}
 use Rattle.laws.specs.Lists.{tab, filter}
 use Rattle.laws.proofs.Choice.{eq-or}
 use Rattle.laws.proofs.ListLaws.{tab-more}
 use Rattle.laws.proofs.FilterLaws.{filter-append, filter-yes, filter-no}
 use Rattle.book.specs.Book.{Party, isOf, without}
 use Rattle.table.specs.Columns.{party, run, partiesAt}
-use Rattle.table.specs.Changes.{Runs, Alike, Closed, Struck}
+use Rattle.table.specs.inner.Changes.{Runs, Alike, StruckOut, Struck}
 use Rattle.laws.proofs.StoreLaws.{set-each}
 use Rattle.table.proofs.PartyLaws.{alike-put, run-same, run-put}
 
 -- nothing is struck out of no parties
-pub closed-none : (base client : ℕ) (cs os : List ℕ) → Closed base 0 client 0 cs os cs os
+pub struck-out-none : (base client : ℕ) (cs os : List ℕ) → StruckOut base 0 client 0 cs os cs os
 unfolding tab filter
-closed-none base client cs os = record { fewer = omega arith; rest = refl; before = λ i h. (refl, refl); behind = λ i h. (refl, refl); long = (refl, refl) }
+struck-out-none base client cs os = record { fewer = omega arith; rest = refl; before = λ i h. (refl, refl); behind = λ i h. (refl, refl); long = (refl, refl) }
 
 -- the turn at the party j, with w parties kept so far
-module _ (base j client w : ℕ) (cs₀ os₀ cs os : List ℕ) (s : Closed base j client w cs₀ os₀ cs os) where
+module _ (base j client w : ℕ) (cs₀ os₀ cs os : List ℕ) (s : StruckOut base j client w cs₀ os₀ cs os) where
   abbrev here : Party
   here = party (getD cs₀ (base + j) 0) (getD os₀ (base + j) 0)
 
@@ -34,9 +34,9 @@ module _ (base j client w : ℕ) (cs₀ os₀ cs os : List ℕ) (s : Closed base
   one-more = tab-more j (λ i. party (getD cs₀ (base + i) 0) (getD os₀ (base + i) 0))
 
   -- a party of the client is left out
-  pub closed-drop : getD cs (base + j) 0 ≡ client → Closed base (j + 1) client w cs₀ os₀ cs os
+  pub struck-out-drop : getD cs (base + j) 0 ≡ client → StruckOut base (j + 1) client w cs₀ os₀ cs os
   unfolding filter
-  closed-drop e = record {
+  struck-out-drop e = record {
     fewer = let l = s .fewer in omega arith;
     rest =
         let o = s .behind (base + j) (omega arith) in
@@ -48,10 +48,10 @@ module _ (base j client w : ℕ) (cs₀ os₀ cs os : List ℕ) (s : Closed base
   }
 
   -- a party of another client is kept, behind those that were
-  pub closed-keep : base + j < length cs → base + j < length os → (getD cs (base + j) 0 ≡ client → ⊥)
-      → Closed base (j + 1) client (w + 1) cs₀ os₀ (set cs (base + w) (getD cs (base + j) 0)) (set os (base + w) (getD os (base + j) 0))
+  pub struck-out-keep : base + j < length cs → base + j < length os → (getD cs (base + j) 0 ≡ client → ⊥)
+      → StruckOut base (j + 1) client (w + 1) cs₀ os₀ (set cs (base + w) (getD cs (base + j) 0)) (set os (base + w) (getD os (base + j) 0))
   unfolding filter
-  closed-keep hc ho ne =
+  struck-out-keep hc ho ne =
       let l = s .fewer in
       let o = s .behind (base + j) (omega arith) in
       let t : not (isOf client here) ≡ true = rw (ne-eqb (getD cs₀ (base + j) 0) client (λ z. ne (o .0 ∙ z))) in
@@ -83,9 +83,9 @@ pub record StruckTo (k client : ℕ) (ns₀ cs₀ os₀ ns cs os : List ℕ) : T
 pub struck-none : (client : ℕ) (ns cs os : List ℕ) → Runs ns cs os → StruckTo 0 client ns cs os ns cs os
 struck-none client ns cs os r = record { runs = r; done = λ p h. absurd (omega arith); rest = λ p h. refl; far = λ i h. (refl, refl) }
 
--- the turn at the place k, whose run was closed to r parties
+-- the turn at the place k, in whose run r parties are left
 pub struck-next : (k client r : ℕ) (ns₀ cs₀ os₀ ns cs os cs′ os′ : List ℕ) → k < places → StruckTo k client ns₀ cs₀ os₀ ns cs os
-    → Closed (k * room) (getD ns k 0) client r cs os cs′ os′
+    → StruckOut (k * room) (getD ns k 0) client r cs os cs′ os′
     → StruckTo (k + 1) client ns₀ cs₀ os₀ (set ns k r) cs′ os′
 struck-next k client r ns₀ cs₀ os₀ ns cs os cs′ os′ low t s =
     let m = t .runs .roomy k in

@@ -10,7 +10,7 @@ use native.Mathlib.Omega.{arith}
 use lib.ListN.{getD, List·getD-eq-default}
 use lib.Dec.{eqb, ltb}
 use borrow.Author.Tests.{eq-eqb, ne-eqb, eqb-true, eqb-false}
-use Rattle.laws.specs.Numbers.{places}
+use Rattle.numbers.specs.Numbers.{places}
 use Rattle.laws.specs.Lists.{tab}
 use Rattle.laws.proofs.Choice.{true-or, eq-or}
 use Rattle.laws.proofs.ListLaws.{length-tab, getD-tab}
@@ -19,8 +19,8 @@ use Rattle.pdu.specs.Replies.{What}
 use Rattle.book.specs.Book.{Live, at, hasId, liveIn}
 use Rattle.book.specs.Desk.{isLive, lowerId, sooner, isDue as isDueIn}
 use Rattle.machine.specs.Machine.{Note}
-use Rattle.table.specs.Columns.{Columns, entryAt, tableOf, bookOf, Sound}
-use Rattle.table.specs.Places.{isFree, holds, isDue, isLower, isSooner, liveId}
+use Rattle.table.specs.Columns.{Columns, entryAt, tableOf, bookOf, SoundTable}
+use Rattle.table.specs.inner.Places.{isFree, holds, isDue, isLower, isSooner, liveId}
 use Rattle.laws.proofs.TestLaws.{eqb-less, ltb-less}
 
 module _ (v : Value) (c : Columns) (x t : ℕ) where
@@ -92,6 +92,6 @@ live-cut is top id (suc n) l a =
     (eq-or top (suc n))
 
 -- An id is live in the book where it is live below top in the columns.
-pub live-same : (c : Columns) → Sound c → (id : ℕ) → liveIn (tableOf c) id ≡ liveId (c .ids) (c .top) id
+pub live-same : (c : Columns) → SoundTable c → (id : ℕ) → liveIn (tableOf c) id ≡ liveId (c .ids) (c .top) id
 unfolding tableOf
 live-same c s id = live-first c id places ∙ live-cut (c .ids) (c .top) id places (s .within) (s .above)

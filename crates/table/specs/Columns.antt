@@ -7,7 +7,7 @@ use mathlib.Core.Option.{Option, some, none}
 use mathlib.Core.List.{List}
 use lib.ListN.{length, getD}
 use lib.Dec.{eqb}
-use Rattle.laws.specs.Numbers.{ids, places, room, partyPlaces}
+use Rattle.numbers.specs.Numbers.{ids, places, room, partyPlaces}
 use Rattle.laws.specs.Lists.{tab}
 use Rattle.laws.specs.Bits.{has, with}
 use Rattle.settings.specs.Grammar.{Value}
@@ -63,7 +63,7 @@ bookOf v c x t = book v (tableOf c) x t
 
 -- what every call keeps: the columns have their lengths, ids are ids, no place from top on is live, no place has more parties than there is room for, and a live
 -- place's word is that of something that may be asked, with bit 32 where it is closed and no other bit besides
-pub record Sound (c : Columns) : Type 0 where
+pub record SoundTable (c : Columns) : Type 0 where
   pub ids-long : length (c .ids) ≡ places
   pub asked-long : length (c .asked) ≡ places
   pub callers-long : length (c .callers) ≡ places

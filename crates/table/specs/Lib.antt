@@ -1,3 +1,2 @@
 pub mod Columns
-pub mod Places
-pub mod Changes
+pub mod inner

@@ -11,7 +11,7 @@ use settingstext::writing::Wrote;
 // How many bytes the text of a value takes in a buffer of which so many are lent: 0 where they are too few; on any other refusal the length of the longest, of which no byte is then written.
 fn written(s: Settings, buffer: &mut [u8], lent: usize) -> usize {
     if buffer.len() < lent {
-        return laws::MOST_TEXT;
+        return numbers::MOST_TEXT;
     }
     match settingstext::writing::write_text(
         s.timeout,
@@ -24,13 +24,13 @@ fn written(s: Settings, buffer: &mut [u8], lent: usize) -> usize {
     ) {
         Wrote::Text(size) => size,
         Wrote::TooShort => 0,
-        Wrote::Invalid => laws::MOST_TEXT,
+        Wrote::Invalid => numbers::MOST_TEXT,
     }
 }
 
 // Whether the text is what is written of the value: a buffer as long as the text takes it, and one that is a byte shorter is too short.
 fn comes_back(s: Settings, text: &[u8]) -> bool {
-    let mut buffer = [0u8; laws::MOST_TEXT];
+    let mut buffer = [0u8; numbers::MOST_TEXT];
     let size = text.len();
     let short = written(s, &mut buffer, std::num::wrapping_sub_usize(size, 1));
     let whole = written(s, &mut buffer, size);

@@ -1,22 +1,21 @@
-// Whether a settings value is valid, and whether two are equal; its tags as the words that the state keeps.
+// Whether a settings value is valid; its tags as the words that the state keeps.
 pub mod tagwords;
 
 ghost use mathlib.Core.Path.{_≡_};
 ghost use mathlib.Core.Bool.{_&&_};
 ghost use mathlib.Core.List.{[], _∷_};
-ghost use Prim.Native.Nat.{_+_, _<_, min};
+ghost use Prim.Native.Nat.{_+_, _<_};
 ghost use lib.Dec.{leb};
-ghost use Rattle.laws.specs.Numbers.{mostTags, addresses};
+ghost use Rattle.numbers.specs.Numbers.{addresses};
 ghost use Rattle.settings.specs.Grammar.{valid, lastRegister, rightTimeout, rightJoin, rightTags, rightWidth, rightSign};
-ghost use Rattle.settings.specs.Values.{settings, valueOf, same};
-use settings::Settings;
+ghost use Rattle.settings.specs.Values.{settings, valueOf};
 
 // The rules of the lines behind the version line.
 fn head_right(timeout: u32, join: u32, tags: u32) -> bool
     ensures { λ r. ⌜ r ≡ (rightTimeout timeout && (rightJoin join && rightTags tags)) ⌝ }
 {
-    ((laws::LEAST_TIMEOUT <= timeout) & (timeout <= laws::MOST_TIMEOUT))
-        & ((join <= 1) & (tags as usize <= laws::MOST_TAGS))
+    ((numbers::LEAST_TIMEOUT <= timeout) & (timeout <= numbers::MOST_TIMEOUT))
+        & ((join <= 1) & (tags as usize <= numbers::MOST_TAGS))
 }
 
 // The rules of a tag's lines; `from` is the first address above the tag before.
@@ -24,7 +23,7 @@ fn tag_right(from: u32, address: u16, width: u16, sign: u16) -> bool
     ensures { λ r. ⌜ r ≡ (leb from address && (rightWidth (address ∷ []) width && rightSign (address ∷ width ∷ []) sign)) ⌝ }
 {
     (from <= address as u32)
-        & (((width == 16) | ((width == 32) & (address as u32 + 1 < laws::ADDRESSES)))
+        & (((width == 16) | ((width == 32) & (address as u32 + 1 < numbers::ADDRESSES)))
             & ((sign == 0) | ((sign == 1) & (width == 16))))
 }
 
@@ -44,9 +43,9 @@ pub fn is_valid<'a>(
     timeout: u32,
     join: u32,
     tags: u32,
-    addr: &'a [u16; laws::MOST_TAGS],
-    width: &'a [u16; laws::MOST_TAGS],
-    sign: &'a [u16; laws::MOST_TAGS],
+    addr: &'a [u16; numbers::MOST_TAGS],
+    width: &'a [u16; numbers::MOST_TAGS],
+    sign: &'a [u16; numbers::MOST_TAGS],
 ) -> bool
     ensures { λ r. ⌜ r ≡ valid (valueOf (settings timeout join tags (now (addr .entry)) (now (width .entry)) (now (sign .entry)))) ⌝ }
 {
@@ -62,30 +61,4 @@ pub fn is_valid<'a>(
         k += 1;
     }
     right
-}
-
-// How many places there are of so many tags.
-fn places(tags: u32) -> usize
-    ensures { λ r. ⌜ r ≡ min tags mostTags ⌝ }
-{
-    if tags as usize <= laws::MOST_TAGS {
-        tags as usize
-    } else {
-        laws::MOST_TAGS
-    }
-}
-
-// Equal are timeout, join and the listed tags with their signs; a place beyond the arrays counts as 0 on both sides.
-pub fn are_equal(a: Settings, b: Settings) -> bool
-    ensures { λ r. ⌜ r ≡ same (valueOf a) (valueOf b) ⌝ }
-{
-    let mut equal = (a.timeout == b.timeout) & ((a.join == b.join) & (a.tags == b.tags));
-    let listed = places(a.tags);
-    let mut k: usize = 0;
-    while k < listed {
-        equal = equal
-            & ((a.addr[k] == b.addr[k]) & ((a.width[k] == b.width[k]) & (a.sign[k] == b.sign[k])));
-        k += 1;
-    }
-    equal
 }

@@ -1,13 +1,11 @@
-// The word that the state keeps of a tag: tag words of a settings value, and a settings value of tag words.
+// The word that the state keeps of a tag, and the tag words of a settings value.
 ghost use mathlib.Core.Path.{_≡_};
 ghost use mathlib.Core.List.{map};
 ghost use Prim.Native.Nat.{_≤_};
-ghost use lib.ListN.{length, take};
-ghost use Rattle.laws.specs.Numbers.{mostTags};
-ghost use Rattle.settings.specs.Values.{listed, settingsOf, padded};
-ghost use Rattle.settings.specs.TagWords.{kindOf, kindNumber, kindFrom, widthOf, signOf, wordOf, tagOf};
+ghost use Rattle.numbers.specs.Numbers.{mostTags};
+ghost use Rattle.settings.specs.Values.{listed, padded};
+ghost use Rattle.settings.specs.TagWords.{kindOf, kindNumber, kindFrom, tagWord, tagOf};
 use bcd::Kind;
-use settings::Settings;
 use settings::kind_of;
 
 fn kind_number(kind: Kind) -> u64
@@ -32,97 +30,40 @@ fn kind_from(number: u64) -> Kind
     }
 }
 
-fn width_of(kind: Kind) -> u16
-    ensures { λ r. ⌜ r ≡ widthOf kind ⌝ }
-{
-    match kind {
-        Kind::Width16 => 16,
-        Kind::Width32 => 32,
-        Kind::Signed16 => 16,
-    }
-}
-
-fn sign_of(kind: Kind) -> u16
-    ensures { λ r. ⌜ r ≡ signOf kind ⌝ }
-{
-    match kind {
-        Kind::Width16 => 0,
-        Kind::Width32 => 0,
-        Kind::Signed16 => 1,
-    }
-}
-
 // The word of a tag.
 pub fn tag_word(address: u16, width: u16, sign: u16) -> u64
-    ensures { λ r. ⌜ r ≡ wordOf (record { address = address; width = width; sign = sign }) ⌝ }
+    ensures { λ r. ⌜ r ≡ tagWord (record { address = address; width = width; sign = sign }) ⌝ }
 {
-    address as u64 + laws::ADDRESSES as u64 * kind_number(kind_of(width, sign))
+    address as u64 + numbers::ADDRESSES as u64 * kind_number(kind_of(width, sign))
 }
 
 pub fn tag_address(word: u64) -> u16
     ensures { λ r. ⌜ r ≡ tagOf word .address ⌝ }
 {
-    (word % laws::ADDRESSES as u64) as u16
+    (word % numbers::ADDRESSES as u64) as u16
 }
 
 pub fn tag_kind(word: u64) -> Kind
     ensures { λ r. ⌜ r ≡ kindOf (tagOf word) ⌝ }
 {
-    kind_from(word / laws::ADDRESSES as u64 % 256)
+    kind_from(word / numbers::ADDRESSES as u64 % 256)
 }
 
 // The words of the listed tags, and 0 in every place beyond.
 pub fn fill_words<'a>(
     tags: u32,
-    addr: &'a [u16; laws::MOST_TAGS],
-    width: &'a [u16; laws::MOST_TAGS],
-    sign: &'a [u16; laws::MOST_TAGS],
-    words: &mut [u64; laws::MOST_TAGS],
+    addr: &'a [u16; numbers::MOST_TAGS],
+    width: &'a [u16; numbers::MOST_TAGS],
+    sign: &'a [u16; numbers::MOST_TAGS],
+    words: &mut [u64; numbers::MOST_TAGS],
 )
     requires { ⌜ tags ≤ mostTags ⌝ }
-    ensures { λ r. ⌜ now (words .exit) ≡ padded (map wordOf (listed tags (now (addr .entry)) (now (width .entry)) (now (sign .entry)))) ⌝ }
+    ensures { λ r. ⌜ now (words .exit) ≡ padded (map tagWord (listed tags (now (addr .entry)) (now (width .entry)) (now (sign .entry)))) ⌝ }
 {
-    *words = [0u64; laws::MOST_TAGS];
+    *words = [0u64; numbers::MOST_TAGS];
     let mut k: usize = 0;
     while k < tags as usize {
         words[k] = tag_word(addr[k], width[k], sign[k]);
         k += 1;
-    }
-}
-
-// What an array by value tells: its length.
-fn told(words: [u64; laws::MOST_TAGS])
-    ensures { λ r. ⌜ length words ≡ mostTags ⌝ }
-{}
-
-// The boundary's settings of what the state keeps.
-pub fn settings_from(
-    timeout: u32,
-    join: u32,
-    tagged: u32,
-    words: &[u64; laws::MOST_TAGS],
-) -> Settings
-    requires { ⌜ tagged ≤ mostTags ⌝ }
-    ensures { λ r. ⌜ r ≡ settingsOf (record { timeout = timeout; join = join; tags = map tagOf (take tagged (now (words .entry))) }) ⌝ }
-{
-    told(*words);
-    let mut addr = [0u16; laws::MOST_TAGS];
-    let mut width = [0u16; laws::MOST_TAGS];
-    let mut sign = [0u16; laws::MOST_TAGS];
-    let mut k: usize = 0;
-    while k < tagged as usize {
-        addr[k] = tag_address(words[k]);
-        let kind = tag_kind(words[k]);
-        width[k] = width_of(kind);
-        sign[k] = sign_of(kind);
-        k += 1;
-    }
-    Settings {
-        timeout: timeout,
-        join: join,
-        tags: tagged,
-        addr: addr,
-        width: width,
-        sign: sign,
     }
 }

@@ -8,17 +8,11 @@ use native.Mathlib.Omega.{arith}
 use lib.ListN.{length}
 use lib.Dec.{eqb, ltb}
 use borrow.Author.Tests.{ltb-false, le-ltb, eqb-true, eq-eqb, not-false}
-use Rattle.laws.specs.Numbers.{leastFrame, mostFrame, uncounted, ids, lastFunction, exceptionFrame, exceptionBit}
+use Rattle.numbers.specs.Numbers.{leastFrame, mostFrame, uncounted, ids, lastFunction, exceptionFrame, exceptionBit}
 use Rattle.laws.specs.Bytes.{putAt}
 use Rattle.laws.proofs.Choice.{or-left, or-right}
 use Rattle.wire.specs.Frame.{idOf, protocolOf, lengthOf, functionOf, misframed, laid, exception}
-
--- what a frame that is not refused is known to be
-pub record Framed (f : List ℕ) : Type 0 where
-  pub least : leastFrame ≤ length f
-  pub most : length f ≤ mostFrame
-  pub protocol : protocolOf f ≡ 0
-  pub counted : lengthOf f + uncounted ≡ length f
+use Rattle.wire.specs.Plain.{Framed}
 
 -- a frame that is not refused has its size, protocol and length field in order
 pub framed : (f : List ℕ) → misframed f ≡ false → Framed f

@@ -11,7 +11,7 @@ use lib.ListN.{length, take, drop, length-append, take-append-drop}
 use lib.Seq.{length-take-le, take-all, take-nil, take-append-le, drop-append-seam}
 use lib.Dec.{eqb, ltb}
 use borrow.Author.Tests.{ltb-false, lt-ltb, le-ltb, eqb-true, eqb-false, eq-eqb, ne-eqb, not-false}
-use Rattle.laws.specs.Numbers.{uncounted, leastLength, mostLength}
+use Rattle.numbers.specs.Numbers.{uncounted, leastLength, mostLength}
 use Rattle.laws.proofs.Choice.{true-or, or-left, or-right}
 use Rattle.wire.specs.Frame.{protocolOf, lengthOf, misframed}
 use Rattle.wire.specs.Splitting.{badHeader, standingOf, sizeIf, firstFrame, frames}
@@ -20,6 +20,7 @@ use Rattle.wire.specs.declared.splitting.Split.the-variants.{Frame, More
 use Rattle.laws.proofs.Choice.{cond-first, cond-second}
 use Rattle.laws.proofs.ListLaws.{take-part, front-rest}
 use Rattle.laws.proofs.ByteLaws.{pair-append}
+use Rattle.wire.specs.Plain.{Whole, left}
 use Rattle.wire.proofs.FrameLaws.{framed, not-misframed}
 
 -- what a run with a frame at its start is known to be
@@ -172,14 +173,6 @@ pub frames-none : (n : ℕ) (r : List ℕ) → firstFrame r ≡ [] → frames n 
 unfolding frames
 frames-none zero r e = refl
 frames-none (suc n) r e = rw e
-
--- each of these lists is not refused as a frame
-abbrev pub Whole : List (List ℕ) → Type 0
-Whole fs = (f : List ℕ) → List·Memᴰ f fs → misframed f ≡ false
-
--- what is left of a run behind the frames that were split off
-abbrev pub left : ℕ → List ℕ → List ℕ
-left n r = drop (length (flatten (frames n r))) r
 
 -- frames in a row are split off one by one, and then what is behind them is split
 pub frames-on : (fs : List (List ℕ)) (m : ℕ) (rest : List ℕ) → Whole fs → frames (length fs + m) (flatten fs ++ rest) ≡ fs ++ frames m rest

@@ -5,7 +5,7 @@ use mathlib.Core.Bool.{Bool, not, _||_}
 use mathlib.Core.List.{List, [], _∷_, _++_}
 use lib.ListN.{length, getD, drop}
 use lib.Dec.{eqb, ltb}
-use Rattle.laws.specs.Numbers.{leastFrame, mostFrame, uncounted, headerSize, exceptionBit, exceptionLength}
+use Rattle.numbers.specs.Numbers.{leastFrame, mostFrame, uncounted, unitAt, headerSize, exceptionBit, exceptionLength}
 use Rattle.laws.specs.Bytes.{pairAt, pairOf}
 
 -- the header, big-endian: id 2, protocol 2, length 2, unit 1; the length counts unit and PDU
@@ -19,7 +19,7 @@ abbrev pub lengthOf : List ℕ → ℕ
 lengthOf f = pairAt f 4
 
 abbrev pub unitOf : List ℕ → ℕ
-unitOf f = getD f 6 0
+unitOf f = getD f unitAt 0
 
 -- the PDU: its function, and its size
 abbrev pub functionOf : List ℕ → ℕ

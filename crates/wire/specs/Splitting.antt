@@ -5,7 +5,7 @@ use mathlib.Core.Bool.{Bool, cond, not, _||_}
 use mathlib.Core.List.{List, [], _∷_}
 use lib.ListN.{length, take, drop}
 use lib.Dec.{eqb, ltb}
-use Rattle.laws.specs.Numbers.{uncounted, leastLength, mostLength}
+use Rattle.numbers.specs.Numbers.{uncounted, leastLength, mostLength}
 use Rattle.wire.specs.Frame.{protocolOf, lengthOf}
 use Rattle.wire.specs.declared.splitting.Split.{Split}
 use Rattle.wire.specs.declared.splitting.Split.the-variants.{Frame, MoreNeeded, Refused}

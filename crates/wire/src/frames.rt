@@ -2,7 +2,7 @@
 ghost use mathlib.Core.Path.{_≡_};
 ghost use Prim.Native.Nat.{_+_, _%_, _≤_};
 ghost use lib.ListN.{length};
-ghost use Rattle.laws.specs.Numbers.{exceptionBit, exceptionFrame};
+ghost use Rattle.numbers.specs.Numbers.{exceptionBit, exceptionFrame};
 ghost use Rattle.laws.specs.Bytes.{over};
 ghost use Rattle.wire.specs.Frame.{misframed, laid, exception};
 use crate::pair_at;
@@ -13,9 +13,9 @@ pub fn is_misframed(frame: &[u8]) -> bool
     ensures { λ r. ⌜ r ≡ misframed (now (frame .entry)) ⌝ }
 {
     let n = frame.len();
-    (n < laws::LEAST_FRAME)
-        | ((laws::MOST_FRAME < n)
-            | ((pair_at(frame, 2) != 0) | (pair_at(frame, 4) as usize + laws::UNCOUNTED != n)))
+    (n < numbers::LEAST_FRAME)
+        | ((numbers::MOST_FRAME < n)
+            | ((pair_at(frame, 2) != 0) | (pair_at(frame, 4) as usize + numbers::UNCOUNTED != n)))
 }
 
 // Lays an id over bytes 0 and 1.
@@ -34,7 +34,7 @@ pub fn except(out: &mut [u8], id: u16, unit: u8, function: u8, code: u8)
     lay_id(out, id);
     put_at(out, 2, 0);
     out[4] = 0;
-    out[5] = laws::EXCEPTION_LENGTH;
+    out[5] = numbers::EXCEPTION_LENGTH;
     out[6] = unit;
     out[7] = flagged(function);
     out[8] = code;
@@ -44,9 +44,9 @@ pub fn except(out: &mut [u8], id: u16, unit: u8, function: u8, code: u8)
 fn flagged(function: u8) -> u8
     ensures { λ r. ⌜ r ≡ (function + exceptionBit) % 256 ⌝ }
 {
-    if function < laws::EXCEPTION_BIT {
-        function + laws::EXCEPTION_BIT
+    if function < numbers::EXCEPTION_BIT {
+        function + numbers::EXCEPTION_BIT
     } else {
-        function - laws::EXCEPTION_BIT
+        function - numbers::EXCEPTION_BIT
     }
 }

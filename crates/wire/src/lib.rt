@@ -34,23 +34,23 @@ pub fn pair_at(s: &[u8], k: usize) -> u16
 pub fn unit_of(frame: &[u8]) -> u8
     ensures { λ r. ⌜ r ≡ unitOf (now (frame .entry)) ⌝ }
 {
-    byte_at(frame, laws::UNCOUNTED)
+    byte_at(frame, numbers::UNIT_AT)
 }
 
 pub fn function_of(frame: &[u8]) -> u8
     ensures { λ r. ⌜ r ≡ functionOf (now (frame .entry)) ⌝ }
 {
-    byte_at(frame, laws::HEADER_SIZE)
+    byte_at(frame, numbers::HEADER_SIZE)
 }
 
 // How many bytes the PDU has; 0 where the header is not whole.
 pub fn pdu_size(frame: &[u8]) -> usize
     ensures { λ r. ⌜ r ≡ pduSize (now (frame .entry)) ⌝ }
 {
-    if frame.len() < laws::HEADER_SIZE {
+    if frame.len() < numbers::HEADER_SIZE {
         0
     } else {
-        frame.len() - laws::HEADER_SIZE
+        frame.len() - numbers::HEADER_SIZE
     }
 }
 

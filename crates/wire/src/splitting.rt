@@ -15,14 +15,16 @@ pub enum Split {
 pub fn standing(run: &[u8]) -> Split
     ensures { λ r. ⌜ r ≡ standingOf (now (run .entry)) ⌝ }
 {
-    if run.len() < laws::UNCOUNTED {
+    if run.len() < numbers::UNCOUNTED {
         return Split::MoreNeeded;
     }
     let length = pair_at(run, 4);
-    if (pair_at(run, 2) != 0) | ((length < laws::LEAST_LENGTH) | (laws::MOST_LENGTH < length)) {
+    if (pair_at(run, 2) != 0)
+        | ((length < numbers::LEAST_LENGTH) | (numbers::MOST_LENGTH < length))
+    {
         return Split::Refused;
     }
-    if run.len() < laws::UNCOUNTED + length as usize {
+    if run.len() < numbers::UNCOUNTED + length as usize {
         return Split::MoreNeeded;
     }
     Split::Frame
@@ -33,7 +35,7 @@ fn first_size(run: &[u8]) -> usize
     ensures { λ r. ⌜ r ≡ length (firstFrame (now (run .entry))) ⌝ }
 {
     match standing(run) {
-        Split::Frame => laws::UNCOUNTED + pair_at(run, 4) as usize,
+        Split::Frame => numbers::UNCOUNTED + pair_at(run, 4) as usize,
         Split::MoreNeeded => 0,
         Split::Refused => 0,
     }

@@ -8,7 +8,7 @@ use mathlib.Core.Option.{some, Option·getD}
 use mathlib.Core.List.{List, [], _∷_, _++_, map, map-append, append-assoc, List·Memᴰ}
 use native.Mathlib.Omega.{arith}
 use lib.ListN.{length, getD, take}
-use Rattle.laws.specs.Numbers.{ids, places, distance, latestTime}
+use Rattle.numbers.specs.Numbers.{ids, places, distance, latestTime}
 use Rattle.laws.specs.Lists.{lastGiven, lastOf}
 use Rattle.laws.specs.Search.{count}
 use Rattle.laws.specs.Bits.{has}
@@ -36,9 +36,8 @@ use Rattle.book.specs.Book.Event.{issued}
 use Rattle.book.specs.Ledger.{Ticket, Apart, Differing, Anew, partiesOf}
 use Rattle.book.specs.Traced.{touches, issuedId, behind, Outstanding}
 use Rattle.book.specs.Desk.{AllLive, isLive}
-use Rattle.book.specs.Machine.{history}
 use Rattle.machine.specs.Machine.{Machine, Note, rules, settings}
-use Rattle.machine.specs.Calls.{Call, Outcome, done, outOf, listOf, timeOf}
+use Rattle.machine.specs.Calls.{Call, Outcome, outOf, listOf, timeOf}
 use Rattle.machine.specs.Calls.Call.{attach, detach, request, reply, tick, linkLost}
 use Rattle.machine.specs.Refusals.{refusal}
 use Rattle.machine.specs.Outcomes.{outcome}
@@ -46,21 +45,18 @@ use Rattle.machine.specs.Granted.{concerns}
 use Rattle.machine.specs.Numbers.{ten, numbers, isIssued, isJoined, isException, isTimedOut, isNothingDue}
 use Rattle.machine.specs.Waiting.{nextDeadline}
 use Rattle.machine.specs.Spelled.{asker, asking}
-use Rattle.machine.specs.Histories.{Seen, seenOf}
+use Rattle.machine.specs.Histories.{Seen, seenOf, afterCalls, toldBy, toldSince, IssuedBy, toldFrom}
 use Rattle.machine.specs.Closed.{Unspoiled, Joinable, Meets}
 use Rattle.machine.specs.declared.Answer.{Answer}
 use Rattle.machine.specs.declared.Answer.the-variants as answer
 use Rattle.machine.specs.declared.Report.{Report}
 use Rattle.machine.specs.declared.NextDeadline.{NextDeadline}
-use Rattle.machine.proofs.RefusalLaws.{table, Applies}
+use Rattle.machine.specs.RefusalTable.{table, Applies}
+use Rattle.machine.specs.Requested.{NoneToJoin, Carries, Issues, Joins, Excepts, Accepts, Stands}
+use Rattle.machine.specs.Answered.{showing, Lent, tickAt, ticksAt}
 use Rattle.machine.proofs.NumberLaws.{refusal-told, refusal-exactly, exception-exactly, join-exactly}
-use Rattle.machine.proofs.RequestLaws.{NoneToJoin}
-use Rattle.machine.proofs.AskLaws.{Carries, bits-carry-none, Issues, Joins, Excepts}
-use Rattle.machine.proofs.PartyLaws.{Accepts, Stands}
-use Rattle.machine.proofs.AnswerLaws.{showing}
-use Rattle.machine.proofs.TickLaws.{Lent, tickAt, ticksAt}
-use Rattle.machine.proofs.Histories.{product, afterCalls, toldBy, toldSince}
-use Rattle.machine.proofs.StateLaws.{IssuedBy, seen-issue}
+use Rattle.machine.proofs.AskLaws.{bits-carry-none}
+use Rattle.machine.proofs.StateLaws.{seen-issue}
 use Rattle.machine.proofs.Claims as claim
 use Rattle.table.specs.Columns.{partiesAt, noteOf}
 use Rattle.proxy.specs.State.{valueIn}
@@ -68,25 +64,12 @@ use Rattle.proxy.proofs.MakingLaws.{adopted-valid}
 use Rattle.device.specs.declared.Device.{Device}
 use Rattle.device.specs.Device.{Freshly, Awaited}
 use Rattle.device.proofs.DeviceLaws.{same-device}
-use Rattle.zilborteka.specs.Lives.{inForce, machineIn, Called, Line, callsOf, Lived, grantedIn, toldIn, ledgerIn}
+use Rattle.zilborteka.specs.Lives.{inForce, machineIn, Called, Line, callsOf, Lived, grantedIn, toldIn, ledgerIn, AsTheMachine, outcomeIn, issueIn, joinIn, exceptionIn, LiveIn}
 use Rattle.zilborteka.specs.Lives.Lived.{none, then}
-use Rattle.zilborteka.proofs.Lived.{left, seen, came, report-tells, tells, lived-on, each-line, line-told, AsTheMachine, a-device-lives-as-the-machine, a-report-tells-the-answer, a-device-accounts-for-every-request}
-use Rattle.zilborteka.proofs.Handed.{waitingUnder, Replied, TimesOut, lives-as, replied, timed-out, answers-what}
-use Rattle.zilborteka.proofs.Places.{LiveIn, place-live, live-in}
-
--- what a host saw, as an outcome of the machine: the answer that the report tells, the machine that the device is afterwards, and both lent buffers
-abbrev pub outcomeIn : Answer → Seen → Device → Outcome
-outcomeIn a saw e = done a (machineIn e) (saw .frame) (saw .list)
-
--- the answers that the report of an issue, a join and an exception tells
-abbrev pub issueIn : Report → Answer
-issueIn r = answer.Issued (record { 0 = r .id }) (r .length) (r .partial) (r .value)
-
-abbrev pub joinIn : Report → Answer
-joinIn r = answer.Joined (record { 0 = r .id })
-
-abbrev pub exceptionIn : Report → Answer
-exceptionIn r = answer.Excepted (r .code)
+use Rattle.zilborteka.specs.Handed.{waitingUnder, Replied, TimesOut}
+use Rattle.zilborteka.proofs.Lived.{left, seen, came, report-tells, tells, lived-on, each-line, line-told, a-device-lives-as-the-machine, a-report-tells-the-answer, a-device-accounts-for-every-request}
+use Rattle.zilborteka.proofs.Handed.{lives-as, replied, timed-out, answers-what}
+use Rattle.zilborteka.proofs.Places.{place-live, live-in}
 
 -- the whole report of an issue, a join and an exception, and which of the three it is
 module _ {m : Machine} {c t : ℕ} {f o : List ℕ} {y : Outcome} {r : Report} where
@@ -148,7 +131,7 @@ module _ (from : Settings) {r : Report} {d d′ : Device} (ls : List Line) (fres
 
   -- The settings in force stay those that fresh adopted: in the machine that the device is, and in the device's own fields, timeout, join and the words of its tags.
   pub the-settings-in-force-stay : (settings (machineIn d′) ≡ inForce from) × (d′ .timeout ≡ inForce from .timeout) × (d′ .join ≡ inForce from .join)
-      × (map tagOf (take (d′ .tagged) (d′ .tags)) ≡ inForce from .tags)
+      × (map tagOf (take (d′ .«tag_count») (d′ .«tag_words»)) ≡ inForce from .tags)
   unfolding machineIn valueIn
   the-settings-in-force-stay =
       let e = ap (λ (m : Machine). settings m) (lived .after) ∙ claim.the-settings-in-force-stay v xs in
@@ -428,7 +411,7 @@ module _ (from : Settings) {r : Report} {d d′ : Device} (ls : List Line) (fres
       let i = each-line ks x ys (subst (λ (l : List Line). Lived d l d′) e life) in
       let first = a-device-lives-as-the-machine from (ks ++ x ∷ []) fresh (lived-on (i .2) (then (i .3) none)) in
       let calls : (zs : List Line) → callsOf (ks ++ x ∷ zs) ≡ callsOf ks ++ request c t g o ∷ callsOf zs = λ zs. map-append (λ (y : Line). y .call) ks (x ∷ zs) ∙ ap (λ (y : Call). callsOf ks ++ y ∷ callsOf zs) call in
-      let later : toldIn v ys ≡ toldSince v (callsOf ks ++ request c t g o ∷ []) (callsOf ys) = tells v (i .4) ∙ ap (λ (m : Machine). history (product v) m (callsOf ys)) (first .after ∙ ap (afterCalls v) (calls [])) in
+      let later : toldIn v ys ≡ toldSince v (callsOf ks ++ request c t g o ∷ []) (callsOf ys) = tells v (i .4) ∙ ap (λ (m : Machine). toldFrom v m (callsOf ys)) (first .after ∙ ap (afterCalls v) (calls [])) in
       let now : machineIn d′ ≡ afterCalls v (callsOf ks ++ request c t g o ∷ callsOf ys) = lived .after ∙ ap (afterCalls v) (ap callsOf e ∙ calls ys) in
       rw later
       (claim.a-read-after-a-write-is-not-stale-in-bytes v (callsOf ks) c t g o _ _ _ _ (rw call at (a-report-tells-the-answer from ls fresh life ks x ys e .issued issue))

@@ -17,7 +17,7 @@ use Rattle.machine.specs.Machine.{made}
 use Rattle.machine.specs.Numbers.{ten, numbers}
 use Rattle.machine.specs.declared.Report.{Report}
 use Rattle.reports.specs.Plain.{lengthIn, WrongHeader, FrameFirst, textFor}
-use Rattle.reports.specs.Reports.{told, SplitPromised, ReadPromised, WritePromised}
+use Rattle.reports.specs.Reports.{shortReport, SplitPromised, ReadPromised, WritePromised}
 use Rattle.reports.specs.declared.SettingsRead.{SettingsRead}
 use Rattle.reports.proofs.SaysLaws as says
 use Rattle.proxy.proofs.MakingLaws.{adopts-valid, adopts-usual}
@@ -102,7 +102,7 @@ else-the-usual-are-in-force from n =
 
 -- "Making a state from an invalid value returns refusal 10 beside the fresh state for timeout 3000, join 1 and no tags."
 module _ (from : Settings) {r : Report} {d : Device} (fresh : Freshly from r d) where
-  made-as : (ValidSettings from × (r ≡ told 0 0 1 0)) ⊎ ((ValidSettings from → ⊥) × (r ≡ told 10 0 0 0))
+  made-as : (ValidSettings from × (r ≡ shortReport 0 0 1 0)) ⊎ ((ValidSettings from → ⊥) × (r ≡ shortReport 10 0 0 0))
   unfolding numbers
   made-as =
       ⊎-elim
@@ -113,15 +113,15 @@ module _ (from : Settings) {r : Report} {d : Device} (fresh : Freshly from r d) 
   pub making-is-refused-exactly : (r ≡ ten 10 0 0 0 0 0 0 0 0 0) ↔ (ValidSettings from → ⊥)
   making-is-refused-exactly =
       ⊎-elim
-      (λ (m : ValidSettings from × (r ≡ told 0 0 1 0)). Iff·trans (says.told-exactly 0 0 1 0 10 0 0 0 (m .1)) (says.neither (λ x. omega arith) (λ n. n (m .0))))
-      (λ (m : (ValidSettings from → ⊥) × (r ≡ told 10 0 0 0)). says.both (m .1) (m .0))
+      (λ (m : ValidSettings from × (r ≡ shortReport 0 0 1 0)). Iff·trans (says.short-report-exactly 0 0 1 0 10 0 0 0 (m .1)) (says.neither (λ x. omega arith) (λ n. n (m .0))))
+      (λ (m : (ValidSettings from → ⊥) × (r ≡ shortReport 10 0 0 0)). says.both (m .1) (m .0))
       made-as
 
   pub making-is-done-exactly : (r ≡ ten 0 0 1 0 0 0 0 0 0 0) ↔ ValidSettings from
   making-is-done-exactly =
       ⊎-elim
-      (λ (m : ValidSettings from × (r ≡ told 0 0 1 0)). says.both (m .1) (m .0))
-      (λ (m : (ValidSettings from → ⊥) × (r ≡ told 10 0 0 0)). Iff·trans (says.told-exactly 10 0 0 0 0 0 1 0 (m .1)) (says.neither (λ x. omega arith) (m .0)))
+      (λ (m : ValidSettings from × (r ≡ shortReport 0 0 1 0)). says.both (m .1) (m .0))
+      (λ (m : (ValidSettings from → ⊥) × (r ≡ shortReport 10 0 0 0)). Iff·trans (says.short-report-exactly 10 0 0 0 0 0 1 0 (m .1)) (says.neither (λ x. omega arith) (m .0)))
       made-as
 
   pub a-made-device-is-fresh : machineIn d ≡ made (inForce from)

@@ -1,26 +1,21 @@
 -- What a reply and a timeout hand to whom, as a host sees it: over the ledger and the history that are kept from the calls and what was seen of them.
 -- Assumes nothing.
-use Prim.Native.Nat.{ℕ, _+_, _*_, _%_, _≤_, _<_}
+use Prim.Native.Nat.{ℕ, _+_, _%_}
 use mathlib.Core.Path.{_≡_, refl, ap, subst, _∙_}
-use mathlib.Core.Logic.{_⊎_}
-use mathlib.Core.Bool.{true, false}
 use mathlib.Core.Option.{some}
-use mathlib.Core.List.{List, _∷_, List·Memᴰ}
+use mathlib.Core.List.{List, List·Memᴰ}
 use native.Mathlib.Omega.{arith}
 use native.Mathlib.Nat.{mod-eq-of-lt}
-use lib.ListN.{length, getD, drop, length-map}
-use Rattle.laws.specs.Lists.{filter}
+use lib.ListN.{length, length-map}
 use Rattle.laws.specs.Bytes.{over}
 use Rattle.wire.specs.Frame.{laid, exception}
 use Rattle.settings.specs.Grammar.{Value}
-use Rattle.pdu.specs.Replies.{What, answering, excepts}
-use Rattle.pdu.specs.declared.Table.the-variants.{Registers}
-use Rattle.pdu.specs.declared.Asked.the-variants.{Read}
+use Rattle.pdu.specs.Replies.{What}
 use Rattle.rewrite.specs.declared.Way.the-variants.{ToBinary}
 use Rattle.rewrite.specs.Frames.{returned}
 use Rattle.rewrite.specs.Plain.{Rewrites}
-use Rattle.book.specs.Book.{Event, Live, at}
-use Rattle.book.specs.Ledger.{Ticket, empty, posts, under, partiesOf}
+use Rattle.book.specs.Book.{Live, at}
+use Rattle.book.specs.Ledger.{Ticket, partiesOf}
 use Rattle.book.specs.Traced.{Outstanding}
 use Rattle.machine.specs.Machine.{Note}
 use Rattle.machine.specs.Calls.{Call}
@@ -29,51 +24,13 @@ use Rattle.machine.specs.Refusals.{refusal}
 use Rattle.machine.specs.Replies.{pairs}
 use Rattle.machine.specs.Outcomes.{outcome}
 use Rattle.machine.specs.Numbers.{ten, numbers}
-use Rattle.machine.specs.Histories.{Seen, seenOf}
+use Rattle.machine.specs.Histories.{Seen, seenOf, afterCalls, toldBy, ledgerOf}
 use Rattle.machine.specs.declared.Answer.{Answer}
 use Rattle.machine.specs.declared.Answer.the-variants as answer
-use Rattle.machine.proofs.FrameOfParty.{EachItsFrame, reply-frame, always-known}
-use Rattle.machine.proofs.Histories.{afterCalls, toldBy, ledgerOf}
+use Rattle.machine.specs.PartysFrames.{EachItsFrame}
+use Rattle.machine.proofs.FrameOfParty.{reply-frame, always-known}
 use Rattle.machine.proofs.Claims as claim
-
--- those that wait under an id in the ledger of a history, in the order in which they were accepted
-abbrev pub waitingUnder : List (Event What) → ℕ → List (Ticket What)
-waitingUnder vs id = filter (under id) (posts empty vs .waiting)
-
--- what is handed to those that wait under the id which the report names, each of whom asked w: the list holds pair by pair their clients and original ids and behind them what was
--- there (l), and each gets its frame
-pub record HandsOut (vs : List (Event What)) (w : What) (l : List ℕ) (saw : Seen) : Type 0 where
-  pub list : saw .list ≡ over (pairs (partiesOf (waitingUnder vs (saw .report .id)))) l
-  pub alike : (k : Ticket What) → List·Memᴰ k (waitingUnder vs (saw .report .id)) → k .what ≡ w
-  pub frames : EachItsFrame (posts empty vs) saw
-
--- what a reply f comes to after a history: what is outstanding under its id, which it answers; all ten numbers of the report; the definition's rewriting of it, under id 0, which for a
--- reply to a read of registers that is no exception is told tag by tag; and whom it is handed to
-pub record Replied (v : Value) (vs : List (Event What)) (f o l : List ℕ) (saw : Seen) : Type 0 where
-  pub asked : What
-  pub client : ℕ
-  pub deadline : ℕ
-  pub outstanding : Outstanding vs (saw .report .id) asked client deadline
-  pub matches : answering asked f ≡ true
-  pub report : saw .report
-      ≡ ten 0 0 5 (length f) (length (waitingUnder vs (saw .report .id))) (returned (v .tags) asked f .partial) (returned (v .tags) asked f .value) 0 (getD f 0 0 * 256 + getD f 1 0) 0
-  pub frame : saw .frame ≡ over (laid 0 (returned (v .tags) asked f .bytes)) o
-  pub rewritten : (s q : ℕ) → asked .asked ≡ Read Registers s q → excepts (asked .function) f ≡ false
-      → Rewrites ToBinary (v .tags) f (saw .frame) (saw .report .partial) (saw .report .value) 9 s q
-  pub handed : HandsOut vs asked l saw
-
--- what a timeout at t comes to: of the outstanding ids whose deadline has come the one that was due first, the smaller id of two; all ten numbers of the report; exception 0B; and whom
--- it is handed to
-pub record TimesOut (vs : List (Event What)) (t : ℕ) (o l : List ℕ) (saw : Seen) : Type 0 where
-  pub asked : What
-  pub client : ℕ
-  pub deadline : ℕ
-  pub outstanding : Outstanding vs (saw .report .id) asked client deadline
-  pub due : deadline ≤ t
-  pub earliest : (i : ℕ) (w : What) (c u : ℕ) → Outstanding vs i w c u → u ≤ t → (deadline < u) ⊎ ((deadline ≡ u) × (saw .report .id ≤ i))
-  pub report : saw .report ≡ ten 0 0 6 9 (length (waitingUnder vs (saw .report .id))) 0 0 0 (saw .report .id) 0
-  pub frame : saw .frame ≡ (0 ∷ 0 ∷ 0 ∷ 0 ∷ 0 ∷ 3 ∷ asked .unit ∷ (asked .function + 128) ∷ 11 ∷ drop 9 o)
-  pub handed : HandsOut vs asked l saw
+use Rattle.zilborteka.specs.Handed.{waitingUnder, HandsOut, Replied, TimesOut}
 
 -- the ten numbers of a reply and of a timeout, with equal numbers in place of the answer's
 answered-ten : (i j n k m p q v w : ℕ) → k ≡ m → p ≡ q → v ≡ w → i ≡ j → numbers (answer.Answered (record { 0 = i }) n k p v) ≡ ten 0 0 5 n m q w 0 j 0

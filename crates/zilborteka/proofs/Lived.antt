@@ -8,20 +8,20 @@ use Rattle.settings.specs.declared.Settings.{Settings}
 use Rattle.settings.specs.Grammar.{Value}
 use Rattle.pdu.specs.Replies.{What}
 use Rattle.book.specs.Book.{Event}
-use Rattle.book.specs.Machine.{Accounted, after, history}
+use Rattle.book.specs.Follower.{Accounted, stateAfter, linesOf}
 use Rattle.machine.specs.Machine.{Machine, rules}
 use Rattle.machine.specs.Calls.{Call, done}
 use Rattle.machine.specs.Refusals.{refusal}
 use Rattle.machine.specs.Outcomes.{outcome}
-use Rattle.machine.specs.Granted.{grantedFrom, grantedCalls}
-use Rattle.machine.specs.Numbers.{Reported}
-use Rattle.machine.specs.Histories.{Seen, seenOf, events}
+use Rattle.machine.specs.Granted.{grantedFrom}
+use Rattle.machine.specs.Numbers.{Reported, Tells}
+use Rattle.machine.specs.Histories.{Seen, seenOf, events, afterCalls, afterFrom, toldFrom}
 use Rattle.machine.specs.declared.Report.{Report}
-use Rattle.machine.proofs.NumberLaws.{Tells, numbers-tell, refusal-told}
-use Rattle.machine.proofs.Histories.{product, afterCalls, toldBy, accounted}
+use Rattle.machine.proofs.NumberLaws.{numbers-tell, refusal-told}
+use Rattle.machine.proofs.Histories.{accounted}
 use Rattle.device.specs.declared.Device.{Device}
-use Rattle.device.specs.Device.{Made, Freshly}
-use Rattle.zilborteka.specs.Lives.{inForce, machineIn, Called, Line, callsOf, Lived, grantedIn, toldIn, ledgerIn}
+use Rattle.device.specs.Device.{MadeDevice, Freshly}
+use Rattle.zilborteka.specs.Lives.{inForce, machineIn, Called, Line, callsOf, Lived, grantedIn, toldIn, ledgerIn, AsTheMachine}
 use Rattle.zilborteka.specs.Lives.Lived.{none, then}
 
 -- what a call leaves, and what the host sees of it, are the machine's
@@ -48,25 +48,25 @@ module _ {d : Device} (x : Call) {saw : Seen} {e : Device} (s : Called d x saw e
 
 module _ (v : Value) where
   -- Some lines later the device is the machine that many calls later, from whatever device they began,
-  lives : {d d′ : Device} {ls : List Line} → Lived d ls d′ → machineIn d′ ≡ after (product v) (machineIn d) (callsOf ls)
-  unfolding after
+  lives : {d d′ : Device} {ls : List Line} → Lived d ls d′ → machineIn d′ ≡ afterFrom (machineIn d) (callsOf ls)
+  unfolding stateAfter
   lives none = refl
-  lives {ls = x ∷ ls} (then s l) = lives l ∙ ap (λ (m : Machine). after (product v) m (callsOf ls)) (left (x .call) s)
+  lives {ls = x ∷ ls} (then s l) = lives l ∙ ap (λ (m : Machine). afterFrom m (callsOf ls)) (left (x .call) s)
 
   -- the host saw what the machine shows at that call,
   shows : (xs : List Line) (x : Line) (ys : List Line) {d d′ : Device} → Lived d (xs ++ (x ∷ ys)) d′
-      → x .saw ≡ seenOf (outcome (after (product v) (machineIn d) (callsOf xs)) (x .call))
-  unfolding after
+      → x .saw ≡ seenOf (outcome (afterFrom (machineIn d) (callsOf xs)) (x .call))
+  unfolding stateAfter
   shows [] x ys (then s l) = seen (x .call) s
-  shows (y ∷ xs) x ys (then s l) = shows xs x ys l ∙ ap (λ (m : Machine). seenOf (outcome (after (product v) m (callsOf xs)) (x .call))) (left (y .call) s)
+  shows (y ∷ xs) x ys (then s l) = shows xs x ys l ∙ ap (λ (m : Machine). seenOf (outcome (afterFrom m (callsOf xs)) (x .call))) (left (y .call) s)
 
   -- and the lines tell what the machine's history does.
-  pub tells : {d d′ : Device} {ls : List Line} → Lived d ls d′ → toldIn v ls ≡ history (product v) (machineIn d) (callsOf ls)
-  unfolding toldIn history
+  pub tells : {d d′ : Device} {ls : List Line} → Lived d ls d′ → toldIn v ls ≡ toldFrom v (machineIn d) (callsOf ls)
+  unfolding toldIn linesOf
   tells none = refl
   tells {d} {ls = x ∷ ls} (then s l) =
-      ap (λ (t : List (Event What)). events v (x .call) (x .saw) ++ t) (tells l ∙ ap (λ (m : Machine). history (product v) m (callsOf ls)) (left (x .call) s))
-      ∙ ap (λ (y : Seen). events v (x .call) y ++ history (product v) (outcome (machineIn d) (x .call) .after) (callsOf ls)) (seen (x .call) s)
+      ap (λ (t : List (Event What)). events v (x .call) (x .saw) ++ t) (tells l ∙ ap (λ (m : Machine). toldFrom v m (callsOf ls)) (left (x .call) s))
+      ∙ ap (λ (y : Seen). events v (x .call) y ++ toldFrom v (outcome (machineIn d) (x .call) .after) (callsOf ls)) (seen (x .call) s)
 
 -- The lines that were not refused are the machine's calls that were not.
 grants : {d d′ : Device} {ls : List Line} → Lived d ls d′ → grantedIn ls ≡ grantedFrom (machineIn d) (callsOf ls)
@@ -77,7 +77,7 @@ grants {d} {ls = x ∷ ls} (then s l) =
     rw (e, grants l, left (x .call) s) refl
 
 -- Every line leaves a device that these calls made, so that any call may come next.
-stays-made : {d d′ : Device} {ls : List Line} → Made d → Lived d ls d′ → Made d′
+stays-made : {d d′ : Device} {ls : List Line} → MadeDevice d → Lived d ls d′ → MadeDevice d′
 stays-made made none = made
 stays-made made (then s l) = stays-made (s .1) l
 
@@ -102,34 +102,21 @@ line-told v (x ∷ ls) e m =
     (λ (h : List·Memᴰ e (toldIn v ls)). let i = line-told v ls e h in (x ∷ i .0, i .1, i .2, ap (x ∷_) (i .3), i .4))
     (List·Memᴰ·append-cases (events v (x .call) (x .saw)) m)
 
--- what a device's life has in common with the machine's, made with the settings v
-pub record AsTheMachine (v : Value) (ls : List Line) (d′ : Device) : Type 0 where
-  -- the device is the machine after those calls
-  pub after : machineIn d′ ≡ afterCalls v (callsOf ls)
-  -- each line's report and lent buffers are those of the machine's outcome at that place of the history
-  pub saw : (xs : List Line) (x : Line) (ys : List Line) → ls ≡ xs ++ (x ∷ ys) → x .saw ≡ seenOf (outcome (afterCalls v (callsOf xs)) (x .call))
-  -- what the host could write down from its own calls and what it saw is what the machine's history tells
-  pub told : toldIn v ls ≡ toldBy v (callsOf ls)
-  -- and the calls that it saw not refused are those that the machine did not refuse
-  pub granted : grantedIn ls ≡ grantedCalls v (callsOf ls)
-  -- and any call may come next
-  pub next : Made d′
-
 module _ (from : Settings) {r : Report} {d d′ : Device} (ls : List Line) (fresh : Freshly from r d) (life : Lived d ls d′) where
   begins : machineIn d ≡ afterCalls (inForce from) []
-  unfolding machineIn after
+  unfolding machineIn stateAfter
   begins = fresh .1
 
   -- Tender 3, any history, of the exported functions: whatever calls a host makes of a fresh device, refused ones included, the device afterwards is the machine after those calls,
   -- and every report and every lent byte on the way is the machine's. So the claims of the machine's histories are claims of the device.
   pub a-device-lives-as-the-machine : AsTheMachine (inForce from) ls d′
-  unfolding after
+  unfolding stateAfter
   a-device-lives-as-the-machine =
       let v = inForce from in
       record {
-        after = lives v life ∙ ap (λ (m : Machine). after (product v) m (callsOf ls)) begins;
-        saw = λ xs x ys e. shows v xs x ys (subst (λ (l : List Line). Lived d l d′) e life) ∙ ap (λ (m : Machine). seenOf (outcome (after (product v) m (callsOf xs)) (x .call))) begins;
-        told = tells v life ∙ ap (λ (m : Machine). history (product v) m (callsOf ls)) begins;
+        after = lives v life ∙ ap (λ (m : Machine). afterFrom m (callsOf ls)) begins;
+        saw = λ xs x ys e. shows v xs x ys (subst (λ (l : List Line). Lived d l d′) e life) ∙ ap (λ (m : Machine). seenOf (outcome (afterFrom m (callsOf xs)) (x .call))) begins;
+        told = tells v life ∙ ap (λ (m : Machine). toldFrom v m (callsOf ls)) begins;
         granted = grants life ∙ ap (λ (m : Machine). grantedFrom m (callsOf ls)) begins;
         next = stays-made (fresh .2) life;
       }

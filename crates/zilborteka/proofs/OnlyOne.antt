@@ -17,9 +17,9 @@ use Rattle.device.specs.Device.{Served, Freshly, Awaited}
 use Rattle.device.proofs.DeviceLaws.{same-device}
 use Rattle.machine.specs.Numbers.{isDone}
 use Rattle.reports.specs.Reports.{isFrame, isMore}
-use Rattle.stream.specs.Stream.{Stream, Outcome, isDone as done-on-a-stream, isFrame as frame-of-a-stream, isMore as more-for-a-stream}
+use Rattle.stream.specs.Stream.{Stream, TakeOutcome, isDone as done-on-a-stream, isFrame as frame-of-a-stream, isMore as more-for-a-stream}
 use Rattle.stream.specs.Lent.{streamOf, Takes, Resets}
-use Rattle.stream.specs.declared.Inlet.{Inlet}
+use Rattle.stream.specs.declared.LentStream.{LentStream}
 use Rattle.stream.specs.declared.Taken.{Taken}
 
 -- Attach, detach, request, reply, tick, link lost: from one device, one call has one report, one machine afterwards, and one content of each lent buffer;
@@ -54,12 +54,12 @@ pub one-write : (from : Settings) (text : List ℕ) {r q : Report} {a b : List �
 one-write from text s t = let p = s ∙ sym t in (ap (λ (y : TextSeen). y .says) p, ap (λ (y : TextSeen). y .buffer) p)
 
 -- A stream: from one lent stream, one piece and one buffer have one answer, one stream afterwards and one content of the buffer; and a reset has one answer and one stream.
-pub one-take : (i : Inlet) (piece out : List ℕ) {r q : Taken} {j k : Inlet} {w v : List ℕ} → Takes i piece out r j w → Takes i piece out q k v → (r ≡ q) × (streamOf j ≡ streamOf k) × (w ≡ v)
+pub one-take : (i : LentStream) (piece out : List ℕ) {r q : Taken} {j k : LentStream} {w v : List ℕ} → Takes i piece out r j w → Takes i piece out q k v → (r ≡ q) × (streamOf j ≡ streamOf k) × (w ≡ v)
 one-take i piece out s t =
     let p = s .comes ∙ sym (t .comes) in
-    (ap (λ (y : Outcome). y .says) p, ap (λ (y : Outcome). y .after) p, ap (λ (y : Outcome). y .written) p)
+    (ap (λ (y : TakeOutcome). y .says) p, ap (λ (y : TakeOutcome). y .after) p, ap (λ (y : TakeOutcome). y .written) p)
 
-pub one-reset : {r q : Taken} {i j : Inlet} → Resets r i → Resets q j → (r ≡ q) × (streamOf i ≡ streamOf j)
+pub one-reset : {r q : Taken} {i j : LentStream} → Resets r i → Resets q j → (r ≡ q) × (streamOf i ≡ streamOf j)
 one-reset s t = (s .says ∙ sym (t .says), s .after ∙ sym (t .after))
 
 -- Its outcomes have the numbers that they have elsewhere.

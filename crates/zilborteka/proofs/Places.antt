@@ -1,17 +1,16 @@
 -- A device's live places in its own fields: which they are, and what the machine that the device is holds there.
 -- Assumes nothing.
-use Prim.Native.Nat.{ℕ, _+_, _-_, _≤_, _<_}
+use Prim.Native.Nat.{ℕ, _-_, _≤_, _<_}
 use mathlib.Core.Path.{_≡_, refl, ap, sym, _∙_}
 use mathlib.Core.Logic.{⊎-elim, _↔_}
 use mathlib.Core.Option.{some, Option·none-ne-some}
 use native.Mathlib.Omega.{arith}
 use lib.ListN.{getD, List·getD-eq-default}
 use borrow.Author.Tests.{eq-eqb}
-use Rattle.laws.specs.Numbers.{places}
+use Rattle.numbers.specs.Numbers.{places}
 use Rattle.laws.proofs.Choice.{lt-or}
 use Rattle.laws.proofs.ListLaws.{length-tab}
 use Rattle.pdu.specs.Replies.{What}
-use Rattle.pdu.specs.Words.{whatOf}
 use Rattle.book.specs.Book.{Live, at}
 use Rattle.book.specs.Traced.{Holds}
 use Rattle.book.proofs.PlaceLaws.{at-low}
@@ -21,19 +20,15 @@ use Rattle.table.specs.Columns.{entryAt, tableOf}
 use Rattle.table.proofs.EntryLaws.{table-at, held, live-at}
 use Rattle.device.specs.declared.Device.{Device}
 use Rattle.device.specs.Fields.{stateOf}
-use Rattle.device.specs.Device.{Made}
-use Rattle.zilborteka.specs.Lives.{machineIn}
-
--- a place of the device is live under the id: its word asks w, it was issued for the client c and is due at u
-abbrev pub LiveIn : Device → ℕ → What → ℕ → ℕ → Type 0
-LiveIn d id w c u = (k : ℕ) × (getD (d .ids) k 0 ≡ id + 1) × (whatOf (getD (d .asked) k 0) ≡ w) × (getD (d .callers) k 0 ≡ c) × (getD (d .deadlines) k 0 ≡ u)
+use Rattle.device.specs.Device.{MadeDevice}
+use Rattle.zilborteka.specs.Lives.{machineIn, LiveIn}
 
 -- The machine that a device is has the device's own set of clients, cursor and clock.
 pub own-fields : (d : Device) → (machineIn d .attached ≡ d .attached) × (machineIn d .book .cursor ≡ d .cursor) × (machineIn d .book .clock ≡ d .clock)
 unfolding machineIn
 own-fields d = (refl, refl, refl)
 
-module _ (d : Device) (made : Made d) where
+module _ (d : Device) (made : MadeDevice d) where
   -- A place whose id is not 0 is live, and holds what its columns say.
   pub place-live : (k : ℕ) → (getD (d .ids) k 0 ≡ 0 → ⊥) → at (machineIn d .book) k ≡ some (held (stateOf d .table) k)
   unfolding machineIn

@@ -8,7 +8,7 @@ use machine::Report;
 use settings::Settings;
 ghost use mathlib.Core.List.{[]};
 ghost use Rattle.machine.specs.Calls.Call.{attach as attaches, detach as detaches, request as asks, reply as replies, tick as ticks, linkLost};
-ghost use Rattle.device.specs.Device.{Made, Served, Freshly, Awaited};
+ghost use Rattle.device.specs.Device.{MadeDevice, Served, Freshly, Awaited};
 
 // Makes the device fresh from a settings value that is lent, whatever it was. An invalid value is refusal 10, and the device then has the usual one.
 #[no_mangle]
@@ -29,8 +29,8 @@ pub extern "C" fn zb_fresh(st: &mut Device, from: &Settings) -> Report
         &mut st.clock,
         &mut st.timeout,
         &mut st.join,
-        &mut st.tagged,
-        &mut st.tags,
+        &mut st.tag_count,
+        &mut st.tag_words,
         &from.timeout,
         &from.join,
         &from.tags,
@@ -43,7 +43,7 @@ pub extern "C" fn zb_fresh(st: &mut Device, from: &Settings) -> Report
 // Attaches a client.
 #[no_mangle]
 pub extern "C" fn zb_attach(st: &mut Device, client: u32) -> Report
-    requires { ⌜ Made (now st) ⌝ }
+    requires { ⌜ MadeDevice (now st) ⌝ }
     ensures { λ r. ⌜ Served (now (st .entry)) (attaches client) r (now (st .exit)) [] [] ⌝ }
 {
     reports::report_of(proxy::attaching::attach(&mut st.attached, client))
@@ -52,7 +52,7 @@ pub extern "C" fn zb_attach(st: &mut Device, client: u32) -> Report
 // Detaches a client, and strikes its parties out.
 #[no_mangle]
 pub extern "C" fn zb_detach(st: &mut Device, client: u32) -> Report
-    requires { ⌜ Made (now st) ⌝ }
+    requires { ⌜ MadeDevice (now st) ⌝ }
     ensures { λ r. ⌜ Served (now (st .entry)) (detaches client) r (now (st .exit)) [] [] ⌝ }
 {
     reports::report_of(proxy::attaching::detach(
@@ -74,7 +74,7 @@ pub extern "C" fn zb_request(
     frame: &[u8],
     out: &mut [u8],
 ) -> Report
-    requires { ⌜ Made (now st) ⌝ }
+    requires { ⌜ MadeDevice (now st) ⌝ }
     ensures { λ r. ⌜ Served (now (st .entry)) (asks client time (now (frame .entry)) (now (out .entry))) r (now (st .exit)) (now (out .exit)) [] ⌝ }
 {
     reports::report_of(requesting::request(
@@ -91,8 +91,8 @@ pub extern "C" fn zb_request(
         &mut st.clock,
         &mut st.timeout,
         &mut st.join,
-        &mut st.tagged,
-        &mut st.tags,
+        &mut st.tag_count,
+        &mut st.tag_words,
         client,
         time,
         frame,
@@ -109,10 +109,10 @@ pub extern "C" fn zb_reply(
     out: &mut [u8],
     list: &mut [u16],
 ) -> Report
-    requires { ⌜ Made (now st) ⌝ }
+    requires { ⌜ MadeDevice (now st) ⌝ }
     ensures { λ r. ⌜ Served (now (st .entry)) (replies time (now (frame .entry)) (now (out .entry)) (now (list .entry))) r (now (st .exit)) (now (out .exit)) (now (list .exit)) ⌝ }
 {
-    reports::report_of(replying::reply(
+    reports::report_of(answering::reply(
         &mut st.ids,
         &mut st.asked,
         &mut st.callers,
@@ -124,8 +124,8 @@ pub extern "C" fn zb_reply(
         &mut st.clock,
         &mut st.timeout,
         &mut st.join,
-        &mut st.tagged,
-        &mut st.tags,
+        &mut st.tag_count,
+        &mut st.tag_words,
         time,
         frame,
         out,
@@ -136,10 +136,10 @@ pub extern "C" fn zb_reply(
 // Time goes on.
 #[no_mangle]
 pub extern "C" fn zb_tick(st: &mut Device, time: u64, out: &mut [u8], list: &mut [u16]) -> Report
-    requires { ⌜ Made (now st) ⌝ }
+    requires { ⌜ MadeDevice (now st) ⌝ }
     ensures { λ r. ⌜ Served (now (st .entry)) (ticks time (now (out .entry)) (now (list .entry))) r (now (st .exit)) (now (out .exit)) (now (list .exit)) ⌝ }
 {
-    reports::report_of(replying::tick(
+    reports::report_of(answering::tick(
         &mut st.ids,
         &mut st.asked,
         &mut st.callers,
@@ -158,7 +158,7 @@ pub extern "C" fn zb_tick(st: &mut Device, time: u64, out: &mut [u8], list: &mut
 // The link is lost.
 #[no_mangle]
 pub extern "C" fn zb_link_lost(st: &mut Device) -> Report
-    requires { ⌜ Made (now st) ⌝ }
+    requires { ⌜ MadeDevice (now st) ⌝ }
     ensures { λ r. ⌜ Served (now (st .entry)) (linkLost) r (now (st .exit)) [] [] ⌝ }
 {
     reports::report_of(proxy::attaching::link_lost(&mut st.ids, &mut st.top, &mut st.attached))
@@ -167,7 +167,7 @@ pub extern "C" fn zb_link_lost(st: &mut Device) -> Report
 // How many requests are live, and the earliest deadline of them: a host sleeps until then.
 #[no_mangle]
 pub extern "C" fn zb_next_deadline(st: &Device) -> NextDeadline
-    requires { ⌜ Made (now st) ⌝ }
+    requires { ⌜ MadeDevice (now st) ⌝ }
     ensures { λ r. ⌜ Awaited (now (st .entry)) r ⌝ }
 {
     finding::next_deadline(&st.ids, &st.deadlines, &st.top)

@@ -1,7 +1,8 @@
 -- `bcd::is_decimal` meets its contract: none of four nibbles carries.
 -- Assumes nothing.
-use Rattle.bcd.proofs.CarryLaws.{ones, no-carry}
+use Rattle.bcd.proofs.CarryLaws.{no-carry}
 use borrow.Author.Needs.{needs}
+use Rattle.bcd.specs.Plain.{ones}
 use Rattle.bcd.proofs.is_decimal.Statement.{statement}
 use Rattle.bcd.proofs.is_decimal.Tie as tie
 

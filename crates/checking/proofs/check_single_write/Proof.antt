@@ -2,7 +2,7 @@
 -- Assumes nothing.
 use mathlib.Core.Path.{sym, ap, _∙_}
 use denote.Ref.{now}
-use Rattle.laws.specs.Numbers.{shortPdu}
+use Rattle.numbers.specs.Numbers.{shortPdu}
 use Rattle.wire.specs.Frame.{pduSize}
 use mathlib.Core.Bool.{not}
 use borrow.Author.Tests.{eq-eqb, ne-eqb}

@@ -2,13 +2,13 @@
 -- Assumes nothing.
 use Prim.Native.Nat.{_-_}
 use lib.ListN.{length}
-use Rattle.state.specs.States.{Made}
+use Rattle.state_by_value.specs.States.{MadeState}
 use borrow.Author.Needs.{needs}
 use Rattle.demo.proofs.play.Statement.{statement}
 use Rattle.demo.proofs.play.Tie as tie
 
 abbrev Inv-loop : tie.InvT-loop
-Inv-loop table session₀ at₀ session at = Made (session .state)
+Inv-loop table session₀ at₀ session at = MadeState (session .state)
 
 abbrev μ-loop : tie.MeasureT-loop
 μ-loop table session₀ at₀ session at = length table - at

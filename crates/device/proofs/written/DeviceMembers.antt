@@ -50,18 +50,18 @@ m-timeout = record { row = u32; ty = tyInt w32 }
 abbrev pub m-join : Member
 m-join = record { row = u32; ty = tyInt w32 }
 
-abbrev pub m-tagged : Member
-m-tagged = record { row = u32; ty = tyInt w32 }
+abbrev pub m-tag-count : Member
+m-tag-count = record { row = u32; ty = tyInt w32 }
 
-abbrev pub m-tags : Member
-m-tags = record { row = Array u64 256; ty = tyArray (tyInt w64) 256 }
+abbrev pub m-tag-words : Member
+m-tag-words = record { row = Array u64 256; ty = tyArray (tyInt w64) 256 }
 
 abbrev pub ms : List Member
-ms = m-ids ∷ m-asked ∷ m-callers ∷ m-deadlines ∷ m-counts ∷ m-clients ∷ m-originals ∷ m-top ∷ m-cursor ∷ m-attached ∷ m-clock ∷ m-timeout ∷ m-join ∷ m-tagged ∷ m-tags ∷ []
+ms = m-ids ∷ m-asked ∷ m-callers ∷ m-deadlines ∷ m-counts ∷ m-clients ∷ m-originals ∷ m-top ∷ m-cursor ∷ m-attached ∷ m-clock ∷ m-timeout ∷ m-join ∷ m-tag-count ∷ m-tag-words ∷ []
 
 abbrev pub tuple : Device → Denots (rowsOf ms)
-tuple h = (h .ids, (h .asked, (h .callers, (h .deadlines, (h .counts, (h .clients, (h .originals, (h .top, (h .cursor, (h .attached, (h .clock, (h .timeout, (h .join, (h .tagged, (h .tags, tt)))))))))))))))
+tuple h = (h .ids, (h .asked, (h .callers, (h .deadlines, (h .counts, (h .clients, (h .originals, (h .top, (h .cursor, (h .attached, (h .clock, (h .timeout, (h .join, (h .«tag_count», (h .«tag_words», tt)))))))))))))))
 
 -- a field that is an array stands in the struct's value as `map (λ x. x)` of its list
 pub to-tuple : (h : Device) → T.the-type .to h ≡ tuple h
-to-tuple h = λ i. (map-id (h .ids) i, (map-id (h .asked) i, (map-id (h .callers) i, (map-id (h .deadlines) i, (map-id (h .counts) i, (map-id (h .clients) i, (map-id (h .originals) i, (h .top, (h .cursor, (h .attached, (h .clock, (h .timeout, (h .join, (h .tagged, (map-id (h .tags) i, tt)))))))))))))))
+to-tuple h = λ i. (map-id (h .ids) i, (map-id (h .asked) i, (map-id (h .callers) i, (map-id (h .deadlines) i, (map-id (h .counts) i, (map-id (h .clients) i, (map-id (h .originals) i, (h .top, (h .cursor, (h .attached, (h .clock, (h .timeout, (h .join, (h .«tag_count», (map-id (h .«tag_words») i, tt)))))))))))))))

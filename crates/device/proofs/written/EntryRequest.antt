@@ -1,4 +1,4 @@
--- Every entry point `f(st: &mut Device, client: u32, time: u64, frame: &[u8], out: &mut [u8]) -> machine/Report` whose body is `k(g(&mut st.ids, &mut st.asked, &mut st.callers, &mut st.deadlines, &mut st.counts, &mut st.clients, &mut st.originals, &mut st.top, &mut st.cursor, &mut st.attached, &mut st.clock, &mut st.timeout, &mut st.join, &mut st.tagged, &mut st.tags, client, time, frame, out))` meets its contract where its core g meets its own at the fields that are lent, and k its own. Written by tools/gen.py.
+-- Every entry point `f(st: &mut Device, client: u32, time: u64, frame: &[u8], out: &mut [u8]) -> machine/Report` whose body is `k(g(&mut st.ids, &mut st.asked, &mut st.callers, &mut st.deadlines, &mut st.counts, &mut st.clients, &mut st.originals, &mut st.top, &mut st.cursor, &mut st.attached, &mut st.clock, &mut st.timeout, &mut st.join, &mut st.tag_count, &mut st.tag_words, client, time, frame, out))` meets its contract where its core g meets its own at the fields that are lent, and k its own. Written by tools/gen.py.
 --     Rel, CoreRel     what the contract of the entry point, and that of the core, is a relation of: Device and parameters at entry, result, Device and slices at exit; the same at the fields that are lent
 --     function g k       the MIR of such an entry point
 --     clauses R, core-clauses Rc   the contracts `ensures { λ r. ⌜ R .. ⌝ }`
@@ -71,7 +71,7 @@ CorePre = List ℕ → List ℕ → List ℕ → List ℕ → List ℕ → List 
 
 -- what is lent
 abbrev uses : List Use
-uses = lend MS.m-ids ∷ lend MS.m-asked ∷ lend MS.m-callers ∷ lend MS.m-deadlines ∷ lend MS.m-counts ∷ lend MS.m-clients ∷ lend MS.m-originals ∷ lend MS.m-top ∷ lend MS.m-cursor ∷ lend MS.m-attached ∷ lend MS.m-clock ∷ lend MS.m-timeout ∷ lend MS.m-join ∷ lend MS.m-tagged ∷ lend MS.m-tags ∷ []
+uses = lend MS.m-ids ∷ lend MS.m-asked ∷ lend MS.m-callers ∷ lend MS.m-deadlines ∷ lend MS.m-counts ∷ lend MS.m-clients ∷ lend MS.m-originals ∷ lend MS.m-top ∷ lend MS.m-cursor ∷ lend MS.m-attached ∷ lend MS.m-clock ∷ lend MS.m-timeout ∷ lend MS.m-join ∷ lend MS.m-tag-count ∷ lend MS.m-tag-words ∷ []
 
 infixr 1 _$ₛ_
 abbrev _$ₛ_ : (Code → Code) → Code → Code
@@ -184,7 +184,7 @@ module _ {M : Type 1} (𝓤 : URA M) (Rc : CoreRel) (Pc : CorePre) where
 abbrev stayed : Stays (ended .signature .params) (ended .kept)
 stayed = (stay-ref (0 ∷ []) tt (plain (λ _. T.the-row)), (stay-dropped (plain (λ κs. u32)) yes, (stay-dropped (plain (λ κs. u64)) yes, (stay-dropped (SliceRefOf (1 ∷ []) tt (plain (λ κs. u8)) (λ κs. tt)) yes, (gave-slice (2 ∷ []) tt (plain (λ _. u8)), tt)))))
 
-module _ {M : Type 1} (𝓤 : URA M) (H : Heap 𝓤) (A : Atoms 𝓤) (W : Given 𝓤 H A) (g k : Name) (R : Rel) (Pe : Pre) (Rc : CoreRel) (Pc : CorePre) (Rk : TellerRel) (imp : ((h : Device) (p0 : ℕ) (p1 : ℕ) (p2 : List ℕ) (p3 : List ℕ) (r : Answer) (w0 : List ℕ) (w1 : List ℕ) (w2 : List ℕ) (w3 : List ℕ) (w4 : List ℕ) (w5 : List ℕ) (w6 : List ℕ) (w7 : ℕ) (w8 : ℕ) (w9 : ℕ) (w10 : ℕ) (w11 : ℕ) (w12 : ℕ) (w13 : ℕ) (w14 : List ℕ) (z3 : List ℕ) → Pe h p0 p1 p2 p3 → Rc (h .ids) (h .asked) (h .callers) (h .deadlines) (h .counts) (h .clients) (h .originals) (h .top) (h .cursor) (h .attached) (h .clock) (h .timeout) (h .join) (h .tagged) (h .tags) p0 p1 p2 p3 r w0 w1 w2 w3 w4 w5 w6 w7 w8 w9 w10 w11 w12 w13 w14 z3 → (r′ : Report) → Rk r r′ → R h p0 p1 p2 p3 r′ (record { ids = w0; asked = w1; callers = w2; deadlines = w3; counts = w4; clients = w5; originals = w6; top = w7; cursor = w8; attached = w9; clock = w10; timeout = w11; join = w12; tagged = w13; tags = w14 }) z3)) (pimp : ((h : Device) (p0 : ℕ) (p1 : ℕ) (p2 : List ℕ) (p3 : List ℕ) → Pe h p0 p1 p2 p3 → Pc (h .ids) (h .asked) (h .callers) (h .deadlines) (h .counts) (h .clients) (h .originals) (h .top) (h .cursor) (h .attached) (h .clock) (h .timeout) (h .join) (h .tagged) (h .tags) p0 p1 p2 p3)) (κ0 κ1 κ2 : Lft) (q0 q1 q2 : Share) (b o : ℕ) (γ : GName) (h : Device) (p0 : ℕ) (fit0 : p0 < 2 ^ 32) (p1 : ℕ) (fit1 : p1 < 2 ^ 64) (p2 : RefT (List ℕ)) (fit2 : Room u8 (length (p2 .now))) (p3 : RefT (List ℕ)) (fit3 : Room u8 (length (p3 .now))) (ok : Pe h p0 p1 (p2 .now) (p3 .now)) (pre : Pc (h .ids) (h .asked) (h .callers) (h .deadlines) (h .counts) (h .clients) (h .originals) (h .top) (h .cursor) (h .attached) (h .clock) (h .timeout) (h .join) (h .tagged) (h .tags) p0 p1 (p2 .now) (p3 .now)) where
+module _ {M : Type 1} (𝓤 : URA M) (H : Heap 𝓤) (A : Atoms 𝓤) (W : Given 𝓤 H A) (g k : Name) (R : Rel) (Pe : Pre) (Rc : CoreRel) (Pc : CorePre) (Rk : TellerRel) (imp : ((h : Device) (p0 : ℕ) (p1 : ℕ) (p2 : List ℕ) (p3 : List ℕ) (r : Answer) (w0 : List ℕ) (w1 : List ℕ) (w2 : List ℕ) (w3 : List ℕ) (w4 : List ℕ) (w5 : List ℕ) (w6 : List ℕ) (w7 : ℕ) (w8 : ℕ) (w9 : ℕ) (w10 : ℕ) (w11 : ℕ) (w12 : ℕ) (w13 : ℕ) (w14 : List ℕ) (z3 : List ℕ) → Pe h p0 p1 p2 p3 → Rc (h .ids) (h .asked) (h .callers) (h .deadlines) (h .counts) (h .clients) (h .originals) (h .top) (h .cursor) (h .attached) (h .clock) (h .timeout) (h .join) (h .«tag_count») (h .«tag_words») p0 p1 p2 p3 r w0 w1 w2 w3 w4 w5 w6 w7 w8 w9 w10 w11 w12 w13 w14 z3 → (r′ : Report) → Rk r r′ → R h p0 p1 p2 p3 r′ (record { ids = w0; asked = w1; callers = w2; deadlines = w3; counts = w4; clients = w5; originals = w6; top = w7; cursor = w8; attached = w9; clock = w10; timeout = w11; join = w12; «tag_count» = w13; «tag_words» = w14 }) z3)) (pimp : ((h : Device) (p0 : ℕ) (p1 : ℕ) (p2 : List ℕ) (p3 : List ℕ) → Pe h p0 p1 p2 p3 → Pc (h .ids) (h .asked) (h .callers) (h .deadlines) (h .counts) (h .clients) (h .originals) (h .top) (h .cursor) (h .attached) (h .clock) (h .timeout) (h .join) (h .«tag_count») (h .«tag_words») p0 p1 p2 p3)) (κ0 κ1 κ2 : Lft) (q0 q1 q2 : Share) (b o : ℕ) (γ : GName) (h : Device) (p0 : ℕ) (fit0 : p0 < 2 ^ 32) (p1 : ℕ) (fit1 : p1 < 2 ^ 64) (p2 : RefT (List ℕ)) (fit2 : Room u8 (length (p2 .now))) (p3 : RefT (List ℕ)) (fit3 : Room u8 (length (p3 .now))) (ok : Pe h p0 p1 (p2 .now) (p3 .now)) (pre : Pc (h .ids) (h .asked) (h .callers) (h .deadlines) (h .counts) (h .clients) (h .originals) (h .top) (h .cursor) (h .attached) (h .clock) (h .timeout) (h .join) (h .«tag_count») (h .«tag_words») p0 p1 (p2 .now) (p3 .now)) where
   -- the parameters that go on to the core as they are
   abbrev Tail : List RattleType
   Tail = u32 ∷ u64 ∷ ShrSlice (named 1) κ1 u8 ∷ MutSlice (named 2) κ2 u8 ∷ []
@@ -254,10 +254,10 @@ module _ {M : Type 1} (𝓤 : URA M) (H : Heap 𝓤) (A : Atoms 𝓤) (W : Given
         calls-at ! fm (Core 𝓤 Rc Pc H A) known (to-core ν γs)
         (and-then ! (load ! (from ! (stop !)) (look ! 38 refl)) (and-then ! (load ! (from ! (stop !)) (look ! 36 refl)) (and-then ! (load ! (from ! (stop !)) (look ! 34 refl)) (and-then ! (load ! (from ! (stop !)) (look ! 32 refl)) (and-then ! (load ! (from ! (stop !)) (look ! 30 refl)) (and-then ! (load ! (from ! (stop !)) (look ! 28 refl)) (and-then ! (load ! (from ! (stop !)) (look ! 26 refl)) (and-then ! (load ! (from ! (stop !)) (look ! 24 refl)) (and-then ! (load ! (from ! (stop !)) (look ! 22 refl)) (and-then ! (load ! (from ! (stop !)) (look ! 20 refl)) (and-then ! (load ! (from ! (stop !)) (look ! 18 refl)) (and-then ! (load ! (from ! (stop !)) (look ! 16 refl)) (and-then ! (load ! (from ! (stop !)) (look ! 14 refl)) (and-then ! (load ! (from ! (stop !)) (look ! 12 refl)) (and-then ! (load ! (from ! (stop !)) (look ! 10 refl)) (and-then ! (load ! (from ! (stop !)) (look ! 48 refl)) (and-then ! (load ! (from ! (stop !)) (look ! 46 refl)) (and-then ! (load ! (from ! (stop !)) (look ! 44 refl)) (and-then ! (load ! (from ! (stop !)) (look ! 6 refl)) (no-more !)))))))))))))))))))) (λ v.
         use1 W (later (some (λ (r : Answer). ((‵ (flft (ν ∷ []) fullShare) ⊛ (‵ (flft κ1 q1) ⊛ ‵ (flft κ2 q2) ⊛ ‵ ftrue)) ⊛ ‵ (Mid.the-row .own r (v ∷ []))) ⊛ raw (ensured 𝓤 H A core-ended (core-clauses 𝓤 Rc Pc) (ν ∷ [], (κ1, (κ2, tt))) (passed ν γs) tt r)))) (id⊢ 𝓤 _) $ await ! tt $ pick ! (λ r. split ! $ move ! (1 ∷ []) $
-        use1 W (some (λ (ws : (List ℕ × (List ℕ × (List ℕ × (List ℕ × (List ℕ × (List ℕ × (List ℕ × (ℕ × (ℕ × (ℕ × (ℕ × (ℕ × (ℕ × (ℕ × (List ℕ × (Unit {0} × (Unit {0} × (Unit {0} × (List ℕ × Unit {0})))))))))))))))))))). ‵ (finals (named 0) (ν ∷ []) uses γs (ws .0, (ws .1 .0, (ws .1 .1 .0, (ws .1 .1 .1 .0, (ws .1 .1 .1 .1 .0, (ws .1 .1 .1 .1 .1 .0, (ws .1 .1 .1 .1 .1 .1 .0, (ws .1 .1 .1 .1 .1 .1 .1 .0, (ws .1 .1 .1 .1 .1 .1 .1 .1 .0, (ws .1 .1 .1 .1 .1 .1 .1 .1 .1 .0, (ws .1 .1 .1 .1 .1 .1 .1 .1 .1 .1 .0, (ws .1 .1 .1 .1 .1 .1 .1 .1 .1 .1 .1 .0, (ws .1 .1 .1 .1 .1 .1 .1 .1 .1 .1 .1 .1 .0, (ws .1 .1 .1 .1 .1 .1 .1 .1 .1 .1 .1 .1 .1 .0, (ws .1 .1 .1 .1 .1 .1 .1 .1 .1 .1 .1 .1 .1 .1 .0, tt))))))))))))))) (fsep ftrue (fsep ftrue (fsep ftrue (fsep (fsep (finally u8 (p3 .name) (ws .1 .1 .1 .1 .1 .1 .1 .1 .1 .1 .1 .1 .1 .1 .1 .1 .1 .1 .0)) (feq ℕ (length (ws .1 .1 .1 .1 .1 .1 .1 .1 .1 .1 .1 .1 .1 .1 .1 .1 .1 .1 .0)) (length (p3 .now)))) ftrue))))) ⊛ raw (fact 𝓤 (Rc (h .ids) (h .asked) (h .callers) (h .deadlines) (h .counts) (h .clients) (h .originals) (h .top) (h .cursor) (h .attached) (h .clock) (h .timeout) (h .join) (h .tagged) (h .tags) p0 p1 (p2 .now) (p3 .now) r (ws .0) (ws .1 .0) (ws .1 .1 .0) (ws .1 .1 .1 .0) (ws .1 .1 .1 .1 .0) (ws .1 .1 .1 .1 .1 .0) (ws .1 .1 .1 .1 .1 .1 .0) (ws .1 .1 .1 .1 .1 .1 .1 .0) (ws .1 .1 .1 .1 .1 .1 .1 .1 .0) (ws .1 .1 .1 .1 .1 .1 .1 .1 .1 .0) (ws .1 .1 .1 .1 .1 .1 .1 .1 .1 .1 .0) (ws .1 .1 .1 .1 .1 .1 .1 .1 .1 .1 .1 .0) (ws .1 .1 .1 .1 .1 .1 .1 .1 .1 .1 .1 .1 .0) (ws .1 .1 .1 .1 .1 .1 .1 .1 .1 .1 .1 .1 .1 .0) (ws .1 .1 .1 .1 .1 .1 .1 .1 .1 .1 .1 .1 .1 .1 .0) (ws .1 .1 .1 .1 .1 .1 .1 .1 .1 .1 .1 .1 .1 .1 .1 .1 .1 .1 .0))))) (id⊢ 𝓤 _) $ pick ! (λ ws. split ! $ move ! (1 ∷ []) $
-        heard ! (Rc (h .ids) (h .asked) (h .callers) (h .deadlines) (h .counts) (h .clients) (h .originals) (h .top) (h .cursor) (h .attached) (h .clock) (h .timeout) (h .join) (h .tagged) (h .tags) p0 p1 (p2 .now) (p3 .now) r (ws .0) (ws .1 .0) (ws .1 .1 .0) (ws .1 .1 .1 .0) (ws .1 .1 .1 .1 .0) (ws .1 .1 .1 .1 .1 .0) (ws .1 .1 .1 .1 .1 .1 .0) (ws .1 .1 .1 .1 .1 .1 .1 .0) (ws .1 .1 .1 .1 .1 .1 .1 .1 .0) (ws .1 .1 .1 .1 .1 .1 .1 .1 .1 .0) (ws .1 .1 .1 .1 .1 .1 .1 .1 .1 .1 .0) (ws .1 .1 .1 .1 .1 .1 .1 .1 .1 .1 .1 .0) (ws .1 .1 .1 .1 .1 .1 .1 .1 .1 .1 .1 .1 .0) (ws .1 .1 .1 .1 .1 .1 .1 .1 .1 .1 .1 .1 .1 .0) (ws .1 .1 .1 .1 .1 .1 .1 .1 .1 .1 .1 .1 .1 .1 .0) (ws .1 .1 .1 .1 .1 .1 .1 .1 .1 .1 .1 .1 .1 .1 .1 .1 .1 .1 .0)) (λ e. move ! (1 ∷ []) $ split ! $ split ! $ lft-end ! tt $ move ! (0 ∷ 4 ∷ 3 ∷ []) $
+        use1 W (some (λ (ws : (List ℕ × (List ℕ × (List ℕ × (List ℕ × (List ℕ × (List ℕ × (List ℕ × (ℕ × (ℕ × (ℕ × (ℕ × (ℕ × (ℕ × (ℕ × (List ℕ × (Unit {0} × (Unit {0} × (Unit {0} × (List ℕ × Unit {0})))))))))))))))))))). ‵ (finals (named 0) (ν ∷ []) uses γs (ws .0, (ws .1 .0, (ws .1 .1 .0, (ws .1 .1 .1 .0, (ws .1 .1 .1 .1 .0, (ws .1 .1 .1 .1 .1 .0, (ws .1 .1 .1 .1 .1 .1 .0, (ws .1 .1 .1 .1 .1 .1 .1 .0, (ws .1 .1 .1 .1 .1 .1 .1 .1 .0, (ws .1 .1 .1 .1 .1 .1 .1 .1 .1 .0, (ws .1 .1 .1 .1 .1 .1 .1 .1 .1 .1 .0, (ws .1 .1 .1 .1 .1 .1 .1 .1 .1 .1 .1 .0, (ws .1 .1 .1 .1 .1 .1 .1 .1 .1 .1 .1 .1 .0, (ws .1 .1 .1 .1 .1 .1 .1 .1 .1 .1 .1 .1 .1 .0, (ws .1 .1 .1 .1 .1 .1 .1 .1 .1 .1 .1 .1 .1 .1 .0, tt))))))))))))))) (fsep ftrue (fsep ftrue (fsep ftrue (fsep (fsep (finally u8 (p3 .name) (ws .1 .1 .1 .1 .1 .1 .1 .1 .1 .1 .1 .1 .1 .1 .1 .1 .1 .1 .0)) (feq ℕ (length (ws .1 .1 .1 .1 .1 .1 .1 .1 .1 .1 .1 .1 .1 .1 .1 .1 .1 .1 .0)) (length (p3 .now)))) ftrue))))) ⊛ raw (fact 𝓤 (Rc (h .ids) (h .asked) (h .callers) (h .deadlines) (h .counts) (h .clients) (h .originals) (h .top) (h .cursor) (h .attached) (h .clock) (h .timeout) (h .join) (h .«tag_count») (h .«tag_words») p0 p1 (p2 .now) (p3 .now) r (ws .0) (ws .1 .0) (ws .1 .1 .0) (ws .1 .1 .1 .0) (ws .1 .1 .1 .1 .0) (ws .1 .1 .1 .1 .1 .0) (ws .1 .1 .1 .1 .1 .1 .0) (ws .1 .1 .1 .1 .1 .1 .1 .0) (ws .1 .1 .1 .1 .1 .1 .1 .1 .0) (ws .1 .1 .1 .1 .1 .1 .1 .1 .1 .0) (ws .1 .1 .1 .1 .1 .1 .1 .1 .1 .1 .0) (ws .1 .1 .1 .1 .1 .1 .1 .1 .1 .1 .1 .0) (ws .1 .1 .1 .1 .1 .1 .1 .1 .1 .1 .1 .1 .0) (ws .1 .1 .1 .1 .1 .1 .1 .1 .1 .1 .1 .1 .1 .0) (ws .1 .1 .1 .1 .1 .1 .1 .1 .1 .1 .1 .1 .1 .1 .0) (ws .1 .1 .1 .1 .1 .1 .1 .1 .1 .1 .1 .1 .1 .1 .1 .1 .1 .1 .0))))) (id⊢ 𝓤 _) $ pick ! (λ ws. split ! $ move ! (1 ∷ []) $
+        heard ! (Rc (h .ids) (h .asked) (h .callers) (h .deadlines) (h .counts) (h .clients) (h .originals) (h .top) (h .cursor) (h .attached) (h .clock) (h .timeout) (h .join) (h .«tag_count») (h .«tag_words») p0 p1 (p2 .now) (p3 .now) r (ws .0) (ws .1 .0) (ws .1 .1 .0) (ws .1 .1 .1 .0) (ws .1 .1 .1 .1 .0) (ws .1 .1 .1 .1 .1 .0) (ws .1 .1 .1 .1 .1 .1 .0) (ws .1 .1 .1 .1 .1 .1 .1 .0) (ws .1 .1 .1 .1 .1 .1 .1 .1 .0) (ws .1 .1 .1 .1 .1 .1 .1 .1 .1 .0) (ws .1 .1 .1 .1 .1 .1 .1 .1 .1 .1 .0) (ws .1 .1 .1 .1 .1 .1 .1 .1 .1 .1 .1 .0) (ws .1 .1 .1 .1 .1 .1 .1 .1 .1 .1 .1 .1 .0) (ws .1 .1 .1 .1 .1 .1 .1 .1 .1 .1 .1 .1 .1 .0) (ws .1 .1 .1 .1 .1 .1 .1 .1 .1 .1 .1 .1 .1 .1 .0) (ws .1 .1 .1 .1 .1 .1 .1 .1 .1 .1 .1 .1 .1 .1 .1 .1 .1 .1 .0)) (λ e. move ! (1 ∷ []) $ split ! $ split ! $ lft-end ! tt $ move ! (0 ∷ 4 ∷ 3 ∷ []) $
         use3 W (later (‵ (partsAt fullShare MS.ms zero (after uses (MS.tuple h) (ws .0, (ws .1 .0, (ws .1 .1 .0, (ws .1 .1 .1 .0, (ws .1 .1 .1 .1 .0, (ws .1 .1 .1 .1 .1 .0, (ws .1 .1 .1 .1 .1 .1 .0, (ws .1 .1 .1 .1 .1 .1 .1 .0, (ws .1 .1 .1 .1 .1 .1 .1 .1 .0, (ws .1 .1 .1 .1 .1 .1 .1 .1 .1 .0, (ws .1 .1 .1 .1 .1 .1 .1 .1 .1 .1 .0, (ws .1 .1 .1 .1 .1 .1 .1 .1 .1 .1 .1 .0, (ws .1 .1 .1 .1 .1 .1 .1 .1 .1 .1 .1 .1 .0, (ws .1 .1 .1 .1 .1 .1 .1 .1 .1 .1 .1 .1 .1 .0, (ws .1 .1 .1 .1 .1 .1 .1 .1 .1 .1 .1 .1 .1 .1 .0, tt)))))))))))))))) b o) ⊛ ‵ (fsep ftrue (fsep ftrue (fsep ftrue (fsep (fsep (finally u8 (p3 .name) (ws .1 .1 .1 .1 .1 .1 .1 .1 .1 .1 .1 .1 .1 .1 .1 .1 .1 .1 .0)) (feq ℕ (length (ws .1 .1 .1 .1 .1 .1 .1 .1 .1 .1 .1 .1 .1 .1 .1 .1 .1 .1 .0)) (length (p3 .now)))) ftrue)))))) (back-all (named 0) (ν ∷ []) 𝓤 H A W b o uses zero γs (MS.tuple h) (ws .0, (ws .1 .0, (ws .1 .1 .0, (ws .1 .1 .1 .0, (ws .1 .1 .1 .1 .0, (ws .1 .1 .1 .1 .1 .0, (ws .1 .1 .1 .1 .1 .1 .0, (ws .1 .1 .1 .1 .1 .1 .1 .0, (ws .1 .1 .1 .1 .1 .1 .1 .1 .0, (ws .1 .1 .1 .1 .1 .1 .1 .1 .1 .0, (ws .1 .1 .1 .1 .1 .1 .1 .1 .1 .1 .0, (ws .1 .1 .1 .1 .1 .1 .1 .1 .1 .1 .1 .0, (ws .1 .1 .1 .1 .1 .1 .1 .1 .1 .1 .1 .1 .0, (ws .1 .1 .1 .1 .1 .1 .1 .1 .1 .1 .1 .1 .1 .0, (ws .1 .1 .1 .1 .1 .1 .1 .1 .1 .1 .1 .1 .1 .1 .0, tt))))))))))))))) (fsep ftrue (fsep ftrue (fsep ftrue (fsep (fsep (finally u8 (p3 .name) (ws .1 .1 .1 .1 .1 .1 .1 .1 .1 .1 .1 .1 .1 .1 .1 .1 .1 .1 .0)) (feq ℕ (length (ws .1 .1 .1 .1 .1 .1 .1 .1 .1 .1 .1 .1 .1 .1 .1 .1 .1 .1 .0)) (length (p3 .now)))) ftrue))))) $ await ! tt $ split ! $
-        move ! (0 ∷ 4 ∷ 5 ∷ 6 ∷ 7 ∷ []) $ gives ! tt (record { ids = (ws .0); asked = (ws .1 .0); callers = (ws .1 .1 .0); deadlines = (ws .1 .1 .1 .0); counts = (ws .1 .1 .1 .1 .0); clients = (ws .1 .1 .1 .1 .1 .0); originals = (ws .1 .1 .1 .1 .1 .1 .0); top = (ws .1 .1 .1 .1 .1 .1 .1 .0); cursor = (ws .1 .1 .1 .1 .1 .1 .1 .1 .0); attached = (ws .1 .1 .1 .1 .1 .1 .1 .1 .1 .0); clock = (ws .1 .1 .1 .1 .1 .1 .1 .1 .1 .1 .0); timeout = (ws .1 .1 .1 .1 .1 .1 .1 .1 .1 .1 .1 .0); join = (ws .1 .1 .1 .1 .1 .1 .1 .1 .1 .1 .1 .1 .0); tagged = (ws .1 .1 .1 .1 .1 .1 .1 .1 .1 .1 .1 .1 .1 .0); tags = (ws .1 .1 .1 .1 .1 .1 .1 .1 .1 .1 .1 .1 .1 .1 .0) }) b o $
+        move ! (0 ∷ 4 ∷ 5 ∷ 6 ∷ 7 ∷ []) $ gives ! tt (record { ids = (ws .0); asked = (ws .1 .0); callers = (ws .1 .1 .0); deadlines = (ws .1 .1 .1 .0); counts = (ws .1 .1 .1 .1 .0); clients = (ws .1 .1 .1 .1 .1 .0); originals = (ws .1 .1 .1 .1 .1 .1 .0); top = (ws .1 .1 .1 .1 .1 .1 .1 .0); cursor = (ws .1 .1 .1 .1 .1 .1 .1 .1 .0); attached = (ws .1 .1 .1 .1 .1 .1 .1 .1 .1 .0); clock = (ws .1 .1 .1 .1 .1 .1 .1 .1 .1 .1 .0); timeout = (ws .1 .1 .1 .1 .1 .1 .1 .1 .1 .1 .1 .0); join = (ws .1 .1 .1 .1 .1 .1 .1 .1 .1 .1 .1 .1 .0); «tag_count» = (ws .1 .1 .1 .1 .1 .1 .1 .1 .1 .1 .1 .1 .1 .0); «tag_words» = (ws .1 .1 .1 .1 .1 .1 .1 .1 .1 .1 .1 .1 .1 .1 .0) }) b o $
         move ! (3 ∷ []) $ fsplit ! $ drop ! $ fsplit ! $ drop ! $ fsplit ! $ drop ! $ fsplit ! $ fsplit ! $ move ! (1 ∷ []) $ feqL ! (λ e3. move ! (1 ∷ []) $ drop ! $
         -- what came of it is told
         move ! (5 ∷ []) $ peeks ! Mid.the-row (Is Mid.the-row) (shows 𝓤 H A Mid.the-row) r (v ∷ []) (λ ism. land ! (from ! (stop !)) (init ! 40 refl (EL.lawful Mid.the-type Mid′.the-laws 𝓤 H A W tt .typed r _ ism .0)) $
@@ -269,9 +269,9 @@ module _ {M : Type 1} (𝓤 : URA M) (H : Heap 𝓤) (A : Atoms 𝓤) (W : Given
         move ! (0 ∷ 1 ∷ 2 ∷ 3 ∷ 4 ∷ 5 ∷ []) $ land ! (from ! (stop !)) (init ! 52 refl (LL.lawful Res.the-type Res′.the-laws 𝓤 H A W .typed r′ _ is .0)) $
         returns ! (look ! 52 refl) $ forget ! 6 refl $ forget ! 8 refl $ forget ! 10 refl $ forget ! 12 refl $ forget ! 14 refl $ forget ! 16 refl $ forget ! 18 refl $ forget ! 20 refl $ forget ! 22 refl $ forget ! 24 refl $ forget ! 26 refl $ forget ! 28 refl $ forget ! 30 refl $ forget ! 32 refl $ forget ! 34 refl $ forget ! 36 refl $ forget ! 38 refl $ forget ! 40 refl $ forget ! 42 refl $ forget ! 44 refl $ forget ! 46 refl $ forget ! 48 refl $ forget ! 50 refl $ forget ! 52 refl $
         move ! (52 ∷ 53 ∷ []) $ free1 ! $ move ! (50 ∷ 51 ∷ []) $ free1 ! $ move ! (48 ∷ 49 ∷ []) $ free1 ! $ move ! (46 ∷ 47 ∷ []) $ free1 ! $ move ! (44 ∷ 45 ∷ []) $ free1 ! $ move ! (42 ∷ 43 ∷ []) $ free1 ! $ move ! (40 ∷ 41 ∷ []) $ free1 ! $ move ! (38 ∷ 39 ∷ []) $ free1 ! $ move ! (36 ∷ 37 ∷ []) $ free1 ! $ move ! (34 ∷ 35 ∷ []) $ free1 ! $ move ! (32 ∷ 33 ∷ []) $ free1 ! $ move ! (30 ∷ 31 ∷ []) $ free1 ! $ move ! (28 ∷ 29 ∷ []) $ free1 ! $ move ! (26 ∷ 27 ∷ []) $ free1 ! $ move ! (24 ∷ 25 ∷ []) $ free1 ! $ move ! (22 ∷ 23 ∷ []) $ free1 ! $ move ! (20 ∷ 21 ∷ []) $ free1 ! $ move ! (18 ∷ 19 ∷ []) $ free1 ! $ move ! (16 ∷ 17 ∷ []) $ free1 ! $ move ! (14 ∷ 15 ∷ []) $ free1 ! $ move ! (12 ∷ 13 ∷ []) $ free1 ! $ move ! (10 ∷ 11 ∷ []) $ free1 ! $ move ! (8 ∷ 9 ∷ []) $ free1 ! $ move ! (6 ∷ 7 ∷ []) $ free1 ! $ free0 ! $
-        keep ! (0 ∷ 1 ∷ 2 ∷ 3 ∷ 4 ∷ 5 ∷ []) $ by ! (exits r′ v′ (record { ids = (ws .0); asked = (ws .1 .0); callers = (ws .1 .1 .0); deadlines = (ws .1 .1 .1 .0); counts = (ws .1 .1 .1 .1 .0); clients = (ws .1 .1 .1 .1 .1 .0); originals = (ws .1 .1 .1 .1 .1 .1 .0); top = (ws .1 .1 .1 .1 .1 .1 .1 .0); cursor = (ws .1 .1 .1 .1 .1 .1 .1 .1 .0); attached = (ws .1 .1 .1 .1 .1 .1 .1 .1 .1 .0); clock = (ws .1 .1 .1 .1 .1 .1 .1 .1 .1 .1 .0); timeout = (ws .1 .1 .1 .1 .1 .1 .1 .1 .1 .1 .1 .0); join = (ws .1 .1 .1 .1 .1 .1 .1 .1 .1 .1 .1 .1 .0); tagged = (ws .1 .1 .1 .1 .1 .1 .1 .1 .1 .1 .1 .1 .1 .0); tags = (ws .1 .1 .1 .1 .1 .1 .1 .1 .1 .1 .1 .1 .1 .1 .0) }) (ws .1 .1 .1 .1 .1 .1 .1 .1 .1 .1 .1 .1 .1 .1 .1 .1 .1 .1 .0) (imp h p0 p1 (p2 .now) (p3 .now) r (ws .0) (ws .1 .0) (ws .1 .1 .0) (ws .1 .1 .1 .0) (ws .1 .1 .1 .1 .0) (ws .1 .1 .1 .1 .1 .0) (ws .1 .1 .1 .1 .1 .1 .0) (ws .1 .1 .1 .1 .1 .1 .1 .0) (ws .1 .1 .1 .1 .1 .1 .1 .1 .0) (ws .1 .1 .1 .1 .1 .1 .1 .1 .1 .0) (ws .1 .1 .1 .1 .1 .1 .1 .1 .1 .1 .0) (ws .1 .1 .1 .1 .1 .1 .1 .1 .1 .1 .1 .0) (ws .1 .1 .1 .1 .1 .1 .1 .1 .1 .1 .1 .1 .0) (ws .1 .1 .1 .1 .1 .1 .1 .1 .1 .1 .1 .1 .1 .0) (ws .1 .1 .1 .1 .1 .1 .1 .1 .1 .1 .1 .1 .1 .1 .0) (ws .1 .1 .1 .1 .1 .1 .1 .1 .1 .1 .1 .1 .1 .1 .1 .1 .1 .1 .0) ok e r′ e′) e3))))))))))))))))))))))))))))))))))))))
+        keep ! (0 ∷ 1 ∷ 2 ∷ 3 ∷ 4 ∷ 5 ∷ []) $ by ! (exits r′ v′ (record { ids = (ws .0); asked = (ws .1 .0); callers = (ws .1 .1 .0); deadlines = (ws .1 .1 .1 .0); counts = (ws .1 .1 .1 .1 .0); clients = (ws .1 .1 .1 .1 .1 .0); originals = (ws .1 .1 .1 .1 .1 .1 .0); top = (ws .1 .1 .1 .1 .1 .1 .1 .0); cursor = (ws .1 .1 .1 .1 .1 .1 .1 .1 .0); attached = (ws .1 .1 .1 .1 .1 .1 .1 .1 .1 .0); clock = (ws .1 .1 .1 .1 .1 .1 .1 .1 .1 .1 .0); timeout = (ws .1 .1 .1 .1 .1 .1 .1 .1 .1 .1 .1 .0); join = (ws .1 .1 .1 .1 .1 .1 .1 .1 .1 .1 .1 .1 .0); «tag_count» = (ws .1 .1 .1 .1 .1 .1 .1 .1 .1 .1 .1 .1 .1 .0); «tag_words» = (ws .1 .1 .1 .1 .1 .1 .1 .1 .1 .1 .1 .1 .1 .1 .0) }) (ws .1 .1 .1 .1 .1 .1 .1 .1 .1 .1 .1 .1 .1 .1 .1 .1 .1 .1 .0) (imp h p0 p1 (p2 .now) (p3 .now) r (ws .0) (ws .1 .0) (ws .1 .1 .0) (ws .1 .1 .1 .0) (ws .1 .1 .1 .1 .0) (ws .1 .1 .1 .1 .1 .0) (ws .1 .1 .1 .1 .1 .1 .0) (ws .1 .1 .1 .1 .1 .1 .1 .0) (ws .1 .1 .1 .1 .1 .1 .1 .1 .0) (ws .1 .1 .1 .1 .1 .1 .1 .1 .1 .0) (ws .1 .1 .1 .1 .1 .1 .1 .1 .1 .1 .0) (ws .1 .1 .1 .1 .1 .1 .1 .1 .1 .1 .1 .0) (ws .1 .1 .1 .1 .1 .1 .1 .1 .1 .1 .1 .1 .0) (ws .1 .1 .1 .1 .1 .1 .1 .1 .1 .1 .1 .1 .1 .0) (ws .1 .1 .1 .1 .1 .1 .1 .1 .1 .1 .1 .1 .1 .1 .0) (ws .1 .1 .1 .1 .1 .1 .1 .1 .1 .1 .1 .1 .1 .1 .1 .1 .1 .1 .0) ok e r′ e′) e3))))))))))))))))))))))))))))))))))))))
 
-module _ {M : Type 1} (𝓤 : URA M) (H : Heap 𝓤) (A : Atoms 𝓤) (W : Given 𝓤 H A) (g k : Name) (R : Rel) (Pe : Pre) (Rc : CoreRel) (Pc : CorePre) (Rk : TellerRel) (imp : ((h : Device) (p0 : ℕ) (p1 : ℕ) (p2 : List ℕ) (p3 : List ℕ) (r : Answer) (w0 : List ℕ) (w1 : List ℕ) (w2 : List ℕ) (w3 : List ℕ) (w4 : List ℕ) (w5 : List ℕ) (w6 : List ℕ) (w7 : ℕ) (w8 : ℕ) (w9 : ℕ) (w10 : ℕ) (w11 : ℕ) (w12 : ℕ) (w13 : ℕ) (w14 : List ℕ) (z3 : List ℕ) → Pe h p0 p1 p2 p3 → Rc (h .ids) (h .asked) (h .callers) (h .deadlines) (h .counts) (h .clients) (h .originals) (h .top) (h .cursor) (h .attached) (h .clock) (h .timeout) (h .join) (h .tagged) (h .tags) p0 p1 p2 p3 r w0 w1 w2 w3 w4 w5 w6 w7 w8 w9 w10 w11 w12 w13 w14 z3 → (r′ : Report) → Rk r r′ → R h p0 p1 p2 p3 r′ (record { ids = w0; asked = w1; callers = w2; deadlines = w3; counts = w4; clients = w5; originals = w6; top = w7; cursor = w8; attached = w9; clock = w10; timeout = w11; join = w12; tagged = w13; tags = w14 }) z3)) (pimp : ((h : Device) (p0 : ℕ) (p1 : ℕ) (p2 : List ℕ) (p3 : List ℕ) → Pe h p0 p1 p2 p3 → Pc (h .ids) (h .asked) (h .callers) (h .deadlines) (h .counts) (h .clients) (h .originals) (h .top) (h .cursor) (h .attached) (h .clock) (h .timeout) (h .join) (h .tagged) (h .tags) p0 p1 p2 p3)) where
+module _ {M : Type 1} (𝓤 : URA M) (H : Heap 𝓤) (A : Atoms 𝓤) (W : Given 𝓤 H A) (g k : Name) (R : Rel) (Pe : Pre) (Rc : CoreRel) (Pc : CorePre) (Rk : TellerRel) (imp : ((h : Device) (p0 : ℕ) (p1 : ℕ) (p2 : List ℕ) (p3 : List ℕ) (r : Answer) (w0 : List ℕ) (w1 : List ℕ) (w2 : List ℕ) (w3 : List ℕ) (w4 : List ℕ) (w5 : List ℕ) (w6 : List ℕ) (w7 : ℕ) (w8 : ℕ) (w9 : ℕ) (w10 : ℕ) (w11 : ℕ) (w12 : ℕ) (w13 : ℕ) (w14 : List ℕ) (z3 : List ℕ) → Pe h p0 p1 p2 p3 → Rc (h .ids) (h .asked) (h .callers) (h .deadlines) (h .counts) (h .clients) (h .originals) (h .top) (h .cursor) (h .attached) (h .clock) (h .timeout) (h .join) (h .«tag_count») (h .«tag_words») p0 p1 p2 p3 r w0 w1 w2 w3 w4 w5 w6 w7 w8 w9 w10 w11 w12 w13 w14 z3 → (r′ : Report) → Rk r r′ → R h p0 p1 p2 p3 r′ (record { ids = w0; asked = w1; callers = w2; deadlines = w3; counts = w4; clients = w5; originals = w6; top = w7; cursor = w8; attached = w9; clock = w10; timeout = w11; join = w12; «tag_count» = w13; «tag_words» = w14 }) z3)) (pimp : ((h : Device) (p0 : ℕ) (p1 : ℕ) (p2 : List ℕ) (p3 : List ℕ) → Pe h p0 p1 p2 p3 → Pc (h .ids) (h .asked) (h .callers) (h .deadlines) (h .counts) (h .clients) (h .originals) (h .top) (h .cursor) (h .attached) (h .clock) (h .timeout) (h .join) (h .«tag_count») (h .«tag_words») p0 p1 p2 p3)) where
   entry-walks : (C : Calls 𝓤 H) (Λ : Loops 𝓤 H) → FmC 𝓤 H (W .laws) C → Triple 𝓤 (C g) (Core 𝓤 Rc Pc H A) → Triple 𝓤 (C k) (Teller 𝓤 Rk H A) → Walks 𝓤 H A ended stayed (WpFn 𝓤 H C Λ (function g k)) (clauses 𝓤 R Pe)
   entry-walks C Λ fm known tells = walked 𝓤 H A ended stayed (clauses 𝓤 R Pe) (WpFn 𝓤 H C Λ (function g k)) (λ κs. (ptr-vals, (uint-vals w32, (uint-vals w64, (slice-vals, (slice-vals, tt))))))
       (λ κs. (mut-tells (named 0) (κs .0) T.the-row, (uint-tells w32, (uint-tells w64, (shr-slice-tells (named 1) (κs .1 .0) u8, (mut-slice-tells (named 2) (κs .1 .1 .0) u8, tt))))))

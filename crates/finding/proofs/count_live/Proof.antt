@@ -8,7 +8,7 @@ use lib.ListN.{getD}
 use borrow.Author.Tests.{eq-eqb, ne-eqb}
 use Rattle.laws.specs.Search.{count}
 use Rattle.laws.proofs.CountLaws.{count-le, count-more}
-use Rattle.table.specs.Places.{isTaken}
+use Rattle.table.specs.inner.Places.{isTaken}
 use borrow.Author.Needs.{needs}
 use Rattle.finding.proofs.count_live.Statement.{statement}
 use Rattle.finding.proofs.count_live.Tie as tie

@@ -10,7 +10,7 @@ use borrow.Author.Count.{below-more}
 use borrow.Author.Needs.{needs}
 use borrow.Author.Tests.{lt-leb}
 use Rattle.laws.proofs.SearchLaws.{first-is}
-use Rattle.table.specs.Places.{isTaken, isDue}
+use Rattle.table.specs.inner.Places.{isTaken, isDue}
 use Rattle.finding.proofs.first_due.Statement.{statement}
 use Rattle.finding.proofs.first_due.Tie as tie
 

@@ -8,10 +8,10 @@ use native.Mathlib.Omega.{arith}
 use borrow.Author.Count.{below-more, below-none}
 use borrow.Author.Tests.{eq-eqb, ne-eqb}
 use denote.Ref.{now}
-use Rattle.laws.specs.Numbers.{ids as every-id}
+use Rattle.numbers.specs.Numbers.{ids as every-id}
 use Rattle.laws.specs.Circle.{turn, gap}
 use Rattle.pdu.specs.declared.ProxyId.{ProxyId}
-use Rattle.table.specs.Places.{holds, liveId}
+use Rattle.table.specs.inner.Places.{holds, liveId}
 use Rattle.finding.proofs.IdLaws.{live-yes, live-no, Walk, walk-starts, walk-nearer, walk-on, walk-ends}
 use borrow.Author.Needs.{needs}
 use Rattle.finding.proofs.free_id.Statement.{statement}

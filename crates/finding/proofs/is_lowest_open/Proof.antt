@@ -2,7 +2,7 @@
 -- Assumes nothing.
 use mathlib.Core.Path.{refl}
 use denote.Ref.{now}
-use Rattle.table.specs.Places.{isLower}
+use Rattle.table.specs.inner.Places.{isLower}
 use Rattle.finding.proofs.ScanLaws.{beats-none, beats-found}
 use borrow.Author.Needs.{needs}
 use Rattle.finding.proofs.is_lowest_open.Statement.{statement}

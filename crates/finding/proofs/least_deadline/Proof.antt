@@ -8,7 +8,7 @@ use lib.ListN.{getD}
 use Rattle.laws.specs.Search.{least}
 use Rattle.laws.proofs.LeastLaws.{least-turn}
 use Rattle.machine.specs.Waiting.{noDeadline}
-use Rattle.table.specs.Places.{isTaken}
+use Rattle.table.specs.inner.Places.{isTaken}
 use borrow.Author.Needs.{needs}
 use Rattle.finding.proofs.least_deadline.Statement.{statement}
 use Rattle.finding.proofs.least_deadline.Tie as tie

@@ -7,7 +7,7 @@ use native.Mathlib.Omega.{arith}
 use borrow.Author.Count.{below-more, below-none}
 use borrow.Author.Tests.{eq-eqb, ne-eqb}
 use denote.Ref.{now}
-use Rattle.table.specs.Places.{isFree}
+use Rattle.table.specs.inner.Places.{isFree}
 use Rattle.laws.proofs.SearchLaws.{best-nothing, first-found}
 use Rattle.finding.proofs.ScanLaws.{free-below}
 use borrow.Author.Needs.{needs}

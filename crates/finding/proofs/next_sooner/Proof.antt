@@ -9,7 +9,7 @@ use denote.Ref.{now}
 use borrow.Author.Needs.{needs}
 use Rattle.laws.proofs.Choice.{lt-or}
 use Rattle.laws.proofs.SpanLaws.{span-more}
-use Rattle.table.specs.Places.{isTaken, isSooner}
+use Rattle.table.specs.inner.Places.{isTaken, isSooner}
 use Rattle.finding.proofs.ScanLaws.{live-id, place-later, place-higher, place-sooner}
 use Rattle.finding.proofs.next_sooner.Statement.{statement}
 use Rattle.finding.proofs.next_sooner.Tie as tie

@@ -6,8 +6,8 @@ use mathlib.Core.Bool.{false}
 use mathlib.Core.Logic.{⊎-elim}
 use native.Mathlib.Omega.{arith}
 use denote.Ref.{now}
-use Rattle.laws.specs.Numbers.{places}
-use Rattle.table.specs.Places.{isFree, isOpen, isLower}
+use Rattle.numbers.specs.Numbers.{places}
+use Rattle.table.specs.inner.Places.{isFree, isOpen, isLower}
 use Rattle.finding.proofs.ScanLaws.{Scan, scan-starts, scan-low, scan-takes, scan-passes, scan-ends, first-takes, first-passes, free-below}
 use borrow.Author.Needs.{needs}
 use Rattle.finding.proofs.open_and_free.Statement.{statement}

@@ -9,7 +9,7 @@ use lib.ListN.{getD}
 use borrow.Author.Needs.{needs}
 use Rattle.laws.proofs.Choice.{or-four}
 use Rattle.laws.proofs.SpanLaws.{span-none, span-four}
-use Rattle.table.specs.Places.{isTaken}
+use Rattle.table.specs.inner.Places.{isTaken}
 use Rattle.finding.proofs.skip_higher.Statement.{statement}
 use Rattle.finding.proofs.skip_higher.Tie as tie
 

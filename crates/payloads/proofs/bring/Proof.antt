@@ -6,7 +6,7 @@ use mathlib.Core.Bool.{false}
 use denote.Ref.{now}
 use borrow.Author.Needs.{needs}
 use Rattle.pdu.specs.Replies.{what, excepts}
-use Rattle.rewrite.specs.Lent.{tagsOf}
+use Rattle.rewrite.specs.inner.Lent.{tagsOf}
 use Rattle.rewrite.specs.Frames.{returnedBy, returned}
 use Rattle.rewrite.proofs.FrameLaws.{returned-exception, returned-other}
 use Rattle.payloads.proofs.bring.Statement.{statement}
@@ -15,16 +15,16 @@ use Rattle.payloads.proofs.bring.Tie as tie
 returns : tie.Need-returns
 returns c unit =
     let a = c .before .before .before .before .args in
-    sym (returned-exception (tagsOf (a .tagged) (now (a .tags))) (now (a .frame)) (what unit (a .function) (a .asked)) (sym (c .before .is-exception .ensures) ∙ c .if1 .taken))
+    sym (returned-exception (tagsOf (a .count) (now (a .words))) (now (a .frame)) (what unit (a .function) (a .asked)) (sym (c .before .is-exception .ensures) ∙ c .if1 .taken))
 
 plain : (c : tie.Else1) → (let a = c .before .before .before .before .args in excepts (a .function) (now (a .frame)) ≡ false)
 plain c = sym (c .before .is-exception .ensures) ∙ c .if1 .left
 
 by-asked : (c : tie.Else1) (unit : ℕ)
-    → (let a = c .before .before .before .before .args in returned (tagsOf (a .tagged) (now (a .tags))) (what unit (a .function) (a .asked)) (now (a .frame)) ≡ returnedBy (tagsOf (a .tagged) (now (a .tags))) (a .asked) (now (a .frame)))
+    → (let a = c .before .before .before .before .args in returned (tagsOf (a .count) (now (a .words))) (what unit (a .function) (a .asked)) (now (a .frame)) ≡ returnedBy (tagsOf (a .count) (now (a .words))) (a .asked) (now (a .frame)))
 by-asked c unit =
     let a = c .before .before .before .before .args in
-    returned-other (tagsOf (a .tagged) (now (a .tags))) (now (a .frame)) (what unit (a .function) (a .asked)) (plain c)
+    returned-other (tagsOf (a .count) (now (a .words))) (now (a .frame)) (what unit (a .function) (a .asked)) (plain c)
 
 pass-requires : tie.Need-pass-requires
 pass-requires c κs =

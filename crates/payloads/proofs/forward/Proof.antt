@@ -6,7 +6,7 @@ use lib.Seq.{length-take-le}
 use denote.Ref.{now}
 use borrow.Author.Needs.{needs}
 use Rattle.rewrite.specs.Frames.{forwarded}
-use Rattle.rewrite.specs.Lent.{tagsOf}
+use Rattle.rewrite.specs.inner.Lent.{tagsOf}
 use Rattle.rewrite.proofs.FrameLaws.{front, laid-under}
 use Rattle.payloads.proofs.forward.Statement.{statement}
 use Rattle.payloads.proofs.forward.Tie as tie
@@ -27,7 +27,7 @@ returns c =
     let o = now (a .out) in
     let r = c .before .before .before .before .before .before .send in
     rw (c .before .before .lay-id .ensures, c .before .before .before .before .before .before .before .before .before .before .copy .ensures)
-    (laid-under f o (a .id .0) (r .result .partial) (r .result .value) (r .last .0) (forwarded (tagsOf (a .tagged) (now (a .tags))) (a .asked) f) (omega (arith, s .pre .0 .least)) (rw (c .before .before .before .before .before .before .before .before .before .before .copy .ensures, front f o) at (r .kept .0))
+    (laid-under f o (a .id .0) (r .result .partial) (r .result .value) (r .last .0) (forwarded (tagsOf (a .count) (now (a .words))) (a .asked) f) (omega (arith, s .pre .0 .least)) (rw (c .before .before .before .before .before .before .before .before .before .before .copy .ensures, front f o) at (r .kept .0))
     (rw (c .before .before .before .before .before .before .before .before .before .before .copy .ensures, front f o) at (r .ensures)))
 
 pub forward-spec : {M : Type 1} → statement M

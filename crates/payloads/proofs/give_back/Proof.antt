@@ -7,7 +7,7 @@ use denote.Ref.{now}
 use borrow.Author.Needs.{needs}
 use Rattle.pdu.specs.Replies.{what}
 use Rattle.rewrite.specs.Frames.{returned}
-use Rattle.rewrite.specs.Lent.{tagsOf}
+use Rattle.rewrite.specs.inner.Lent.{tagsOf}
 use Rattle.rewrite.proofs.FrameLaws.{front, laid-under}
 use Rattle.payloads.proofs.give_back.Statement.{statement}
 use Rattle.payloads.proofs.give_back.Tie as tie
@@ -28,7 +28,7 @@ returns c unit =
     let o = now (a .out) in
     let r = c .before .before .before .before .before .before .bring in
     rw (c .before .before .lay-id .ensures, c .before .before .before .before .before .before .before .before .before .before .copy .ensures)
-    (laid-under f o 0 (r .result .partial) (r .result .value) (r .last .0) (returned (tagsOf (a .tagged) (now (a .tags))) (what unit (a .function) (a .asked)) f) (omega (arith, s .pre .0 .least)) (rw (c .before .before .before .before .before .before .before .before .before .before .copy .ensures, front f o) at (r .kept .0))
+    (laid-under f o 0 (r .result .partial) (r .result .value) (r .last .0) (returned (tagsOf (a .count) (now (a .words))) (what unit (a .function) (a .asked)) f) (omega (arith, s .pre .0 .least)) (rw (c .before .before .before .before .before .before .before .before .before .before .copy .ensures, front f o) at (r .kept .0))
     (rw (c .before .before .before .before .before .before .before .before .before .before .copy .ensures, front f o) at (r .ensures unit)))
 
 pub give-back-spec : {M : Type 1} → statement M

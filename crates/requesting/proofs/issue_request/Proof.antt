@@ -5,7 +5,7 @@ use mathlib.Core.List.{map}
 use native.Mathlib.Omega.{arith}
 use denote.Ref.{now}
 use Rattle.table.specs.Columns.{Columns, columns}
-use Rattle.proxy.specs.State.{kept}
+use Rattle.proxy.specs.State.{keptSettings}
 use Rattle.requesting.proofs.SeatLaws.{word-stands, asked-so, carries, free-here, issued-there}
 use borrow.Author.Needs.{needs}
 use Rattle.requesting.proofs.issue_request.Statement.{statement}
@@ -43,7 +43,7 @@ returns c =
     let s = found .before .before .before .before .before .before in
     let asked = asked-so (s .pre .1 .1 .1 .0) (s .pre .1 .1 .0 .legal) (unit .unit-of .ensures) in
     let after = closed .close .ensures (s .args .word) (asked .0) (asked .1) _ _ _ _ _ (stored .issue .ensures .1) in
-    λ join. issued-there (kept (s .args .timeout) join (s .args .tagged) (now (s .args .tags))) (came s) (s .args .client) (now (s .args .out)) (found .free-id .result)
+    λ join. issued-there (keptSettings (s .args .timeout) join (s .args .tag-count) (now (s .args .tag-words))) (came s) (s .args .client) (now (s .args .out)) (found .free-id .result)
     (s .pre .0) (s .pre .1 .1 .1 .0) (s .pre .1 .1 .0 .legal) (after .1) (found .free-id .ensures) (omega (arith, found .free-id .ok)) (sent .before .before .next .ensures)
     (named .original-of .ensures) (s .pre .1 .1 .1 .1 .0) (after .0 ∙ ap (map _) (stored .issue .ensures .0)) (sent .forward .ensures)
 

@@ -16,7 +16,7 @@ abbrev came : tie.Start → State
 came s =
     let a = s .args in
     lent (now (a .ids)) (now (a .asked)) (now (a .callers)) (now (a .deadlines)) (now (a .counts)) (now (a .clients)) (now (a .originals)) (now (a .top)) (now (a .cursor)) (now (a .attached)) (now (a .clock))
-    (now (a .timeout)) (now (a .join)) (now (a .tagged)) (now (a .tags))
+    (now (a .timeout)) (now (a .join)) (now (a .tag-count)) (now (a .tag-words))
 
 -- where the function began, from behind the gate
 abbrev start : tie.Else1 → tie.Start

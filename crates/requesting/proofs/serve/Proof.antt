@@ -4,7 +4,7 @@ use native.Mathlib.Omega.{arith}
 use denote.Ref.{now}
 use Rattle.table.specs.Columns.{Columns, columns}
 use Rattle.table.proofs.EntryLaws.{runs-of}
-use Rattle.proxy.specs.State.{Kept, kept}
+use Rattle.proxy.specs.State.{KeptSettings, keptSettings}
 use Rattle.proxy.proofs.StateLaws.{tag-words}
 use Rattle.requesting.proofs.SeatLaws.{Seated, may-join-own, open-here, joined-there, issued-next, full-there}
 use borrow.Author.Needs.{needs}
@@ -17,8 +17,8 @@ came s =
     columns (now (s .args .ids)) (now (s .args .asked)) (now (s .args .callers)) (now (s .args .deadlines)) (now (s .args .counts)) (now (s .args .clients))
     (now (s .args .originals)) (now (s .args .top))
 
-abbrev settings : tie.Start → Kept
-settings s = kept (s .args .timeout) (s .args .join) (s .args .tagged) (now (s .args .tags))
+abbrev settings : tie.Start → KeptSettings
+settings s = keptSettings (s .args .timeout) (s .args .join) (s .args .tag-count) (now (s .args .tag-words))
 
 -- where the function began, from where the scan is done
 abbrev start : tie.After-find-seats → tie.Start

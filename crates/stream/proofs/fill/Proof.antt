@@ -6,7 +6,7 @@ use native.Mathlib.Omega.{arith}
 use lib.ListN.{length, length-set}
 use lib.Seq.{paste, paste-zero}
 use denote.Ref.{now}
-use Rattle.laws.specs.Numbers.{mostFrame}
+use Rattle.numbers.specs.Numbers.{mostFrame}
 use Rattle.stream.proofs.FieldLaws.{pasted-more, pasted-all}
 use borrow.Author.Needs.{needs}
 use Rattle.stream.proofs.fill.Statement.{statement}

@@ -9,7 +9,7 @@ use Rattle.stream.proofs.reset.Reads as reads
 use Rattle.stream.proofs.reset.Lts as lts
 
 returns : tie.Need-returns
-returns c = record { says = refl; after = refl; made = fresh-made _ 0 (c .told .ensures) refl }
+returns c = record { says = refl; after = refl; made = fresh-made _ 0 (c .tells-length .ensures) refl }
 
 pub reset-spec : {M : Type 1} → statement M
 reset-spec = tie.close (tie.spec (λ c κs. search needs) returns)

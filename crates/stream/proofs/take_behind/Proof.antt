@@ -6,7 +6,7 @@ use native.Mathlib.Omega.{arith}
 use lib.ListN.{length, take}
 use denote.Ref.{now}
 use borrow.Author.Needs.{needs}
-use Rattle.laws.specs.Numbers.{mostFrame, frameBuffer}
+use Rattle.numbers.specs.Numbers.{mostFrame, frameBuffer}
 use Rattle.wire.specs.Splitting.{standingOf}
 use Rattle.wire.specs.declared.splitting.Split.the-variants.{Frame}
 use Rattle.stream.proofs.FieldLaws.{Ready, run-long, frame-long, frame-comes, more-comes, bad-new, bad-comes}

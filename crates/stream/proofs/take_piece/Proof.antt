@@ -9,7 +9,7 @@ use lib.Dec.{eqb}
 use denote.Ref.{now}
 use borrow.Author.Needs.{needs}
 use borrow.Author.Tests.{eqb-true, eqb-false, not-true}
-use Rattle.laws.specs.Numbers.{mostFrame}
+use Rattle.numbers.specs.Numbers.{mostFrame}
 use Rattle.laws.proofs.Choice.{and-left, and-right}
 use Rattle.wire.specs.Splitting.{standingOf}
 use Rattle.wire.specs.declared.splitting.Split.the-variants.{Frame}

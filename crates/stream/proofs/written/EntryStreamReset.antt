@@ -1,5 +1,5 @@
--- Every entry point `f(st: &mut Inlet) -> stream/Taken` whose body is `g(&mut st.bytes, &mut st.count, &mut st.mark)` meets its contract where its core g meets its own at the fields that are lent. Written by tools/gen.py.
---     Rel, CoreRel     what the contract of the entry point, and that of the core, is a relation of: Inlet and parameters at entry, result, Inlet and slices at exit; the same at the fields that are lent
+-- Every entry point `f(st: &mut LentStream) -> stream/Taken` whose body is `g(&mut st.bytes, &mut st.count, &mut st.mark)` meets its contract where its core g meets its own at the fields that are lent. Written by tools/gen.py.
+--     Rel, CoreRel     what the contract of the entry point, and that of the core, is a relation of: LentStream and parameters at entry, result, LentStream and slices at exit; the same at the fields that are lent
 --     function g       the MIR of such an entry point
 --     clauses R, core-clauses Rc   the contracts `ensures { λ r. ⌜ R .. ⌝ }`
 --     entry-meets      the entry point meets the one where the core meets the other, by a law from Rc to R. The fields that are not lent are as they were
@@ -41,16 +41,16 @@ use denote.Exit.{yes}
 use Rattle.stream.specs.declared.Taken.{Taken}
 use Rattle.stream.proofs.Taken as Res
 use Rattle.stream.proofs.Taken.Laws as Res′
-use Rattle.stream.specs.declared.Inlet.{Inlet}
-use Rattle.stream.proofs.Inlet as T
-use Rattle.stream.proofs.Inlet.Laws as T′
-use Rattle.stream.proofs.written.InletMembers as MS
-use Rattle.stream.proofs.written.InletLent.{takes, gives}
+use Rattle.stream.specs.declared.LentStream.{LentStream}
+use Rattle.stream.proofs.LentStream as T
+use Rattle.stream.proofs.LentStream.Laws as T′
+use Rattle.stream.proofs.written.LentStreamMembers as MS
+use Rattle.stream.proofs.written.LentStreamLent.{takes, gives}
 use Rattle.lending.proofs.Lend.{Use, lend, Names, after, kept, refs, refsAt, ptrsAt, lents, finals, lend-all, back-all}
 use Rattle.lending.proofs.Steps.{with-emp}
 
 abbrev pub Rel : Type 1
-Rel = Inlet → Taken → Inlet → Type 0
+Rel = LentStream → Taken → LentStream → Type 0
 
 abbrev pub CoreRel : Type 1
 CoreRel = List ℕ → ℕ → ℕ → Taken → List ℕ → ℕ → ℕ → Type 0
@@ -121,7 +121,7 @@ module _ {M : Type 1} (𝓤 : URA M) (Rc : CoreRel) where
 abbrev stayed : Stays (ended .signature .params) (ended .kept)
 stayed = (stay-ref (0 ∷ []) tt (plain (λ _. T.the-row)), tt)
 
-module _ {M : Type 1} (𝓤 : URA M) (H : Heap 𝓤) (A : Atoms 𝓤) (W : Given 𝓤 H A) (g : Name) (R : Rel) (Rc : CoreRel) (imp : ((h : Inlet) (r : Taken) (w0 : List ℕ) (w1 : ℕ) (w2 : ℕ) → Rc (h .bytes) (h .count) (h .mark) r w0 w1 w2 → R h r (record { bytes = w0; count = w1; mark = w2 }))) (κ0 : Lft) (q0 : Share) (b o : ℕ) (γ : GName) (h : Inlet) where
+module _ {M : Type 1} (𝓤 : URA M) (H : Heap 𝓤) (A : Atoms 𝓤) (W : Given 𝓤 H A) (g : Name) (R : Rel) (Rc : CoreRel) (imp : ((h : LentStream) (r : Taken) (w0 : List ℕ) (w1 : ℕ) (w2 : ℕ) → Rc (h .bytes) (h .count) (h .mark) r w0 w1 w2 → R h r (record { bytes = w0; count = w1; mark = w2 }))) (κ0 : Lft) (q0 : Share) (b o : ℕ) (γ : GName) (h : LentStream) where
   -- the parameters that go on to the core as they are
   abbrev Tail : List RattleType
   Tail = []
@@ -132,7 +132,7 @@ module _ {M : Type 1} (𝓤 : URA M) (H : Heap 𝓤) (A : Atoms 𝓤) (W : Given
   abbrev tail-vals : Valss Tail
   tail-vals = tt
 
-  abbrev a : RefT Inlet × Denots Tail
+  abbrev a : RefT LentStream × Denots Tail
   a = (record { ptr = (b, o); name = γ; now = h }, tail)
 
   abbrev vals : List Val × Valss Tail
@@ -151,7 +151,7 @@ module _ {M : Type 1} (𝓤 : URA M) (H : Heap 𝓤) (A : Atoms 𝓤) (W : Given
   abbrev to-core : ℕ → Names uses → Core 𝓤 Rc H A .Ghost
   to-core ν γs = (((ν ∷ [], tt), (fullShare, tt), tt, passed ν γs, ptrsAt (named 0) (ν ∷ []) uses zero b o Tail tail-vals), tt)
 
-  exits : (r : Taken) (v : Val) (h′ : Inlet) → R h r h′ → ent 𝓤 (⋆ 𝓤 H A (‵ (Res.the-row .own r (v ∷ [])) ∷ ‵ (fobs γ (T.the-row .coded .code h′)) ∷ ‵ (fbor κ0 (Body (mem T.the-row) b o γ)) ∷ ‵ (flft κ0 q0) ∷ (‵ ftrue) ∷ [])) (Post v)
+  exits : (r : Taken) (v : Val) (h′ : LentStream) → R h r h′ → ent 𝓤 (⋆ 𝓤 H A (‵ (Res.the-row .own r (v ∷ [])) ∷ ‵ (fobs γ (T.the-row .coded .code h′)) ∷ ‵ (fbor κ0 (Body (mem T.the-row) b o γ)) ∷ ‵ (flft κ0 q0) ∷ (‵ ftrue) ∷ [])) (Post v)
   exits r v h′ e =
       qed W (‵ (Res.the-row .own r (v ∷ [])) ∷ ‵ (fobs γ (T.the-row .coded .code h′)) ∷ ‵ (fbor κ0 (Body (mem T.the-row) b o γ)) ∷ ‵ (flft κ0 q0) ∷ (‵ ftrue) ∷ []) ∵
       suffices ! _ (ends-at 𝓤 H A ended stayed (clauses 𝓤 R) W (((κ0, tt), (q0, tt), tt, a, vals), tt) v r (h′, tt) (tt, tt)) $ says ! e $
@@ -184,7 +184,7 @@ module _ {M : Type 1} (𝓤 : URA M) (H : Heap 𝓤) (A : Atoms 𝓤) (W : Given
         move ! (13 ∷ 14 ∷ []) $ free1 ! $ move ! (11 ∷ 12 ∷ []) $ free1 ! $ move ! (9 ∷ 10 ∷ []) $ free1 ! $ move ! (7 ∷ 8 ∷ []) $ free1 ! $ move ! (5 ∷ 6 ∷ []) $ free1 ! $ free0 ! $
         keep ! (0 ∷ 1 ∷ 2 ∷ 3 ∷ 4 ∷ []) $ by ! (exits r v (record { bytes = (ws .0); count = (ws .1 .0); mark = (ws .1 .1 .0) }) (imp h r (ws .0) (ws .1 .0) (ws .1 .1 .0) e))))))))))))))
 
-module _ {M : Type 1} (𝓤 : URA M) (H : Heap 𝓤) (A : Atoms 𝓤) (W : Given 𝓤 H A) (g : Name) (R : Rel) (Rc : CoreRel) (imp : ((h : Inlet) (r : Taken) (w0 : List ℕ) (w1 : ℕ) (w2 : ℕ) → Rc (h .bytes) (h .count) (h .mark) r w0 w1 w2 → R h r (record { bytes = w0; count = w1; mark = w2 }))) where
+module _ {M : Type 1} (𝓤 : URA M) (H : Heap 𝓤) (A : Atoms 𝓤) (W : Given 𝓤 H A) (g : Name) (R : Rel) (Rc : CoreRel) (imp : ((h : LentStream) (r : Taken) (w0 : List ℕ) (w1 : ℕ) (w2 : ℕ) → Rc (h .bytes) (h .count) (h .mark) r w0 w1 w2 → R h r (record { bytes = w0; count = w1; mark = w2 }))) where
   entry-walks : (C : Calls 𝓤 H) (Λ : Loops 𝓤 H) → FmC 𝓤 H (W .laws) C → Triple 𝓤 (C g) (Core 𝓤 Rc H A) → Walks 𝓤 H A ended stayed (WpFn 𝓤 H C Λ (function g)) (clauses 𝓤 R)
   entry-walks C Λ fm known = walked 𝓤 H A ended stayed (clauses 𝓤 R) (WpFn 𝓤 H C Λ (function g)) (λ κs. (ptr-vals, tt))
       (λ κs. (mut-tells (named 0) (κs .0) T.the-row, tt))

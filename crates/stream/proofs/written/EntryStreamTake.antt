@@ -1,5 +1,5 @@
--- Every entry point `f(st: &mut Inlet, piece: &[u8], out: &mut [u8]) -> stream/Taken` whose body is `g(&mut st.bytes, &mut st.count, &mut st.mark, piece, out)` meets its contract where its core g meets its own at the fields that are lent. Written by tools/gen.py.
---     Rel, CoreRel     what the contract of the entry point, and that of the core, is a relation of: Inlet and parameters at entry, result, Inlet and slices at exit; the same at the fields that are lent
+-- Every entry point `f(st: &mut LentStream, piece: &[u8], out: &mut [u8]) -> stream/Taken` whose body is `g(&mut st.bytes, &mut st.count, &mut st.mark, piece, out)` meets its contract where its core g meets its own at the fields that are lent. Written by tools/gen.py.
+--     Rel, CoreRel     what the contract of the entry point, and that of the core, is a relation of: LentStream and parameters at entry, result, LentStream and slices at exit; the same at the fields that are lent
 --     function g       the MIR of such an entry point
 --     clauses R, core-clauses Rc   the contracts `ensures { λ r. ⌜ R .. ⌝ }`
 --     entry-meets      the entry point meets the one where the core meets the other, by a law from Rc to R. The fields that are not lent are as they were
@@ -44,22 +44,22 @@ use denote.Exit.{yes}
 use Rattle.stream.specs.declared.Taken.{Taken}
 use Rattle.stream.proofs.Taken as Res
 use Rattle.stream.proofs.Taken.Laws as Res′
-use Rattle.stream.specs.declared.Inlet.{Inlet}
-use Rattle.stream.proofs.Inlet as T
-use Rattle.stream.proofs.Inlet.Laws as T′
-use Rattle.stream.proofs.written.InletMembers as MS
-use Rattle.stream.proofs.written.InletLent.{takes, gives}
+use Rattle.stream.specs.declared.LentStream.{LentStream}
+use Rattle.stream.proofs.LentStream as T
+use Rattle.stream.proofs.LentStream.Laws as T′
+use Rattle.stream.proofs.written.LentStreamMembers as MS
+use Rattle.stream.proofs.written.LentStreamLent.{takes, gives}
 use Rattle.lending.proofs.Lend.{Use, lend, Names, after, kept, refs, refsAt, ptrsAt, lents, finals, lend-all, back-all}
 use Rattle.lending.proofs.Steps.{with-fact}
 
 abbrev pub Rel : Type 1
-Rel = Inlet → List ℕ → List ℕ → Taken → Inlet → List ℕ → Type 0
+Rel = LentStream → List ℕ → List ℕ → Taken → LentStream → List ℕ → Type 0
 
 abbrev pub CoreRel : Type 1
 CoreRel = List ℕ → ℕ → ℕ → List ℕ → List ℕ → Taken → List ℕ → ℕ → ℕ → List ℕ → Type 0
 
 abbrev pub Pre : Type 1
-Pre = Inlet → List ℕ → List ℕ → Type 0
+Pre = LentStream → List ℕ → List ℕ → Type 0
 
 abbrev pub CorePre : Type 1
 CorePre = List ℕ → ℕ → ℕ → List ℕ → List ℕ → Type 0
@@ -136,7 +136,7 @@ module _ {M : Type 1} (𝓤 : URA M) (Rc : CoreRel) (Pc : CorePre) where
 abbrev stayed : Stays (ended .signature .params) (ended .kept)
 stayed = (stay-ref (0 ∷ []) tt (plain (λ _. T.the-row)), (stay-dropped (SliceRefOf (1 ∷ []) tt (plain (λ κs. u8)) (λ κs. tt)) yes, (gave-slice (2 ∷ []) tt (plain (λ _. u8)), tt)))
 
-module _ {M : Type 1} (𝓤 : URA M) (H : Heap 𝓤) (A : Atoms 𝓤) (W : Given 𝓤 H A) (g : Name) (R : Rel) (Pe : Pre) (Rc : CoreRel) (Pc : CorePre) (imp : ((h : Inlet) (p0 : List ℕ) (p1 : List ℕ) (r : Taken) (w0 : List ℕ) (w1 : ℕ) (w2 : ℕ) (z1 : List ℕ) → Pe h p0 p1 → Rc (h .bytes) (h .count) (h .mark) p0 p1 r w0 w1 w2 z1 → R h p0 p1 r (record { bytes = w0; count = w1; mark = w2 }) z1)) (pimp : ((h : Inlet) (p0 : List ℕ) (p1 : List ℕ) → Pe h p0 p1 → Pc (h .bytes) (h .count) (h .mark) p0 p1)) (κ0 κ1 κ2 : Lft) (q0 q1 q2 : Share) (b o : ℕ) (γ : GName) (h : Inlet) (p0 : RefT (List ℕ)) (fit0 : Room u8 (length (p0 .now))) (p1 : RefT (List ℕ)) (fit1 : Room u8 (length (p1 .now))) (ok : Pe h (p0 .now) (p1 .now)) (pre : Pc (h .bytes) (h .count) (h .mark) (p0 .now) (p1 .now)) where
+module _ {M : Type 1} (𝓤 : URA M) (H : Heap 𝓤) (A : Atoms 𝓤) (W : Given 𝓤 H A) (g : Name) (R : Rel) (Pe : Pre) (Rc : CoreRel) (Pc : CorePre) (imp : ((h : LentStream) (p0 : List ℕ) (p1 : List ℕ) (r : Taken) (w0 : List ℕ) (w1 : ℕ) (w2 : ℕ) (z1 : List ℕ) → Pe h p0 p1 → Rc (h .bytes) (h .count) (h .mark) p0 p1 r w0 w1 w2 z1 → R h p0 p1 r (record { bytes = w0; count = w1; mark = w2 }) z1)) (pimp : ((h : LentStream) (p0 : List ℕ) (p1 : List ℕ) → Pe h p0 p1 → Pc (h .bytes) (h .count) (h .mark) p0 p1)) (κ0 κ1 κ2 : Lft) (q0 q1 q2 : Share) (b o : ℕ) (γ : GName) (h : LentStream) (p0 : RefT (List ℕ)) (fit0 : Room u8 (length (p0 .now))) (p1 : RefT (List ℕ)) (fit1 : Room u8 (length (p1 .now))) (ok : Pe h (p0 .now) (p1 .now)) (pre : Pc (h .bytes) (h .count) (h .mark) (p0 .now) (p1 .now)) where
   -- the parameters that go on to the core as they are
   abbrev Tail : List RattleType
   Tail = ShrSlice (named 1) κ1 u8 ∷ MutSlice (named 2) κ2 u8 ∷ []
@@ -147,7 +147,7 @@ module _ {M : Type 1} (𝓤 : URA M) (H : Heap 𝓤) (A : Atoms 𝓤) (W : Given
   abbrev tail-vals : Valss Tail
   tail-vals = (slice-vals p0, (slice-vals p1, tt))
 
-  abbrev a : RefT Inlet × Denots Tail
+  abbrev a : RefT LentStream × Denots Tail
   a = (record { ptr = (b, o); name = γ; now = h }, tail)
 
   abbrev vals : List Val × Valss Tail
@@ -166,7 +166,7 @@ module _ {M : Type 1} (𝓤 : URA M) (H : Heap 𝓤) (A : Atoms 𝓤) (W : Given
   abbrev to-core : ℕ → Names uses → Core 𝓤 Rc Pc H A .Ghost
   to-core ν γs = (((ν ∷ [], (κ1, (κ2, tt))), (fullShare, (q1, (q2, tt))), tt, passed ν γs, ptrsAt (named 0) (ν ∷ []) uses zero b o Tail tail-vals), tt)
 
-  exits : (r : Taken) (v : Val) (h′ : Inlet) (z1 : List ℕ) → R h (p0 .now) (p1 .now) r h′ z1 → length z1 ≡ length (p1 .now) → ent 𝓤 (⋆ 𝓤 H A (‵ (Res.the-row .own r (v ∷ [])) ∷ ‵ (finally u8 (p1 .name) z1) ∷ ‵ (fobs γ (T.the-row .coded .code h′)) ∷ ‵ (fbor κ0 (Body (mem T.the-row) b o γ)) ∷ ‵ (flft κ0 q0) ∷ ((‵ (flft κ1 q1) ⊛ ‵ (flft κ2 q2) ⊛ ‵ ftrue)) ∷ [])) (Post v)
+  exits : (r : Taken) (v : Val) (h′ : LentStream) (z1 : List ℕ) → R h (p0 .now) (p1 .now) r h′ z1 → length z1 ≡ length (p1 .now) → ent 𝓤 (⋆ 𝓤 H A (‵ (Res.the-row .own r (v ∷ [])) ∷ ‵ (finally u8 (p1 .name) z1) ∷ ‵ (fobs γ (T.the-row .coded .code h′)) ∷ ‵ (fbor κ0 (Body (mem T.the-row) b o γ)) ∷ ‵ (flft κ0 q0) ∷ ((‵ (flft κ1 q1) ⊛ ‵ (flft κ2 q2) ⊛ ‵ ftrue)) ∷ [])) (Post v)
   exits r v h′ z1 e l1 =
       qed W (‵ (Res.the-row .own r (v ∷ [])) ∷ ‵ (finally u8 (p1 .name) z1) ∷ ‵ (fobs γ (T.the-row .coded .code h′)) ∷ ‵ (fbor κ0 (Body (mem T.the-row) b o γ)) ∷ ‵ (flft κ0 q0) ∷ ((‵ (flft κ1 q1) ⊛ ‵ (flft κ2 q2) ⊛ ‵ ftrue)) ∷ []) ∵
       suffices ! _ (ends-at 𝓤 H A ended stayed (clauses 𝓤 R Pe) W (((κ0, (κ1, (κ2, tt))), (q0, (q1, (q2, tt))), tt, a, vals), tt) v r (h′, (tt, (z1, tt))) (tt, (tt, (l1, tt)))) $ says ! e $
@@ -201,7 +201,7 @@ module _ {M : Type 1} (𝓤 : URA M) (H : Heap 𝓤) (A : Atoms 𝓤) (W : Given
         move ! (22 ∷ 23 ∷ []) $ free1 ! $ move ! (20 ∷ 21 ∷ []) $ free1 ! $ move ! (18 ∷ 19 ∷ []) $ free1 ! $ move ! (16 ∷ 17 ∷ []) $ free1 ! $ move ! (14 ∷ 15 ∷ []) $ free1 ! $ move ! (12 ∷ 13 ∷ []) $ free1 ! $ move ! (10 ∷ 11 ∷ []) $ free1 ! $ move ! (8 ∷ 9 ∷ []) $ free1 ! $ move ! (6 ∷ 7 ∷ []) $ free1 ! $ free0 ! $
         keep ! (0 ∷ 1 ∷ 2 ∷ 3 ∷ 4 ∷ 5 ∷ []) $ by ! (exits r v (record { bytes = (ws .0); count = (ws .1 .0); mark = (ws .1 .1 .0) }) (ws .1 .1 .1 .1 .0) (imp h (p0 .now) (p1 .now) r (ws .0) (ws .1 .0) (ws .1 .1 .0) (ws .1 .1 .1 .1 .0) ok e) e1))))))))))))))))))
 
-module _ {M : Type 1} (𝓤 : URA M) (H : Heap 𝓤) (A : Atoms 𝓤) (W : Given 𝓤 H A) (g : Name) (R : Rel) (Pe : Pre) (Rc : CoreRel) (Pc : CorePre) (imp : ((h : Inlet) (p0 : List ℕ) (p1 : List ℕ) (r : Taken) (w0 : List ℕ) (w1 : ℕ) (w2 : ℕ) (z1 : List ℕ) → Pe h p0 p1 → Rc (h .bytes) (h .count) (h .mark) p0 p1 r w0 w1 w2 z1 → R h p0 p1 r (record { bytes = w0; count = w1; mark = w2 }) z1)) (pimp : ((h : Inlet) (p0 : List ℕ) (p1 : List ℕ) → Pe h p0 p1 → Pc (h .bytes) (h .count) (h .mark) p0 p1)) where
+module _ {M : Type 1} (𝓤 : URA M) (H : Heap 𝓤) (A : Atoms 𝓤) (W : Given 𝓤 H A) (g : Name) (R : Rel) (Pe : Pre) (Rc : CoreRel) (Pc : CorePre) (imp : ((h : LentStream) (p0 : List ℕ) (p1 : List ℕ) (r : Taken) (w0 : List ℕ) (w1 : ℕ) (w2 : ℕ) (z1 : List ℕ) → Pe h p0 p1 → Rc (h .bytes) (h .count) (h .mark) p0 p1 r w0 w1 w2 z1 → R h p0 p1 r (record { bytes = w0; count = w1; mark = w2 }) z1)) (pimp : ((h : LentStream) (p0 : List ℕ) (p1 : List ℕ) → Pe h p0 p1 → Pc (h .bytes) (h .count) (h .mark) p0 p1)) where
   entry-walks : (C : Calls 𝓤 H) (Λ : Loops 𝓤 H) → FmC 𝓤 H (W .laws) C → Triple 𝓤 (C g) (Core 𝓤 Rc Pc H A) → Walks 𝓤 H A ended stayed (WpFn 𝓤 H C Λ (function g)) (clauses 𝓤 R Pe)
   entry-walks C Λ fm known = walked 𝓤 H A ended stayed (clauses 𝓤 R Pe) (WpFn 𝓤 H C Λ (function g)) (λ κs. (ptr-vals, (slice-vals, (slice-vals, tt))))
       (λ κs. (mut-tells (named 0) (κs .0) T.the-row, (shr-slice-tells (named 1) (κs .1 .0) u8, (mut-slice-tells (named 2) (κs .1 .1 .0) u8, tt))))

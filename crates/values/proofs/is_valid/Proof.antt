@@ -2,7 +2,7 @@
 -- Assumes nothing.
 use borrow.Author.Tests.{not-true, not-false}
 use denote.Ref.{now}
-use Rattle.laws.specs.Numbers.{mostTags}
+use Rattle.numbers.specs.Numbers.{mostTags}
 use native.Mathlib.Omega.{arith}
 use Prim.Native.Nat.{_≤_, _-_}
 use Rattle.settings.specs.Values.{settings}

@@ -5,8 +5,8 @@ use denote.Triple.Spec.{tripleOf}
 use denote.Triple.Table.{entered, cited}
 use mathlib.Core.List.{[]}
 use Rattle.machine.specs.Calls.Call.{attach as attaches}
-use Rattle.device.specs.Device.{Made, Served}
-use Rattle.proxy.specs.State.{State, lentSet, Sounds}
+use Rattle.device.specs.Device.{MadeDevice, Served}
+use Rattle.proxy.specs.State.{State, lentSet, SoundState}
 use Rattle.proxy.specs.Calls.{Does}
 use mathlib.Core.Path.{_≡_}
 use Rattle.machine.specs.Numbers.{numbers}
@@ -27,10 +27,10 @@ abbrev R : Rel
 R = λ st client r st′. Served st (attaches client) r st′ [] []
 
 abbrev Pe : Pre
-Pe = λ st client. Made st
+Pe = λ st client. MadeDevice st
 
 abbrev Rc : CoreRel
-Rc = λ attached client r attached′. ((s : State) → Sounds (lentSet s attached) → Does (lentSet s attached) (attaches client) r (lentSet s attached′) [] [])
+Rc = λ attached client r attached′. ((s : State) → SoundState (lentSet s attached) → Does (lentSet s attached) (attaches client) r (lentSet s attached′) [] [])
 
 abbrev Rk : TellerRel
 Rk = λ a r. r ≡ numbers a

@@ -5,11 +5,11 @@ use denote.Triple.Spec.{tripleOf}
 use denote.Triple.Table.{entered, cited}
 use mathlib.Core.List.{[]}
 use Rattle.machine.specs.Calls.Call.{detach as detaches}
-use Rattle.device.specs.Device.{Made, Served}
+use Rattle.device.specs.Device.{MadeDevice, Served}
 use Prim.Native.Nat.{_≤_}
-use Rattle.laws.specs.Numbers.{places}
-use Rattle.table.specs.Changes.{Runs}
-use Rattle.proxy.specs.State.{State, lentParties, Sounds}
+use Rattle.numbers.specs.Numbers.{places}
+use Rattle.table.specs.inner.Changes.{Runs}
+use Rattle.proxy.specs.State.{State, lentParties, SoundState}
 use Rattle.proxy.specs.Calls.{Does}
 use mathlib.Core.Path.{_≡_}
 use Rattle.machine.specs.Numbers.{numbers}
@@ -31,13 +31,13 @@ abbrev R : Rel
 R = λ st client r st′. Served st (detaches client) r st′ [] []
 
 abbrev Pe : Pre
-Pe = λ st client. Made st
+Pe = λ st client. MadeDevice st
 
 abbrev Pc : CorePre
 Pc = λ counts clients originals top attached client. Runs counts clients originals × (top ≤ places)
 
 abbrev Rc : CoreRel
-Rc = λ counts clients originals top attached client r counts′ clients′ originals′ top′ attached′. ((s : State) → Sounds (lentParties s counts clients originals top attached) → Does (lentParties s counts clients originals top attached) (detaches client) r (lentParties s counts′ clients′ originals′ top′ attached′) [] [])
+Rc = λ counts clients originals top attached client r counts′ clients′ originals′ top′ attached′. ((s : State) → SoundState (lentParties s counts clients originals top attached) → Does (lentParties s counts clients originals top attached) (detaches client) r (lentParties s counts′ clients′ originals′ top′ attached′) [] [])
 
 abbrev Rk : TellerRel
 Rk = λ a r. r ≡ numbers a

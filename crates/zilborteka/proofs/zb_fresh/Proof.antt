@@ -25,7 +25,7 @@ abbrev R : Rel
 R = λ st from r st′. Freshly from r st′
 
 abbrev Rc : CoreRel
-Rc = λ ids asked callers deadlines counts clients originals top cursor attached clock timeout join tagged tags «from_timeout» «from_join» «from_tags» addr width sign r ids′ asked′ callers′ deadlines′ counts′ clients′ originals′ top′ cursor′ attached′ clock′ timeout′ join′ tagged′ tags′. Freshened (settings «from_timeout» «from_join» «from_tags» addr width sign) r (lent ids′ asked′ callers′ deadlines′ counts′ clients′ originals′ top′ cursor′ attached′ clock′ timeout′ join′ tagged′ tags′)
+Rc = λ ids asked callers deadlines counts clients originals top cursor attached clock timeout join «tag_count» «tag_words» «from_timeout» «from_join» «from_tags» addr width sign r ids′ asked′ callers′ deadlines′ counts′ clients′ originals′ top′ cursor′ attached′ clock′ timeout′ join′ «tag_count′» «tag_words′». Freshened (settings «from_timeout» «from_join» «from_tags» addr width sign) r (lent ids′ asked′ callers′ deadlines′ counts′ clients′ originals′ top′ cursor′ attached′ clock′ timeout′ join′ «tag_count′» «tag_words′»)
 
 abbrev Rk : TellerRel
 Rk = λ a r. r ≡ numbers a

@@ -5,8 +5,8 @@ use denote.Triple.Spec.{tripleOf}
 use denote.Triple.Table.{entered, cited}
 use mathlib.Core.List.{[]}
 use Rattle.machine.specs.Calls.Call.{linkLost}
-use Rattle.device.specs.Device.{Made, Served}
-use Rattle.proxy.specs.State.{State, lentIds, Sounds}
+use Rattle.device.specs.Device.{MadeDevice, Served}
+use Rattle.proxy.specs.State.{State, lentIds, SoundState}
 use Rattle.proxy.specs.Calls.{Does}
 use mathlib.Core.Path.{_≡_}
 use Rattle.machine.specs.Numbers.{numbers}
@@ -27,10 +27,10 @@ abbrev R : Rel
 R = λ st r st′. Served st (linkLost) r st′ [] []
 
 abbrev Pe : Pre
-Pe = λ st. Made st
+Pe = λ st. MadeDevice st
 
 abbrev Rc : CoreRel
-Rc = λ ids top attached r ids′ top′ attached′. ((s : State) → Sounds (lentIds s ids top attached) → Does (lentIds s ids top attached) linkLost r (lentIds s ids′ top′ attached′) [] [])
+Rc = λ ids top attached r ids′ top′ attached′. ((s : State) → SoundState (lentIds s ids top attached) → Does (lentIds s ids top attached) linkLost r (lentIds s ids′ top′ attached′) [] [])
 
 abbrev Rk : TellerRel
 Rk = λ a r. r ≡ numbers a

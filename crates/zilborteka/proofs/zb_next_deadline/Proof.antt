@@ -3,14 +3,14 @@
 use contract.Running.{givenOf, tables, tablesOf}
 use denote.Triple.Spec.{tripleOf}
 use denote.Triple.Table.{entered, cited}
-use Rattle.device.specs.Device.{Made, Awaited}
+use Rattle.device.specs.Device.{MadeDevice, Awaited}
 use mathlib.Core.Path.{_≡_}
 use Prim.Native.Nat.{_≤_}
 use lib.ListN.{getD}
-use Rattle.laws.specs.Numbers.{places}
+use Rattle.numbers.specs.Numbers.{places}
 use Rattle.laws.specs.Search.{least, count}
 use Rattle.machine.specs.Waiting.{noDeadline}
-use Rattle.table.specs.Places.{isTaken}
+use Rattle.table.specs.inner.Places.{isTaken}
 use Rattle.device.proofs.DeviceLaws.{may-await, awaited}
 use Rattle.device.proofs.written.EntryNextDeadline.{Core, entry-meets, Rel, CoreRel, Pre, CorePre}
 use Rattle.finding.proofs.next_deadline.Symbol as g
@@ -25,7 +25,7 @@ abbrev R : Rel
 R = λ st r. Awaited st r
 
 abbrev Pe : Pre
-Pe = λ st. Made st
+Pe = λ st. MadeDevice st
 
 abbrev Pc : CorePre
 Pc = λ ids deadlines top. top ≤ places

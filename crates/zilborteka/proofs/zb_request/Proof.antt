@@ -5,8 +5,8 @@ use denote.Triple.Spec.{tripleOf}
 use denote.Triple.Table.{entered, cited}
 use mathlib.Core.List.{[]}
 use Rattle.machine.specs.Calls.Call.{request as asks}
-use Rattle.device.specs.Device.{Made, Served}
-use Rattle.proxy.specs.State.{lent, Sounds}
+use Rattle.device.specs.Device.{MadeDevice, Served}
+use Rattle.proxy.specs.State.{lent, SoundState}
 use Rattle.proxy.specs.Calls.{Does}
 use mathlib.Core.Path.{_≡_}
 use Rattle.machine.specs.Numbers.{numbers}
@@ -26,13 +26,13 @@ abbrev R : Rel
 R = λ st client time frame out r st′ out′. Served st (asks client time frame out) r st′ out′ []
 
 abbrev Pe : Pre
-Pe = λ st client time frame out. Made st
+Pe = λ st client time frame out. MadeDevice st
 
 abbrev Pc : CorePre
-Pc = λ ids asked callers deadlines counts clients originals top cursor attached clock timeout join tagged tags client time frame out. Sounds (lent ids asked callers deadlines counts clients originals top cursor attached clock timeout join tagged tags)
+Pc = λ ids asked callers deadlines counts clients originals top cursor attached clock timeout join «tag_count» «tag_words» client time frame out. SoundState (lent ids asked callers deadlines counts clients originals top cursor attached clock timeout join «tag_count» «tag_words»)
 
 abbrev Rc : CoreRel
-Rc = λ ids asked callers deadlines counts clients originals top cursor attached clock timeout join tagged tags client time frame out r ids′ asked′ callers′ deadlines′ counts′ clients′ originals′ top′ cursor′ attached′ clock′ timeout′ join′ tagged′ tags′ out′. Does (lent ids asked callers deadlines counts clients originals top cursor attached clock timeout join tagged tags) (asks client time frame out) r (lent ids′ asked′ callers′ deadlines′ counts′ clients′ originals′ top′ cursor′ attached′ clock′ timeout′ join′ tagged′ tags′) out′ []
+Rc = λ ids asked callers deadlines counts clients originals top cursor attached clock timeout join «tag_count» «tag_words» client time frame out r ids′ asked′ callers′ deadlines′ counts′ clients′ originals′ top′ cursor′ attached′ clock′ timeout′ join′ «tag_count′» «tag_words′» out′. Does (lent ids asked callers deadlines counts clients originals top cursor attached clock timeout join «tag_count» «tag_words») (asks client time frame out) r (lent ids′ asked′ callers′ deadlines′ counts′ clients′ originals′ top′ cursor′ attached′ clock′ timeout′ join′ «tag_count′» «tag_words′») out′ []
 
 abbrev Rk : TellerRel
 Rk = λ a r. r ≡ numbers a

@@ -7,7 +7,7 @@ use Rattle.checking.proofs.words.asked_in.Tie as tie
 
 returns : tie.Need-returns
 unfolding whatOf
-returns c = rw (c .kept-in .ensures, c .before .class-of .ensures, c .before .before .function-in .ensures)
+returns c = rw (c .asked-from .ensures, c .before .class-of .ensures, c .before .before .function-in .ensures)
 
 pub asked-in-spec : {M : Type 1} → statement M
 asked-in-spec = tie.close (tie.spec (λ c κs. search needs) (λ c κs. search needs) (λ c κs. search needs) returns)

@@ -7,7 +7,7 @@ use Rattle.checking.proofs.words.word_of.Tie as tie
 
 returns : tie.Need-returns
 unfolding wordOf
-returns c = rw (c .kept-of .ensures .0)
+returns c = rw (c .asked-bits .ensures .0)
 
 pub word-of-spec : {M : Type 1} → statement M
 word-of-spec = tie.close (tie.spec (λ c κs. search needs) (λ c. search needs) (λ c. search needs) (λ c. search needs) (λ c. search needs) returns)

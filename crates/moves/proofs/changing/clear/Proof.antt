@@ -1,7 +1,7 @@
 -- `moves::changing::clear` meets its contract: every column is a repeat of 0.
 -- Assumes nothing.
 use mathlib.Core.Path.{refl}
-use Rattle.table.specs.Changes.{blank}
+use Rattle.table.specs.inner.Changes.{blank}
 use Rattle.moves.proofs.changing.clear.Statement.{statement}
 use Rattle.moves.proofs.changing.clear.Tie as tie
 

@@ -4,7 +4,7 @@ use Prim.Native.Nat.{_+_, _-_, _≤_}
 use mathlib.Core.Path.{_≡_, refl, _∙_, sym}
 use native.Mathlib.Omega.{arith}
 use denote.Ref.{now}
-use Rattle.table.specs.Changes.{reach}
+use Rattle.table.specs.inner.Changes.{reach}
 use Rattle.table.proofs.EntryLaws.{reach-turn, reach-end}
 use borrow.Author.Needs.{needs}
 use Rattle.moves.proofs.ending.last_live.Statement.{statement}

@@ -9,7 +9,7 @@ use denote.Ref.{now}
 use borrow.Author.Tests.{le-leb}
 use borrow.Author.Needs.{needs}
 use Rattle.settings.specs.TagWords.{tagOf, lastOf}
-use Rattle.rewrite.specs.Lent.{reaches}
+use Rattle.rewrite.specs.inner.Lent.{reaches}
 use Rattle.laws.proofs.SearchLaws.{first-is}
 use Rattle.rewrite.proofs.OrderLaws.{first-last}
 use Rattle.rewrite.proofs.TableLaws.{search-low}
@@ -17,26 +17,26 @@ use Rattle.payloads.proofs.registers.first_tag.Statement.{statement}
 use Rattle.payloads.proofs.registers.first_tag.Tie as tie
 
 abbrev Inv-loop : tie.InvT-loop
-Inv-loop tags tagged start low₀ high₀ low high =
-    (low ≤ high) × (high ≤ tagged) × ((k : ℕ) → k < low → reaches tags start k ≡ false) × (high < tagged → reaches tags start high ≡ true)
+Inv-loop words count start low₀ high₀ low high =
+    (low ≤ high) × (high ≤ count) × ((k : ℕ) → k < low → reaches words start k ≡ false) × (high < count → reaches words start high ≡ true)
 
 abbrev μ-loop : tie.MeasureT-loop
-μ-loop tags tagged start low₀ high₀ low high = high - low
+μ-loop words count start low₀ high₀ low high = high - low
 
 returns : tie.Need-returns Inv-loop μ-loop
-returns c = let a = c .before .args in first-is (reaches (now (a .tags)) (a .start)) (a .tagged) _ (omega arith) (λ k h. absurd (omega arith)) (λ h. absurd (omega arith))
+returns c = let a = c .before .args in first-is (reaches (now (a .words)) (a .start)) (a .count) _ (omega arith) (λ k h. absurd (omega arith)) (λ h. absurd (omega arith))
 
 returns-2 : tie.Need-returns-2 Inv-loop μ-loop
 returns-2 c =
     let a = c .before .before .before .before .args in
-    first-is (reaches (now (a .tags)) (a .start)) (a .tagged) _ (omega arith) (λ k h. absurd (omega arith)) (λ h. le-leb (a .start) (lastOf (tagOf (getD (now (a .tags)) 0 0))) (omega (arith, c .if2 .taken, c .before .tag-address .ensures, first-last (tagOf (getD (now (a .tags)) 0 0)))))
+    first-is (reaches (now (a .words)) (a .start)) (a .count) _ (omega arith) (λ k h. absurd (omega arith)) (λ h. le-leb (a .start) (lastOf (tagOf (getD (now (a .words)) 0 0))) (omega (arith, c .if2 .taken, c .before .tag-address .ensures, first-last (tagOf (getD (now (a .words)) 0 0)))))
 
 returns-3 : tie.Need-returns-3 Inv-loop μ-loop
 returns-3 c =
     let s = c .before .before .before .before .before .before .before in
     let a = s .args in
-    first-is (reaches (now (a .tags)) (a .start)) (a .tagged) _ (omega arith)
-    (λ k h. search-low (a .tagged) (now (a .tags)) (s .pre) (a .start) (a .tagged - 1) (omega arith) (rw (c .before .last-of .ensures) at (c .if3 .taken)) k (omega arith))
+    first-is (reaches (now (a .words)) (a .start)) (a .count) _ (omega arith)
+    (λ k h. search-low (a .count) (now (a .words)) (s .pre) (a .start) (a .count - 1) (omega arith) (rw (c .before .last-of .ensures) at (c .if3 .taken)) k (omega arith))
     (λ h. absurd (omega arith))
 
 loop-holds : tie.Need-loop-holds Inv-loop μ-loop
@@ -48,7 +48,7 @@ loop-again c =
     let a = s .args in (
       omega arith,
       omega arith,
-      search-low (a .tagged) (now (a .tags)) (s .pre) (a .start) _ (omega arith) (rw (c .before .last-of2 .ensures) at (c .if4 .taken)),
+      search-low (a .count) (now (a .words)) (s .pre) (a .start) _ (omega arith) (rw (c .before .last-of2 .ensures) at (c .if4 .taken)),
       c .before .before .before .before .loop .inv .3,
     )
 
@@ -60,7 +60,7 @@ returns-4 c =
     let a = c .before .before .before .before .before .before .before .before .before .args in
     let l = c .before .loop in
     let q : l .low ≡ l .high = omega arith in
-    first-is (reaches (now (a .tags)) (a .start)) (a .tagged) _ (omega arith) (l .inv .2) (λ h. rw q (l .inv .3 (omega arith)))
+    first-is (reaches (now (a .words)) (a .start)) (a .count) _ (omega arith) (l .inv .2) (λ h. rw q (l .inv .3 (omega arith)))
 
 pub first-tag-spec : {M : Type 1} → statement M
 first-tag-spec =

@@ -13,13 +13,13 @@ returns : tie.Need-returns
 returns c =
     let s = c .before .before in
     let a = s .args in
-    word-none (a .tagged) (now (a .tags)) (s .pre) (a .address) (a .value) _ (c .before .first-tag .ensures) (c .if1 .taken)
+    word-none (a .count) (now (a .words)) (s .pre) (a .address) (a .value) _ (c .before .first-tag .ensures) (c .if1 .taken)
 
 returns-2 : tie.Need-returns-2
 returns-2 c =
     let s = c .before .before .before .before .before .before in
     let a = s .args in
-    word-other (a .tagged) (now (a .tags)) (s .pre) (a .address) (a .value) _ (c .before .before .before .before .before .first-tag .ensures) (rw (c .before .last-of .ensures, c .before .before .tag-address .ensures) at (c .if2 .taken))
+    word-other (a .count) (now (a .words)) (s .pre) (a .address) (a .value) _ (c .before .before .before .before .before .first-tag .ensures) (rw (c .before .last-of .ensures, c .before .before .tag-address .ensures) at (c .if2 .taken))
 
 -- the tag there is that register alone, so that its range decides
 returns-3 : tie.Need-returns-3
@@ -29,7 +29,7 @@ returns-3 c =
     let other = c .before .before in
     c .is-in-range .ensures ∙ ap (λ (k : Kind). inRange k (a .value)) (c .before .tag-kind .ensures)
     ∙ sym
-    (word-here (a .tagged) (now (a .tags)) (s .pre) (a .address) (a .value) _ (c .before .before .before .before .before .before .before .first-tag .ensures) (c .before .before .before .before .before .before .if1 .left) (rw (other .before .last-of .ensures, other .before .before .tag-address .ensures) at (other .if2 .left)))
+    (word-here (a .count) (now (a .words)) (s .pre) (a .address) (a .value) _ (c .before .before .before .before .before .before .before .first-tag .ensures) (c .before .before .before .before .before .before .if1 .left) (rw (other .before .last-of .ensures, other .before .before .tag-address .ensures) at (other .if2 .left)))
 
 pub is-reencoded-spec : {M : Type 1} → statement M
 is-reencoded-spec =

@@ -11,32 +11,33 @@ use borrow.Author.Needs.{needs}
 use Rattle.laws.proofs.SearchLaws.{first-le}
 use Rattle.rewrite.specs.declared.Rawness.{Rawness}
 use Rattle.rewrite.specs.declared.Rawness.the-variants.{NotRaw, Partial, Value}
-use Rattle.rewrite.specs.Rewriting.{Rewritten, outcome, rewriting}
-use Rattle.rewrite.specs.Lent.{tagsOf, reaches, counted}
+use Rattle.rewrite.specs.Rewriting.{Rewritten, withCounts, rewriting}
+use Rattle.rewrite.specs.inner.Lent.{tagsOf, reaches}
+use Rattle.payloads.specs.inner.TagSteps.{counted}
 use Rattle.rewrite.proofs.TableLaws.{KnownTable, table-start, table-more, table-done, table-few}
 use Rattle.payloads.proofs.registers.rewrite.Statement.{statement}
 use Rattle.payloads.proofs.registers.rewrite.Tie as tie
 
 -- what a tag came to, count by count
-told : (rawness : Rawness) {d : List ℕ} {r : Rewritten} → counted rawness d ≡ r → (let s = counted rawness d in outcome (s .partial) (s .value) d ≡ r)
+told : (rawness : Rawness) {d : List ℕ} {r : Rewritten} → counted rawness d ≡ r → (let s = counted rawness d in withCounts (s .partial) (s .value) d ≡ r)
 told NotRaw e = e
 told Partial e = e
 told Value e = e
 
 abbrev Inv-loop : tie.InvT-loop
-Inv-loop d₀ base start quantity way tags tagged end partial₀ value₀ i₀ d partial value i =
-    (i ≤ tagged) × (length d ≡ length d₀) × (outcome partial value d ≡ rewriting way base start quantity (tagsOf i tags) d₀)
+Inv-loop d₀ base start quantity way words count end partial₀ value₀ i₀ d partial value i =
+    (i ≤ count) × (length d ≡ length d₀) × (withCounts partial value d ≡ rewriting way base start quantity (tagsOf i words) d₀)
 
 abbrev μ-loop : tie.MeasureT-loop
-μ-loop d₀ base start quantity way tags tagged end partial₀ value₀ i₀ d partial value i = tagged - i
+μ-loop d₀ base start quantity way words count end partial₀ value₀ i₀ d partial value i = count - i
 
-known : (c : tie.After-slice-known Inv-loop μ-loop) → (let a = c .before .args in KnownTable (a .base) (a .quantity) (a .tagged) (now (a .tags)) (now (a .d)))
+known : (c : tie.After-slice-known Inv-loop μ-loop) → (let a = c .before .args in KnownTable (a .base) (a .quantity) (a .count) (now (a .words)) (now (a .d)))
 known c = record { tags = c .before .pre .1; room = c .before .pre .0 .room; bytes = λ i. c .slice-known .given i .fits }
 
 loop-holds : tie.Need-loop-holds Inv-loop μ-loop
 loop-holds c =
     let a = c .before .before .args in (
-      rw (c .first-tag .ensures) (first-le (reaches (now (a .tags)) (a .start)) (a .tagged)),
+      rw (c .first-tag .ensures) (first-le (reaches (now (a .words)) (a .start)) (a .count)),
       refl,
       table-start (a .way) (a .start) (known (c .before)) _ (c .first-tag .ensures),
     )
@@ -46,7 +47,7 @@ one-tag-requires c κs = let p = c .before .before .before .before .before .befo
 
 -- one tag more, which adds this to the counts
 more : (c : tie.After-one-tag Inv-loop μ-loop) (rawness : Rawness) → c .one-tag .result ≡ rawness → (let l = c .before .before .before .before .before .before .loop in let a = c .before .before .before .before .before .before .before .before .before .args in let r = counted rawness (c .one-tag .last .0) in
-    outcome (l .partial + r .partial) (l .value + r .value) (c .one-tag .last .0) ≡ rewriting (a .way) (a .base) (a .start) (a .quantity) (tagsOf (l .i + 1) (now (a .tags))) (now (a .d)))
+    withCounts (l .partial + r .partial) (l .value + r .value) (c .one-tag .last .0) ≡ rewriting (a .way) (a .base) (a .start) (a .quantity) (tagsOf (l .i + 1) (now (a .words))) (now (a .d)))
 more c rawness e =
     let a = c .before .before .before .before .before .before .before .before .before .args in
     let l = c .before .before .before .before .before .before .loop in

@@ -6,8 +6,9 @@ use denote.Ref.{now}
 use borrow.Author.Needs.{needs}
 use Rattle.bcd.specs.declared.Kind.the-variants.{Width32}
 use Rattle.bcd.specs.Bcd.{registers}
-use Rattle.rewrite.specs.Rewriting.{outcome}
-use Rattle.rewrite.specs.Lent.{numberIn, wholeLaid}
+use Rattle.rewrite.specs.Rewriting.{withCounts}
+use Rattle.rewrite.specs.inner.Lent.{wholeLaid}
+use Rattle.payloads.specs.inner.TagSteps.{numberIn}
 use Rattle.rewrite.proofs.TagLaws.{number-two, lay-two}
 use Rattle.payloads.proofs.registers.whole_pair.Statement.{statement}
 use Rattle.payloads.proofs.registers.whole_pair.Tie as tie
@@ -25,7 +26,7 @@ returns-2 c =
     let a = c .before .before .before .before .before .before .before .before .before .before .before .before .before .before .before .before .before .args in
     let number = number-two Width32 (a .k) (now (a .d)) refl in
     rw (rw (c .before .before .before .before .before .before .before .before .before .before .before .before .before .before .register-at .ensures .0, c .before .before .before .before .before .before .before .before .before .before .before .before .register-at2 .ensures .0, number) at (sym (c .before .before .before .before .before .before .before .before .before .before .before .turn .ensures) ∙ ap numberIn (c .before .before .before .before .before .before .before .before .before .n .given .1)), wholeLaid)
-    (ap (outcome 0 0) (c .before .before .put-at2 .ensures ∙ rw (c .before .before .before .before .before .before .put-at .ensures) (lay-two Width32 (a .k) (now (a .d)) _ refl (search needs))))
+    (ap (withCounts 0 0) (c .before .before .put-at2 .ensures ∙ rw (c .before .before .before .before .before .before .put-at .ensures) (lay-two Width32 (a .k) (now (a .d)) _ refl (search needs))))
 
 pub whole-pair-spec : {M : Type 1} → statement M
 whole-pair-spec =

@@ -8,7 +8,7 @@ use borrow.Author.Needs.{needs}
 use Rattle.bcd.specs.declared.Kind.{Kind}
 use Rattle.bcd.specs.Bcd.{registers}
 use Rattle.settings.specs.TagWords.{tagOf}
-use Rattle.rewrite.specs.Lent.{wholeLaid}
+use Rattle.rewrite.specs.inner.Lent.{wholeLaid}
 use Rattle.rewrite.proofs.OrderLaws.{behind-last}
 use Rattle.rewrite.proofs.TagLaws.{KnownTag, one-outside, one-room, one-whole}
 use Rattle.payloads.proofs.registers.word_tag.Statement.{statement}

@@ -3,7 +3,7 @@
 use Prim.Native.Nat.{_+_}
 use mathlib.Core.Logic.{⊎-elim}
 use native.Mathlib.Omega.{arith}
-use Rattle.laws.specs.Numbers.{ids}
+use Rattle.numbers.specs.Numbers.{ids}
 use Rattle.laws.proofs.CircleLaws.{turn-or}
 use borrow.Author.Needs.{needs}
 use Rattle.pdu.proofs.ProxyId.next.Statement.{statement}

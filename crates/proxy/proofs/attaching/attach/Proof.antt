@@ -2,7 +2,7 @@
 -- Assumes nothing.
 use mathlib.Core.Path.{sym, _∙_}
 use denote.Ref.{now}
-use Rattle.laws.specs.Numbers.{clients}
+use Rattle.numbers.specs.Numbers.{clients}
 use Rattle.laws.proofs.BitLaws.{one-shl, or-with}
 use Rattle.proxy.proofs.AttachLaws.{attach-above, attach-again, attach-new}
 use borrow.Author.Needs.{needs}

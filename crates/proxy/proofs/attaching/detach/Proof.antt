@@ -3,7 +3,7 @@
 use mathlib.Core.Path.{sym, _∙_}
 use native.Mathlib.Omega.{arith}
 use denote.Ref.{now}
-use Rattle.laws.specs.Numbers.{clients}
+use Rattle.numbers.specs.Numbers.{clients}
 use Rattle.laws.proofs.BitLaws.{one-shl, and-without}
 use Rattle.proxy.proofs.AttachLaws.{no-stranger, detach-stranger, detach-known}
 use borrow.Author.Needs.{needs}

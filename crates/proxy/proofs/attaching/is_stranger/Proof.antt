@@ -1,7 +1,7 @@
 -- `proxy::attaching::is_stranger` meets its contract: the first test decides above the last client, and membership below.
 -- Assumes nothing.
 use borrow.Author.Tests.{le-leb, lt-leb}
-use Rattle.laws.specs.Numbers.{clients}
+use Rattle.numbers.specs.Numbers.{clients}
 use borrow.Author.Needs.{needs}
 use Rattle.proxy.proofs.attaching.is_stranger.Statement.{statement}
 use Rattle.proxy.proofs.attaching.is_stranger.Tie as tie

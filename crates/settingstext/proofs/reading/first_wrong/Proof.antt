@@ -1,6 +1,6 @@
 -- `settingstext::reading::first_wrong` meets its contract: one test decides.
 -- Assumes nothing.
-use Rattle.settingstext.specs.Reading.{wrongLine}
+use Rattle.settingstext.specs.inner.Reading.{wrongLine}
 use Rattle.settingstext.proofs.reading.first_wrong.Statement.{statement}
 use Rattle.settingstext.proofs.reading.first_wrong.Tie as tie
 

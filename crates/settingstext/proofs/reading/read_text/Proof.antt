@@ -6,7 +6,7 @@ use mathlib.Core.Logic.{⊎-elim}
 use native.Mathlib.Omega.{arith}
 use lib.ListN.{drop}
 use denote.Ref.{now}
-use Rattle.laws.specs.Numbers.{mostTags, addresses, newestVersion}
+use Rattle.numbers.specs.Numbers.{mostTags, addresses, newestVersion}
 use Rattle.settings.specs.Values.{settings}
 use Rattle.settingstext.proofs.AnswerLaws.{tagged}
 use Rattle.settingstext.proofs.ListingLaws.{Listed, listed-none, listed-more, line-small, Found, found-answered, found-all, found-stop}

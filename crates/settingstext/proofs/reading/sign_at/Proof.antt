@@ -3,7 +3,7 @@
 use mathlib.Core.Path.{_∙_}
 use native.Mathlib.Omega.{arith}
 use borrow.Author.Tests.{lt-ltb}
-use Rattle.settingstext.specs.Reading.{signRead}
+use Rattle.settingstext.specs.inner.Reading.{signRead}
 use Rattle.settingstext.proofs.AnswerLaws.{sign-small, sign-read}
 use borrow.Author.Needs.{needs}
 use Rattle.settingstext.proofs.reading.sign_at.Statement.{statement}

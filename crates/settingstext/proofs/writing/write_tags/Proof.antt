@@ -2,7 +2,7 @@
 -- Assumes nothing.
 use Prim.Native.Nat.{_≤_, _-_}
 use native.Mathlib.Omega.{arith}
-use Rattle.laws.specs.Numbers.{mostTags}
+use Rattle.numbers.specs.Numbers.{mostTags}
 use Rattle.settings.specs.Values.{settings}
 use Rattle.settingstext.proofs.WritingLaws.{Written, written-none, written-more, written-all, tag-room}
 use borrow.Author.Needs.{needs}

@@ -2,14 +2,14 @@
 -- Assumes nothing.
 use mathlib.Core.Path.{ap, _∙_}
 use Prim.Native.Nat.{ℕ, _+_, _*_}
-use Rattle.laws.specs.Numbers.{addresses}
-use Rattle.settings.specs.TagWords.{wordOf, kindNumber}
+use Rattle.numbers.specs.Numbers.{addresses}
+use Rattle.settings.specs.TagWords.{tagWord, kindNumber}
 use borrow.Author.Needs.{needs}
 use Rattle.values.proofs.tagwords.tag_word.Statement.{statement}
 use Rattle.values.proofs.tagwords.tag_word.Tie as tie
 
 returns : tie.Need-returns
-unfolding wordOf
+unfolding tagWord
 returns c =
     let a = c .before .before .args .address in
     ap (λ (n : ℕ). a + addresses * n) (c .kind-number .ensures .0 ∙ ap kindNumber (c .before .kind-of .ensures a))

@@ -3,7 +3,7 @@
 use contract.Running.{givenOf, tables, tablesOf}
 use denote.Triple.Spec.{tripleOf}
 use denote.Triple.Table.{entered, cited}
-use Rattle.stream.specs.Lent.{Made, Takes, inlet}
+use Rattle.stream.specs.Lent.{MadeStream, Takes, lentStream}
 use Rattle.stream.proofs.written.EntryStreamTake.{Core, entry-meets, Rel, CoreRel, Pre, CorePre}
 use Rattle.stream.proofs.take_piece.Symbol as g
 use Rattle.stream.proofs.take_piece.Met as g-thm
@@ -17,13 +17,13 @@ abbrev R : Rel
 R = λ st piece out r st′ out′. Takes st piece out r st′ out′
 
 abbrev Pe : Pre
-Pe = λ st piece out. Made st
+Pe = λ st piece out. MadeStream st
 
 abbrev Pc : CorePre
-Pc = λ bytes count mark piece out. Made (inlet bytes count mark)
+Pc = λ bytes count mark piece out. MadeStream (lentStream bytes count mark)
 
 abbrev Rc : CoreRel
-Rc = λ bytes count mark piece out r bytes′ count′ mark′ out′. Takes (inlet bytes count mark) piece out r (inlet bytes′ count′ mark′) out′
+Rc = λ bytes count mark piece out r bytes′ count′ mark′ out′. Takes (lentStream bytes count mark) piece out r (lentStream bytes′ count′ mark′) out′
 
 pub zb-stream-take-spec : {M : Type 1} → stated.statement M
 unfolding code.routine tablesOf
