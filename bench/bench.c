@@ -1,7 +1,8 @@
 /* Times one round of each workload over the archive and prints a line for each: the word that the program was given,
    the workload's name, the calls, and their nanoseconds of processor time. bench/run repeats rounds and takes medians.
    Frames and values are made before the clock starts: while it runs a reply gets the id that was issued, two bytes,
-   and nothing else is made. A call that does not end as its workload says ends the program. */
+   and nothing else is made. A call that does not end as its workload says ends the program. WITHOUT_CACHE: the header is of
+   before the cache, and the workloads with one are left out. */
 #define _POSIX_C_SOURCE 199309L
 #include "zilborteka.h"
 #include <stdio.h>
@@ -19,8 +20,9 @@ enum {
     FIRST = 1000,
     TAGGED = TAGS / 2 * 3,
     PLAIN = 10, /* the registers of a plain read, below the tags */
-    FRAMES = 64, /* as many frames with other values take turns */
-    TIMEOUT = 60000
+    FRAMES = 64, /* as many frames with other values take turns, and as many replies the cache has room for */
+    TIMEOUT = 60000,
+    TTL = 60000 /* of every tag, in the workloads with a cache; in the others 0 */
 };
 
 typedef struct {
@@ -79,11 +81,11 @@ static uint32_t as_digits(uint32_t v)
     return digits;
 }
 
-/* a value in the range of each tag, in binary or in digits */
-static void add_tags(frame *f, uint32_t coded(uint32_t))
+/* a value in the range of each of so many tags, in binary or in digits */
+static void add_tags(frame *f, unsigned tags, uint32_t coded(uint32_t))
 {
-    add(f, 2 * TAGGED);
-    for (unsigned k = 0; k < TAGS; k++) {
+    add(f, tags / 2 * 6);
+    for (unsigned k = 0; k < tags; k++) {
         uint32_t v = coded(next_value() % (k % 2 ? 100000000 : 10000));
         add_word(f, v);
         if (k % 2)
@@ -102,13 +104,17 @@ static void fail(const char *what)
     exit(1);
 }
 
-static void start_device(void)
+static void start_device(unsigned ttl)
 {
     static zb_settings s = {.timeout = TIMEOUT, .join = 1, .tags = TAGS};
     for (unsigned k = 0; k < TAGS; k++) {
         s.addr[k] = (uint16_t)(FIRST + k / 2 * 3 + k % 2);
         s.width[k] = k % 2 ? 32 : 16;
+#ifndef WITHOUT_CACHE
+        s.ttl[k] = (uint16_t)ttl;
+#endif
     }
+    (void)ttl;
 #ifdef SETTINGS_BY_VALUE
     unsigned refused = zb_fresh(&device, s).refusal;
 #else
@@ -131,12 +137,22 @@ static void make_reads(void)
     }
 }
 
+static void make_writes(void)
+{
+    for (unsigned k = 0; k < FRAMES; k++) {
+        answering[k] = asking[k] = asked(16, k, PLAIN);
+        add(&asking[k], 2 * PLAIN);
+        for (unsigned r = 0; r < PLAIN; r++)
+            add_word(&asking[k], next_value());
+    }
+}
+
 static void make_tag_reads(void)
 {
     for (unsigned k = 0; k < FRAMES; k++) {
         asking[k] = asked(3, FIRST, TAGGED);
         answering[k] = starting(3);
-        add_tags(&answering[k], as_digits);
+        add_tags(&answering[k], TAGS, as_digits);
     }
 }
 
@@ -144,7 +160,7 @@ static void make_tag_writes(void)
 {
     for (unsigned k = 0; k < FRAMES; k++) {
         answering[k] = asking[k] = asked(16, FIRST, TAGGED);
-        add_tags(&asking[k], as_binary);
+        add_tags(&asking[k], TAGS, as_binary);
     }
 }
 
@@ -212,6 +228,48 @@ static unsigned turn_full(unsigned k)
     return joined_by(k, PARTIES);
 }
 
+#ifndef WITHOUT_CACHE
+static frame cached[FRAMES];
+
+static unsigned turn_hit(unsigned k)
+{
+    return request(k % CLIENTS, k, ZB_HIT);
+}
+
+/* every place of the cache is filled: reads of 6 or 8 tags, 9 or 12 registers, by 03 and 04 in turn */
+static void fill_cache(void)
+{
+    for (unsigned k = 0; k < FRAMES; k++) {
+        unsigned tags = k < FRAMES / 2 ? 6 : 8;
+        cached[k] = asking[k] = asked(3 + k % 2, FIRST + 3 * (k / 2 % 16), tags / 2 * 3);
+        answering[k] = starting(3 + k % 2);
+        add_tags(&answering[k], tags, as_digits);
+        if (turn_alone(k))
+            fail("the cache cannot be filled");
+    }
+}
+
+static void make_reads_beside(void)
+{
+    fill_cache();
+    make_reads();
+}
+
+static void make_writes_beside(void)
+{
+    fill_cache();
+    make_writes();
+}
+
+/* nothing of it was dropped or taken */
+static void look_at_cache(void)
+{
+    for (unsigned k = 0; k < FRAMES; k++)
+        if (zb_request(&device, 0, now, cached[k].bytes, cached[k].size, out, sizeof out).outcome != ZB_HIT)
+            fail("the cache is not full");
+}
+#endif
+
 static unsigned turn_tick(unsigned k)
 {
     (void)k;
@@ -246,16 +304,24 @@ static const struct {
     unsigned (*turn)(unsigned k);
     unsigned calls;       /* of one turn */
     void (*refill)(void); /* before each turn, while the clock stands; or none */
+    unsigned ttl;         /* of every tag */
+    void (*look)(void);   /* behind the last turn; or none */
 } workloads[] = {
-    {"plain reads", make_reads, turn_alone, 2, NULL},
-    {"joined reads", make_reads, turn_joined, FEW_PARTIES + 1, NULL},
-    {"joined, full entry", make_reads, turn_full, PARTIES + 1, NULL},
-    {"03 with 60 tags", make_tag_reads, turn_alone, 2, NULL},
-    {"16 with 60 tags", make_tag_writes, turn_alone, 2, NULL},
-    {"ticks, 64 live", fill_few, turn_tick, 1, NULL},
-    {"ticks, full table", fill_table, turn_tick, 1, NULL},
-    {"timeouts, 64 live", make_reads, turn_few_due, FEW_PLACES, fill_few},
-    {"timeouts, full table", make_reads, turn_all_due, ZB_PLACES, fill_table},
+    {"plain reads", make_reads, turn_alone, 2, NULL, 0, NULL},
+    {"plain writes", make_writes, turn_alone, 2, NULL, 0, NULL},
+    {"joined reads", make_reads, turn_joined, FEW_PARTIES + 1, NULL, 0, NULL},
+    {"joined, full entry", make_reads, turn_full, PARTIES + 1, NULL, 0, NULL},
+    {"03 with 60 tags", make_tag_reads, turn_alone, 2, NULL, 0, NULL},
+    {"16 with 60 tags", make_tag_writes, turn_alone, 2, NULL, 0, NULL},
+    {"ticks, 64 live", fill_few, turn_tick, 1, NULL, 0, NULL},
+    {"ticks, full table", fill_table, turn_tick, 1, NULL, 0, NULL},
+    {"timeouts, 64 live", make_reads, turn_few_due, FEW_PLACES, fill_few, 0, NULL},
+    {"timeouts, full table", make_reads, turn_all_due, ZB_PLACES, fill_table, 0, NULL},
+#ifndef WITHOUT_CACHE
+    {"hits", fill_cache, turn_hit, 1, NULL, TTL, look_at_cache},
+    {"reads, full cache", make_reads_beside, turn_alone, 2, NULL, TTL, look_at_cache},
+    {"writes, full cache", make_writes_beside, turn_alone, 2, NULL, TTL, look_at_cache},
+#endif
 };
 
 static double nanoseconds(void)
@@ -286,12 +352,14 @@ int main(int count, char **words)
         fail("the header is not this archive's");
     for (size_t w = 0; w < sizeof workloads / sizeof workloads[0]; w++) {
         unsigned turns = CALLS / workloads[w].calls + 1, wrong = 0;
-        start_device();
+        start_device(workloads[w].ttl);
         workloads[w].make();
         timed(w, turns / 4, &wrong); /* warm */
         double took = timed(w, turns, &wrong);
         if (wrong)
             fail(workloads[w].name);
+        if (workloads[w].look)
+            workloads[w].look();
         printf("%s\t%s\t%u\t%.0f\n", count > 1 ? words[1] : "now", workloads[w].name, turns * workloads[w].calls, took);
     }
     return 0;

@@ -11,6 +11,7 @@ static uint16_t list[ZB_LIST_BUFFER];
 
 static const char *const names[] = {
     "refused:", "done", "issued", "joined", "exception", "answered", "timed out", "nothing due", "frame", "more needed",
+    "hit",
 };
 
 /* docs/HOST.md has what a host does with each. */
@@ -117,13 +118,14 @@ static int received(const char *call, uint64_t now, const uint8_t *piece, size_t
 
 int main(void)
 {
-    /* a level of four digits, a counter of eight, and a drive's torque: a sign and three digits */
-    static const char text[] = "version=2\ntimeout=3000\njoin=1\ntags=3\naddr=1024\nwidth=16\nsign=0\n"
-                               "addr=1026\nwidth=32\nsign=0\naddr=1028\nwidth=16\nsign=1\n";
+    /* a level of four digits, a counter of eight, and a drive's torque: a sign and three digits, good for half a second */
+    static const char text[] = "version=3\ntimeout=3000\njoin=1\ntags=3\naddr=1024\nwidth=16\nsign=0\nttl=0\n"
+                               "addr=1026\nwidth=32\nsign=0\nttl=0\naddr=1028\nwidth=16\nsign=1\nttl=500\n";
     static const uint8_t read_3[] = {0x12, 0x34, 0, 0, 0, 6, 1, 3, 4, 0, 0, 1};
     static const uint8_t read_5[] = {0x00, 0x07, 0, 0, 0, 6, 1, 3, 4, 0, 0, 1};
     static const uint8_t reply[] = {0, 0, 0, 0, 0, 5, 1, 3, 2, 0x12, 0x34};
     static const uint8_t read_torque[] = {0x12, 0x35, 0, 0, 0, 6, 1, 3, 4, 4, 0, 1};
+    static const uint8_t read_again[] = {0x00, 0x08, 0, 0, 0, 6, 1, 3, 4, 4, 0, 1};
     static const uint8_t torque[] = {0, 1, 0, 0, 0, 5, 1, 3, 2, 0xF0, 0x12}; /* minus 12: FF F4 in binary */
     static const uint8_t noise[] = {0, 0, 0, 9, 0, 5};
 
@@ -140,6 +142,8 @@ int main(void)
     received("the same reply again", 151, reply, sizeof reply);
     told("screen 3 reads 1028 at 160", zb_request(&device, 3, 160, read_torque, sizeof read_torque, out, sizeof out));
     received("the drive's torque arrives", 161, torque, sizeof torque);
+    /* within half a second of that reply it is shown again: the frame is for screen 5 alone, and nothing goes out */
+    told("screen 5 reads 1028 at 190", zb_request(&device, 5, 190, read_again, sizeof read_again, out, sizeof out));
     told("screen 3 reads 1024 at 200", zb_request(&device, 3, 200, read_3, sizeof read_3, out, sizeof out));
     told("tick at 3199", zb_tick(&device, 3199, out, sizeof out, list, ZB_LIST_BUFFER));
     slept();

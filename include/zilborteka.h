@@ -21,9 +21,12 @@ extern "C" {
 #define ZB_PLACES 256        /* live requests */
 #define ZB_PARTY_PLACES 8192 /* parties of all live requests; of one: ZB_PARTY_PLACES / ZB_PLACES */
 #define ZB_MOST_TAGS 256
+#define ZB_CACHE_PLACES 64   /* replies that are cached */
+#define ZB_CACHE_NUMBERS 193 /* what is kept of them beside their bytes: three numbers of each, and a bound */
+#define ZB_CACHE_BYTES 16384 /* bytes of all cached replies; of one: ZB_CACHE_BYTES / ZB_CACHE_PLACES */
 #define ZB_FRAME_BUFFER 260  /* bytes that a frame buffer `out` has at least */
 #define ZB_LIST_BUFFER 64    /* numbers that a list has at least */
-#define ZB_MOST_TEXT 6952    /* bytes of the longest settings text: no value needs more to be written */
+#define ZB_MOST_TEXT 9512    /* bytes of the longest settings text: no value needs more to be written */
 
 /* One device's state, which only these calls make and change; the host owns the memory and lends it for each call.
    The fields are spelled out so that a host can place a device statically. They are not for the host to read or
@@ -43,10 +46,12 @@ typedef struct zb_state {
     uint32_t timeout;
     uint32_t join;
     uint32_t tag_count;                  /* how many tags */
-    uint64_t tag_words[ZB_MOST_TAGS];    /* a word a tag: its address and its kind */
+    uint64_t tag_words[ZB_MOST_TAGS];    /* a word a tag: its address, its kind and its ttl */
+    uint64_t cache[ZB_CACHE_NUMBERS];    /* of each cached reply what was asked, when it came, life, count; a bound */
+    uint8_t  shown[ZB_CACHE_BYTES];      /* its bytes that are shown again, ZB_CACHE_BYTES / ZB_CACHE_PLACES to it */
 } zb_state;
 
-#define ZB_STATE_SIZE 32296
+#define ZB_STATE_SIZE 50224
 ZB_STATIC_ASSERT(sizeof(zb_state) == ZB_STATE_SIZE, "zb_state has the size that the core was proved for");
 
 size_t zb_state_size(void);
@@ -59,15 +64,16 @@ typedef struct {
     uint16_t width[ZB_MOST_TAGS];  /* 16 or 32 */
     uint16_t sign[ZB_MOST_TAGS];   /* 0 or 1; 1 with width 16 alone: the top nibble is 0 for plus and F for minus, three
                                       digits follow, and the binary form is two's complement, -999 to 999 */
+    uint16_t ttl[ZB_MOST_TAGS];    /* 0 to 60000 ms: how long what was read of the tag may be shown again; 0: not */
 } zb_settings;
 
-ZB_STATIC_ASSERT(sizeof(zb_settings) == 1548, "zb_settings has the size that the core was proved for");
+ZB_STATIC_ASSERT(sizeof(zb_settings) == 2060, "zb_settings has the size that the core was proved for");
 
 /* What a call reports. A field that a call does not speak of is 0. */
 typedef struct {
     uint32_t refusal;  /* 0, or ZB_REFUSED_... */
     uint32_t line;     /* ZB_REFUSED_SETTINGS on reading: the first wrong line */
-    uint32_t outcome;  /* ZB_DONE to ZB_MORE, 0 on a refusal */
+    uint32_t outcome;  /* ZB_DONE to ZB_HIT, 0 on a refusal */
     uint32_t length;   /* bytes written to the frame buffer or text buffer (split: of the first frame) */
     uint32_t parties;  /* pairs (client, original id) written to the list */
     uint32_t partial;  /* tags left raw for partial cover */
@@ -86,7 +92,9 @@ enum {
     ZB_TIMED_OUT = 6,   /* tick: the exception 0B and its list are written */
     ZB_NOTHING_DUE = 7, /* tick */
     ZB_FRAME = 8,       /* split: the first `length` bytes of the run are a frame; stream: a frame is written */
-    ZB_MORE = 9         /* split, stream: more bytes are needed */
+    ZB_MORE = 9,        /* split, stream: more bytes are needed */
+    ZB_HIT = 10         /* request: answered from the cache; the frame for the caller is written, with length and counts
+                           of the reply that it shows again; nothing goes to the controller */
 };
 
 /* Refusals: the lowest that applies is told. It changes no state and no byte, except that of zb_fresh and the
@@ -112,14 +120,15 @@ typedef struct { zb_answer answer; zb_settings settings; } zb_read;
    written; what zb_settings_write is lent is as long as the text. Whatever is lent is used during the call alone; bytes
    and numbers beyond those written stay. */
 
-/* Texts of version 1, which have no sign lines, are read as unsigned. */
+/* Texts of version 1, which have no sign lines, are read as unsigned; those of versions 1 and 2, which have no ttl lines,
+   with ttl 0. */
 zb_read   zb_settings_read(const uint8_t *text, size_t text_len);
-/* The text is of version 2, whatever version the value was read from. Settings are lent for the call alone and never
+/* The text is of version 3, whatever version the value was read from. Settings are lent for the call alone and never
    written; they are aligned to 4 bytes. */
 zb_answer zb_settings_write(const zb_settings *from, uint8_t *text, size_t text_len);
 /* An invalid value: ZB_REFUSED_SETTINGS, and the state is made nevertheless, for timeout 3000, join 1 and no tags.
-   Whatever the value, nobody is attached afterwards, nothing is live, and ids are issued from 0 on: the old link's
-   replies must not be given to it. */
+   Whatever the value, nobody is attached afterwards, nothing is live or cached, and ids are issued from 0 on: the old
+   link's replies must not be given to it. */
 zb_answer zb_fresh(zb_state *st, const zb_settings *from);
 zb_answer zb_attach(zb_state *st, uint32_t client);
 zb_answer zb_detach(zb_state *st, uint32_t client);
@@ -133,6 +142,7 @@ zb_answer zb_reply(zb_state *st, uint64_t now,
 zb_answer zb_tick(zb_state *st, uint64_t now,
                   uint8_t *out, size_t out_len,
                   uint16_t *list, size_t list_len);
+/* Everyone is detached, and nothing is live or cached; ids and time go on. The former set is told. */
 zb_answer zb_link_lost(zb_state *st);
 
 /* When to tick: how many requests are live, and the earliest deadline of them, UINT64_MAX where none is. A tick that

@@ -1,5 +1,5 @@
-/* Shows document 01's examples from C, with those of requests #102, #105 and #106, each refusal of each call by a case
-   written by hand, and that the header's structs lie as the archive has them. Every call also goes to the model, with
+/* Shows document 01's examples from C, with those of requests #102, #105, #106 and #107, each refusal of each call by a
+   case written by hand, and that the header's structs lie as the archive has them. Every call also goes to the model, with
    guard bytes around what is lent. */
 #include "pair.h"
 #include <stdbool.h>
@@ -95,8 +95,10 @@ static bool is_issued(zb_answer a, uint32_t id)
 
 static const char text_of_the_document[] =
     "version=1\ntimeout=3000\njoin=1\ntags=2\naddr=1024\nwidth=16\naddr=1026\nwidth=32\n";
-static const char text_written_of_the_document[] =
+static const char text_of_version_2[] =
     "version=2\ntimeout=3000\njoin=1\ntags=2\naddr=1024\nwidth=16\nsign=0\naddr=1026\nwidth=32\nsign=0\n";
+static const char text_written_of_the_document[] =
+    "version=3\ntimeout=3000\njoin=1\ntags=2\naddr=1024\nwidth=16\nsign=0\nttl=0\naddr=1026\nwidth=32\nsign=0\nttl=0\n";
 
 static zb_settings settings_of_the_document(void)
 {
@@ -118,8 +120,8 @@ static void sizes_and_offsets(void)
 {
     /* document 01's numbers and #104's; that they are the archive's is seen where buffers, parties and places run short */
     EXPECT(ZB_PLACES == 256 && PARTIES == 32 && ZB_CLIENTS == 32 && ZB_FRAME_BUFFER == 260 && ZB_LIST_BUFFER == 64);
-    EXPECT(ZB_MOST_TAGS == 256 && ZB_MOST_TEXT == 6952);
-    EXPECT(zb_state_size() == 32296 && sizeof(zb_state) == 32296 && ZB_STATE_SIZE == 32296 && _Alignof(zb_state) == 8);
+    EXPECT(ZB_MOST_TAGS == 256 && ZB_MOST_TEXT == 9512);
+    EXPECT(zb_state_size() == 50224 && sizeof(zb_state) == 50224 && ZB_STATE_SIZE == 50224 && _Alignof(zb_state) == 8);
     EXPECT(offsetof(zb_state, ids) == 0 && sizeof((zb_state *)0)->ids == 1024);
     EXPECT(offsetof(zb_state, asked) == 1024 && sizeof((zb_state *)0)->asked == 2048);
     EXPECT(offsetof(zb_state, callers) == 3072 && sizeof((zb_state *)0)->callers == 256);
@@ -135,15 +137,18 @@ static void sizes_and_offsets(void)
     EXPECT(offsetof(zb_state, join) == 30236 && sizeof((zb_state *)0)->join == 4);
     EXPECT(offsetof(zb_state, tag_count) == 30240 && sizeof((zb_state *)0)->tag_count == 4);
     EXPECT(offsetof(zb_state, tag_words) == 30248 && sizeof((zb_state *)0)->tag_words == 2048);
-    EXPECT(sizeof(zb_settings) == 1548 && _Alignof(zb_settings) == 4);
+    EXPECT(offsetof(zb_state, cache) == 32296 && sizeof((zb_state *)0)->cache == 1544);
+    EXPECT(offsetof(zb_state, shown) == 33840 && sizeof((zb_state *)0)->shown == 16384);
+    EXPECT(sizeof(zb_settings) == 2060 && _Alignof(zb_settings) == 4);
     EXPECT(offsetof(zb_settings, timeout) == 0 && offsetof(zb_settings, join) == 4 && offsetof(zb_settings, tags) == 8);
     EXPECT(offsetof(zb_settings, addr) == 12 && offsetof(zb_settings, width) == 524 && offsetof(zb_settings, sign) == 1036);
+    EXPECT(offsetof(zb_settings, ttl) == 1548);
     EXPECT(sizeof(zb_answer) == 40 && offsetof(zb_answer, refusal) == 0 && offsetof(zb_answer, line) == 4);
     EXPECT(offsetof(zb_answer, outcome) == 8 && offsetof(zb_answer, length) == 12);
     EXPECT(offsetof(zb_answer, parties) == 16);
     EXPECT(offsetof(zb_answer, partial) == 20 && offsetof(zb_answer, value) == 24 && offsetof(zb_answer, set) == 28);
     EXPECT(offsetof(zb_answer, id) == 32 && offsetof(zb_answer, code) == 36);
-    EXPECT(sizeof(zb_read) == 1588 && offsetof(zb_read, answer) == 0 && offsetof(zb_read, settings) == 40);
+    EXPECT(sizeof(zb_read) == 2100 && offsetof(zb_read, answer) == 0 && offsetof(zb_read, settings) == 40);
     EXPECT(sizeof(zb_next) == 16 && offsetof(zb_next, time) == 0 && offsetof(zb_next, live) == 8);
 }
 
@@ -673,6 +678,450 @@ static void closed_reads_end_as_before(void)
     EXPECT(a.outcome == ZB_ANSWERED && a.parties == 0 && wrote(a, words));
 }
 
+/* A short-lived cache (#107): registers 21, 24 and 26 lie in no tag, register 20 in one without a ttl */
+
+static void begin_cached(uint32_t join)
+{
+    static const struct { uint16_t addr, width, sign, ttl; } tags[] = {
+        {16, 16, 0, 100}, {17, 32, 0, 50}, {19, 16, 1, 200}, {20, 16, 0, 0}, {22, 16, 0, 60000}, {23, 16, 0, 1},
+        {25, 16, 0, 10}, {27, 16, 0, 10}, {65533, 16, 0, 9}, {65534, 32, 0, 7},
+    };
+    zb_settings s = {.timeout = 3000, .join = join, .tags = sizeof tags / sizeof *tags};
+    for (uint32_t t = 0; t < s.tags; t++) {
+        s.addr[t] = tags[t].addr;
+        s.width[t] = tags[t].width;
+        s.sign[t] = tags[t].sign;
+        s.ttl[t] = tags[t].ttl;
+    }
+    EXPECT(pair_fresh(&s).outcome == ZB_DONE && pair_attach(3).outcome == ZB_DONE && pair_attach(5).outcome == ZB_DONE);
+}
+
+typedef struct {
+    uint8_t unit, function;
+    uint32_t start, quantity;
+} key;
+
+/* What a reply wrote. */
+typedef struct {
+    zb_answer answer;
+    uint8_t bytes[ZB_FRAME_BUFFER];
+} shown;
+
+static zb_answer ask(uint32_t client, uint64_t now, uint32_t id, key k)
+{
+    uint8_t frame[] = {0, 0, 0, 0, 0, 6, k.unit, k.function, 0, 0, 0, 0};
+    put_word(frame, id);
+    put_word(frame + 8, k.start);
+    put_word(frame + 10, k.quantity);
+    return pair_request(client, now, frame, sizeof frame, ZB_FRAME_BUFFER);
+}
+
+/* The controller says this word for each register of what was issued so. */
+static shown say(uint64_t now, zb_answer issued, key k, uint32_t word)
+{
+    uint8_t frame[MOST_FRAME] = {0, 0, 0, 0, 0, (uint8_t)(3 + 2 * k.quantity), k.unit, k.function,
+                                 (uint8_t)(2 * k.quantity)};
+    shown s = {0};
+    put_word(frame, issued.id);
+    for (uint32_t n = 0; n < k.quantity; n++)
+        put_word(frame + 9 + 2 * n, word);
+    s.answer = pair_reply(now, frame, 9 + 2 * k.quantity, ZB_FRAME_BUFFER, ZB_LIST_BUFFER);
+    memcpy(s.bytes, pair_out(), ZB_FRAME_BUFFER);
+    return s;
+}
+
+/* A read that is issued and answered in one millisecond. */
+static shown fill(uint64_t now, key k, uint32_t word)
+{
+    zb_answer issued = ask(3, now, 0x1111, k);
+    EXPECT(issued.outcome == ZB_ISSUED);
+    return say(now, issued, k, word);
+}
+
+/* A hit of that reply: its bytes under the caller's id, its counts, and nothing else in the report. */
+static bool is_hit(zb_answer a, uint32_t id, const shown *s)
+{
+    const zb_answer whole = {
+        .outcome = ZB_HIT, .length = s->answer.length, .partial = s->answer.partial, .value = s->answer.value};
+    return memcmp(&a, &whole, sizeof a) == 0 && word_of_out(0) == id
+        && memcmp(pair_out() + 2, s->bytes + 2, a.length - 2) == 0;
+}
+
+/* Byte by byte; a hit sets the clock, joins nothing and shows the counts of its reply. */
+static void a_hit(void)
+{
+    static const uint16_t pairs[] = {3, 0x1234};
+    begin_cached(1);
+    EXPECT(is_issued(request(3, 5, "12 34 00 00 00 06 01 03 00 10 00 01"), 0));
+    zb_answer a = reply(10, "00 00 00 00 00 05 01 03 02 12 34");
+    EXPECT(wrote(a, "00 00 00 00 00 05 01 03 02 04 D2") && listed(a, 1, pairs));
+    a = request(5, 20, "00 07 00 00 00 06 01 03 00 10 00 01");
+    EXPECT(a.outcome == ZB_HIT && wrote(a, "00 07 00 00 00 05 01 03 02 04 D2") && raw(a, 0, 0));
+    EXPECT(a.id == 0 && a.parties == 0 && a.code == 0);
+    EXPECT_REFUSED(tick(19), ZB_REFUSED_TIME);
+    EXPECT(tick(20).outcome == ZB_NOTHING_DUE && tick(50000).outcome == ZB_NOTHING_DUE);
+    EXPECT(is_issued(request(3, 50000, "12 34 00 00 00 06 01 04 00 10 00 04"), 1));
+    a = reply(50000, "00 01 00 00 00 0B 01 04 08 00 AB 12 34 56 78 F0 00");
+    EXPECT(wrote(a, "00 00 00 00 00 0B 01 04 08 00 AB 69 B2 03 62 F0 00") && raw(a, 0, 2));
+    a = request(5, 50000, "AB CD 00 00 00 06 01 04 00 10 00 04");
+    EXPECT(a.outcome == ZB_HIT && wrote(a, "AB CD 00 00 00 0B 01 04 08 00 AB 69 B2 03 62 F0 00") && raw(a, 0, 2));
+}
+
+/* The life is the smallest ttl of the tags, and 0 where the read is not cacheable; it is counted from the reply. */
+static void lives(void)
+{
+    static const struct { const char *what; uint32_t start, quantity, life; } rows[] = {
+        {"one tag", 16, 1, 100}, {"one of width 32", 17, 2, 50}, {"a signed one", 19, 1, 200},
+        {"two, the second shorter", 16, 3, 50}, {"two, the first shorter", 17, 3, 50}, {"three", 16, 4, 50},
+        {"ttl 60,000", 22, 1, 60000}, {"ttl 1", 23, 1, 1}, {"60,000 beside 1", 22, 2, 1},
+        {"the last registers", 65533, 3, 7}, {"ttl 0", 20, 1, 0}, {"ttl 0 behind others", 16, 5, 0}, {"a register in no tag", 21, 1, 0},
+        {"one in no tag before", 21, 2, 0}, {"behind", 22, 3, 0}, {"between", 25, 3, 0}, {"far from all tags", 900, 1, 0},
+        {"a tag cut at the first end", 18, 2, 0}, {"at the last end", 16, 2, 0}, {"half a tag", 17, 1, 0},
+        {"the other half", 18, 1, 0}, {"cut at the last register", 65533, 2, 0},
+    };
+    for (size_t n = 0; n < sizeof rows / sizeof *rows; n++)
+        for (uint8_t function = 3; function <= 4; function++) {
+            key k = {1, function, rows[n].start, rows[n].quantity};
+            uint32_t life = rows[n].life;
+            begin_cached(1);
+            zb_answer issued = ask(3, 1000, 1, k);
+            shown s = say(1040, issued, k, 5);
+            if (life) {
+                expect(is_hit(ask(5, 1040, 2, k), 2, &s), rows[n].what, __LINE__);
+                expect(is_hit(ask(5, 1040 + life - 1, 3, k), 3, &s), rows[n].what, __LINE__);
+            }
+            expect(is_issued(ask(5, 1040 + life, 4, k), 1), rows[n].what, __LINE__);
+        }
+}
+
+/* Another function, unit, start or quantity is another key, and each shows its own reply. */
+static void keys_beside_each_other(void)
+{
+    static const key keys[] = {{1, 3, 16, 1}, {1, 4, 16, 1}, {2, 3, 16, 1}, {1, 3, 16, 3}, {1, 3, 19, 1}, {0, 3, 16, 1}};
+    enum { KEYS = sizeof keys / sizeof *keys };
+    shown s[KEYS];
+    begin_cached(1);
+    for (uint32_t n = 0; n < KEYS; n++)
+        s[n] = fill(10, keys[n], n + 1);
+    for (uint32_t n = 0; n < KEYS; n++)
+        EXPECT(is_hit(ask(5, 10, n, keys[n]), n, &s[n]));
+    EXPECT(pair_link_lost().outcome == ZB_DONE && pair_attach(3).outcome == ZB_DONE && pair_attach(5).outcome == ZB_DONE);
+    for (uint32_t n = 0; n < KEYS; n++)
+        EXPECT(is_issued(ask(5, 10, n, keys[n]), KEYS + n));
+}
+
+/* 125 registers are kept; a hit in the last millisecond that there is. */
+static void the_longest_and_the_latest(void)
+{
+    const uint64_t last = ((uint64_t)1 << 63) - 1;
+    const key k = {1, 3, 100, 125}, latest = {1, 4, 200, 1};
+    zb_settings set = {.timeout = 3000, .join = 1, .tags = 125};
+    for (uint32_t t = 0; t < 125; t++) {
+        set.addr[t] = (uint16_t)(100 + t);
+        set.width[t] = 16;
+        set.ttl[t] = 60000;
+    }
+    EXPECT(pair_fresh(&set).outcome == ZB_DONE && pair_attach(3).outcome == ZB_DONE);
+    shown s = fill(0, k, 0x1234);
+    EXPECT(s.answer.length == 259 && is_hit(ask(3, 59999, 7, k), 7, &s));
+    s = fill(last - 9, latest, 0x1234);
+    EXPECT(is_hit(ask(3, last, 8, latest), 8, &s));
+}
+
+/* Registers 16 to 19 are cached, of 03 and 04; then comes a request, and both are asked again. */
+static void what_an_issue_drops(void)
+{
+    static const struct { const char *what; bool kept; const char *frame; } rows[] = {
+        {"a write that ends one before", true, "20 02 00 00 00 0D 01 10 00 0D 00 03 06 00 00 00 00 00 00"},
+        {"one behind", true, "20 02 00 00 00 06 01 06 00 14 00 07"},
+        {"from the left", false, "20 02 00 00 00 0D 01 10 00 0E 00 03 06 00 00 00 00 00 00"},
+        {"from the right", false, "20 02 00 00 00 0D 01 10 00 13 00 03 06 00 00 00 00 00 00"},
+        {"inside", false, "20 02 00 00 00 06 01 06 00 11 00 00"},
+        {"inside, two", false, "20 02 00 00 00 0B 01 10 00 11 00 02 04 00 00 00 00"},
+        {"around", false, "20 02 00 00 00 13 01 10 00 0F 00 06 0C 00 00 00 00 00 00 00 00 00 00 00 00"},
+        {"the same registers", false, "20 02 00 00 00 0F 01 10 00 10 00 04 08 00 00 00 00 00 00 00 00"},
+        {"the first alone", false, "20 02 00 00 00 06 01 06 00 10 00 00"},
+        {"the last alone", false, "20 02 00 00 00 09 01 10 00 13 00 01 02 00 00"},
+        {"in another unit", true, "20 02 00 00 00 06 02 06 00 10 00 07"},
+        {"in unit 0", true, "20 02 00 00 00 06 00 06 00 10 00 07"},
+        {"a coil", true, "20 02 00 00 00 06 01 05 00 11 FF 00"},
+        {"coils", true, "20 02 00 00 00 08 01 0F 00 10 00 04 01 00"},
+        {"an other", false, "20 02 00 00 00 02 01 2B"},
+        {"an other with the address in it", false, "20 02 00 00 00 06 01 17 00 80 00 01"},
+        {"an other for another unit", true, "20 02 00 00 00 02 02 2B"},
+        {"a read of the same registers", true, "20 02 00 00 00 06 01 03 00 11 00 02"},
+        {"a write of none, exception 03", true, "20 02 00 00 00 07 01 10 00 10 00 00 00"},
+        {"a byte count that does not fit, 03", true, "20 02 00 00 00 0A 01 10 00 10 00 02 03 00 00 00"},
+        {"a write that is refused", true, "20 02 00 00 00 05 01 06 00 10 00"},
+    };
+    static const key holding = {1, 3, 16, 4}, input = {1, 4, 16, 4};
+    for (size_t n = 0; n < sizeof rows / sizeof *rows; n++) {
+        begin_cached(1);
+        shown s = fill(10, holding, 1), t = fill(10, input, 2);
+        request(3, 10, rows[n].frame);
+        zb_answer a = ask(5, 10, 7, holding);
+        expect(rows[n].kept ? is_hit(a, 7, &s) : a.outcome == ZB_ISSUED, rows[n].what, __LINE__);
+        a = ask(5, 10, 8, input);
+        expect(rows[n].kept ? is_hit(a, 8, &t) : a.outcome == ZB_ISSUED, rows[n].what, __LINE__);
+    }
+}
+
+/* A write beyond the last register gets 02, and the 257th live request 04: neither drops; a reply to a write does not
+   either, nor a timeout, nor a leaving. A read that was issued behind a write fills before the write is answered. */
+static void what_drops_nothing(void)
+{
+    const key top = {1, 3, 65533, 3}, k = {1, 3, 22, 1};
+    uint8_t write[] = {0x20, 9, 0, 0, 0, 6, 2, 6, 0, 22, 0, 7};
+    begin_cached(1);
+    shown t = fill(10, top, 1), s;
+    zb_answer a = request(3, 10, "20 04 00 00 00 0B 01 10 FF FF 00 02 04 00 00 00 00");
+    EXPECT(is_exception(a, 2, "20 04 00 00 00 03 01 90 02") && is_hit(ask(5, 10, 7, top), 7, &t));
+    EXPECT(is_issued(request(3, 10, "20 01 00 00 00 06 01 06 00 16 00 07"), 1));
+    s = fill(10, k, 1);
+    EXPECT(is_hit(ask(5, 10, 7, k), 7, &s));
+    EXPECT(reply(11, "00 01 00 00 00 06 01 06 00 16 00 07").outcome == ZB_ANSWERED);
+    EXPECT(is_hit(ask(5, 11, 7, k), 7, &s));
+    for (uint32_t n = 0; n < ZB_PLACES; n++)
+        EXPECT(is_issued(pair_request(3, 11, write, sizeof write, ZB_FRAME_BUFFER), n + 3));
+    EXPECT(is_exception(request(3, 11, "20 0A 00 00 00 06 01 06 00 16 00 07"), 4, "20 0A 00 00 00 03 01 86 04"));
+    EXPECT(is_hit(ask(5, 11, 7, k), 7, &s)); /* with 256 live */
+    EXPECT(pair_detach(3).outcome == ZB_DONE && is_hit(ask(5, 16, 7, top), 7, &t) && is_hit(ask(5, 16, 7, k), 7, &s));
+    EXPECT(is_exception(ask(5, 17, 7, top), 4, "00 07 00 00 00 03 01 83 04")); /* its life is over */
+    EXPECT(tick(4000).outcome == ZB_TIMED_OUT && is_hit(ask(5, 4000, 7, k), 7, &s));
+}
+
+/* A reply past its deadline fills, and one with an empty list; an exception, one to a closed read and one that does not
+   answer do not, and leave what is there. */
+static void who_fills(void)
+{
+    const key k = {1, 3, 22, 1};
+    begin_cached(1);
+    shown s = say(9000, ask(3, 0, 1, k), k, 7);
+    EXPECT(s.answer.outcome == ZB_ANSWERED && is_hit(ask(5, 9000, 7, k), 7, &s)); /* past its deadline */
+    begin_cached(1);
+    zb_answer issued = ask(3, 0, 1, k);
+    EXPECT(pair_detach(3).outcome == ZB_DONE);
+    s = say(10, issued, k, 7);
+    EXPECT(s.answer.parties == 0 && is_hit(ask(5, 10, 7, k), 7, &s)); /* for nobody */
+    begin_cached(1);
+    ask(3, 0, 1, k);
+    EXPECT(reply(10, "00 00 00 00 00 03 01 83 02").outcome == ZB_ANSWERED && is_issued(ask(5, 10, 7, k), 1));
+    begin_cached(1);
+    issued = ask(3, 0, 1, k);
+    EXPECT(is_issued(request(3, 0, "20 01 00 00 00 06 01 06 00 16 00 07"), 1));
+    EXPECT(say(10, issued, k, 7).answer.outcome == ZB_ANSWERED && is_issued(ask(5, 10, 7, k), 2));
+    begin_cached(0);
+    issued = ask(3, 0, 1, k);
+    EXPECT_REFUSED(reply(10, "00 00 00 00 00 05 01 04 02 00 07"), ZB_REFUSED_MISMATCH);
+    EXPECT_REFUSED(reply(10, "00 00 00 00 00 05 02 03 02 00 07"), ZB_REFUSED_MISMATCH);
+    EXPECT_REFUSED(reply(10, "00 00 00 00 00 07 01 03 04 00 07 00 07"), ZB_REFUSED_MISMATCH);
+    EXPECT(is_issued(ask(5, 10, 7, k), 1));
+}
+
+/* Of two replies to one key the later is shown, its life counted from its own time; an exception to it leaves it there. */
+static void a_reply_over_its_own_key(void)
+{
+    const key k = {1, 3, 16, 1};
+    begin_cached(0);
+    zb_answer first = ask(3, 0, 1, k), second = ask(5, 0, 2, k), third = ask(5, 0, 2, k);
+    shown s = say(10, second, k, 0x0042);
+    EXPECT(is_hit(ask(5, 20, 7, k), 7, &s)); /* with joining off */
+    s = say(30, first, k, 0x0017);
+    EXPECT(is_hit(ask(5, 30, 7, k), 7, &s));
+    EXPECT(third.id == 2 && reply(40, "00 02 00 00 00 03 01 83 02").outcome == ZB_ANSWERED);
+    EXPECT(is_hit(ask(5, 129, 7, k), 7, &s));
+    EXPECT(is_issued(ask(5, 130, 7, k), 3));
+    s = say(200, (zb_answer){.id = 3}, k, 0x0099); /* expired */
+    EXPECT(is_hit(ask(5, 299, 7, k), 7, &s) && is_issued(ask(5, 300, 7, k), 4));
+}
+
+/* A hit goes before a join, and takes no party place; the live read is answered to those who wait for it. */
+static void a_hit_before_a_join(void)
+{
+    static const uint16_t pairs[] = {5, 2};
+    const key k = {1, 3, 22, 1};
+    begin_cached(1);
+    zb_answer first = ask(3, 0, 1, k), second = ask(5, 3000, 2, k); /* the first is due: it is not joined */
+    EXPECT(is_issued(first, 0) && is_issued(second, 1));
+    shown s = say(3001, first, k, 7);
+    EXPECT(is_hit(ask(3, 3001, 9, k), 9, &s));
+    EXPECT(listed(say(3002, second, k, 8).answer, 1, pairs));
+}
+
+/* A refused request is no hit, changes nothing and writes nothing. */
+static void refusals_before_a_hit(void)
+{
+    static const uint8_t read[] = {0, 7, 0, 0, 0, 6, 1, 3, 0, 22, 0, 1};
+    const key k = {1, 3, 22, 1};
+    begin_cached(1);
+    shown s = fill(10, k, 7);
+    EXPECT_REFUSED(pair_request(5, 10, read, 12, ZB_FRAME_BUFFER - 1), ZB_REFUSED_BUFFER);
+    EXPECT_REFUSED(pair_request(4, 10, read, 12, ZB_FRAME_BUFFER), ZB_REFUSED_CLIENT);
+    EXPECT_REFUSED(pair_request(32, 10, read, 12, ZB_FRAME_BUFFER), ZB_REFUSED_CLIENT);
+    EXPECT_REFUSED(pair_request(5, 9, read, 12, ZB_FRAME_BUFFER), ZB_REFUSED_TIME);
+    EXPECT_REFUSED(pair_request(5, (uint64_t)1 << 63, read, 12, ZB_FRAME_BUFFER), ZB_REFUSED_TIME);
+    EXPECT_REFUSED(pair_request(5, 10, read, 11, ZB_FRAME_BUFFER), ZB_REFUSED_FRAME);
+    EXPECT_REFUSED(request(5, 10, "00 07 00 01 00 06 01 03 00 16 00 01"), ZB_REFUSED_FRAME);
+    EXPECT_REFUSED(request(5, 10, "00 07 00 00 00 06 01 83 00 16 00 01"), ZB_REFUSED_FUNCTION);
+    EXPECT_REFUSED(request(5, 10, "00 07 00 00 00 07 01 03 00 16 00 01 00"), ZB_REFUSED_LENGTH);
+    EXPECT(is_exception(request(5, 10, "00 07 00 00 00 06 01 03 00 16 00 00"), 3, "00 07 00 00 00 03 01 83 03"));
+    EXPECT(is_hit(pair_request(5, 10, read, 12, ZB_FRAME_BUFFER), 7, &s));
+}
+
+/* The same memory made fresh again has nothing to show. */
+static void fresh_is_empty(void)
+{
+    static zb_state device;
+    static const uint8_t read[] = {0x12, 0x34, 0, 0, 0, 6, 1, 3, 4, 0, 0, 1};
+    static const uint8_t said[] = {0, 0, 0, 0, 0, 5, 1, 3, 2, 0x12, 0x34};
+    zb_settings s = settings_of_the_document();
+    uint8_t out[ZB_FRAME_BUFFER];
+    uint16_t list[ZB_LIST_BUFFER];
+    s.ttl[0] = 60000;
+    for (int times = 0; times < 2; times++) {
+        zb_fresh(&device, &s);
+        zb_attach(&device, 3);
+        EXPECT(zb_request(&device, 3, 0, read, sizeof read, out, sizeof out).outcome == ZB_ISSUED);
+        zb_reply(&device, 0, said, sizeof said, out, sizeof out, list, ZB_LIST_BUFFER);
+        EXPECT(zb_request(&device, 3, 0, read, sizeof read, out, sizeof out).outcome == ZB_HIT);
+    }
+    s.ttl[0] = 0;
+    zb_fresh(&device, &s);
+    zb_attach(&device, 3);
+    EXPECT(zb_request(&device, 3, 0, read, sizeof read, out, sizeof out).outcome == ZB_ISSUED);
+}
+
+/* Which place a reply takes: 80 tags with a key each, of which some have a ttl of 50 and the others of 60,000 */
+
+enum { CACHED = 64, KEYS = 80, FIRST_KEY = 2000 };
+static shown by_key[KEYS];
+
+static key nth(uint32_t n)
+{
+    return (key){1, 3, FIRST_KEY + n, 1};
+}
+
+static void begin_places(uint32_t first_short, uint32_t shorts)
+{
+    zb_settings s = {.timeout = 3000, .join = 1, .tags = KEYS};
+    for (uint32_t n = 0; n < KEYS; n++) {
+        s.addr[n] = (uint16_t)(FIRST_KEY + n);
+        s.width[n] = 16;
+        s.ttl[n] = n >= first_short && n < first_short + shorts ? 50 : 60000;
+    }
+    EXPECT(pair_fresh(&s).outcome == ZB_DONE && pair_attach(3).outcome == ZB_DONE && pair_attach(5).outcome == ZB_DONE);
+}
+
+static void fill_nth(uint64_t now, uint32_t n)
+{
+    by_key[n] = fill(now, nth(n), 0x0100 + n % 10);
+}
+
+static void fill_from(uint64_t now, uint32_t n, uint32_t behind)
+{
+    for (; n < behind; n++)
+        fill_nth(now, n);
+}
+
+static bool is_kept(uint64_t now, uint32_t n)
+{
+    return is_hit(ask(5, now, n, nth(n)), n, &by_key[n]);
+}
+
+static void all_kept(uint64_t now, uint32_t n, uint32_t behind)
+{
+    for (; n < behind; n++)
+        EXPECT(is_kept(now, n));
+}
+
+static bool is_gone(uint64_t now, uint32_t n)
+{
+    return ask(5, now, n, nth(n)).outcome == ZB_ISSUED;
+}
+
+/* The 64th key is kept beside the others; the 65th takes the oldest's place, the 66th the next one's. */
+static void the_64th_key_and_the_next(void)
+{
+    begin_places(0, 0);
+    for (uint32_t n = 0; n < CACHED; n++)
+        fill_nth(n, n);
+    all_kept(64, 0, 64);
+    fill_nth(65, 64);
+    all_kept(65, 1, 65);
+    fill_nth(66, 65);
+    all_kept(66, 2, 66);
+    EXPECT(is_gone(66, 0) && is_gone(66, 1));
+}
+
+/* One in the middle is expired: its place is taken, and no fresh one. The next takes the oldest's. */
+static void one_expired_in_the_middle(void)
+{
+    begin_places(30, 1);
+    for (uint32_t n = 0; n < CACHED; n++)
+        fill_nth(n, n);
+    fill_nth(80, 64);
+    all_kept(80, 0, 30);
+    all_kept(80, 31, 65);
+    fill_nth(80, 65);
+    all_kept(80, 1, 30);
+    all_kept(80, 31, 66);
+    EXPECT(is_gone(80, 0) && is_gone(80, 30));
+}
+
+/* Of those filled in one millisecond the lowest place goes, whichever was filled first. */
+static void ties_to_the_lowest(void)
+{
+    begin_places(0, 0);
+    fill_from(0, 0, CACHED);
+    fill_nth(0, 64); /* in place 0, where key 0 was */
+    all_kept(0, 1, 65);
+    fill_nth(0, 65); /* and again */
+    all_kept(0, 1, 64);
+    EXPECT(is_kept(0, 65) && is_gone(0, 0) && is_gone(0, 64));
+    begin_places(0, 0);
+    fill_from(0, 0, 32);
+    fill_from(1, 32, CACHED);
+    fill_nth(2, 64); /* in place 0 */
+    fill_nth(2, 65); /* in place 1, which is older than place 0 now */
+    all_kept(2, 2, 66);
+    EXPECT(is_gone(2, 0) && is_gone(2, 1));
+}
+
+/* Key 0 in place 0 and key 1 in place 1 are expired at 100. Then two keys come in one millisecond, and one more when all
+   the others are younger: it takes place 0, which shows who took that. */
+static void which_place_a_reply_takes(void)
+{
+    static const struct {
+        const char *what;
+        const char *write; /* or none */
+        uint32_t first, second; /* the keys that come at 100, in this order */
+        uint32_t gone;          /* the one that took place 0 */
+    } rows[] = {
+        {"the lowest expired one", NULL, 70, 71, 70},
+        {"its own, though a lower one is expired", NULL, 1, 71, 71},
+        {"its own, behind another", NULL, 71, 1, 71},
+        {"its own and the lowest", NULL, 0, 71, 0},
+        {"an expired one below an empty one", "20 01 00 00 00 06 01 06 07 D1 00 00", 70, 71, 70},
+        {"an empty one below an expired one", "20 01 00 00 00 06 01 06 07 D0 00 00", 70, 71, 70},
+        {"its own, though a lower one is empty", "20 01 00 00 00 06 01 06 07 D0 00 00", 1, 71, 71},
+        {"the lowest, as its own was dropped when it was expired", "20 01 00 00 00 06 01 06 07 D1 00 00", 1, 71, 1},
+        {"the lowest, as all was dropped", "20 01 00 00 00 02 01 2B", 1, 71, 1},
+    };
+    for (size_t n = 0; n < sizeof rows / sizeof *rows; n++) {
+        uint32_t stays = rows[n].gone == rows[n].first ? rows[n].second : rows[n].first;
+        begin_places(0, 2);
+        fill_from(0, 0, 2);
+        if (rows[n].write)
+            expect(request(3, 100, rows[n].write).outcome == ZB_ISSUED, rows[n].what, __LINE__);
+        fill_nth(100, rows[n].first);
+        fill_nth(100, rows[n].second);
+        fill_from(101, 2, CACHED);
+        expect(is_kept(101, rows[n].first) && is_kept(101, rows[n].second), rows[n].what, __LINE__);
+        fill_nth(102, 72);
+        expect(is_kept(102, stays) && is_gone(102, rows[n].gone), rows[n].what, __LINE__);
+    }
+}
+
 /* The mistakes that document 01 rules out */
 
 static void cursor_and_clock_stay_after_a_lost_link(void)
@@ -902,7 +1351,7 @@ static bool is_read_so(zb_answer a, uint32_t line)
 static void texts(void)
 {
     static const struct { const char *text; uint32_t line; } rows[] = {
-        {"", 1}, {"version=0\n", 1}, {"version=3\n", 1}, {"version=1", 1}, {"version=01\n", 1}, {" version=1\n", 1},
+        {"", 1}, {"version=0\n", 1}, {"version=4\n", 1}, {"version=1", 1}, {"version=01\n", 1}, {" version=1\n", 1},
         {"version=1\n", 2},
         {"version=1\ntimeout=99\n", 2}, {"version=1\ntimeout=60001\n", 2}, {"version=1\r\ntimeout=100\n", 1},
         {"version=1\ntimeout=0100\n", 2}, {"version=1\ntimeout=100\njoin=2\n", 3},
@@ -926,8 +1375,11 @@ static void texts(void)
 
 #define VERSION_1 "version=1\ntimeout=100\njoin=0\n"
 #define VERSION_2 "version=2\ntimeout=100\njoin=0\n"
+#define VERSION_3 "version=3\ntimeout=100\njoin=0\n"
+#define TAG_5 "addr=5\nwidth=16\nsign=1\n"
+#define TAG_6 "addr=6\nwidth=32\nsign=0\n"
 
-/* A sign line behind each width line in version 2, and none in version 1. */
+/* A sign line behind each width line from version 2 on, and none in version 1. */
 static void texts_with_signs(void)
 {
     static const struct { const char *text; uint32_t line; } rows[] = {
@@ -964,6 +1416,41 @@ static void texts_with_signs(void)
         expect(is_read_so(read_text(rows[n].text), rows[n].line), rows[n].text, __LINE__);
 }
 
+/* A ttl line behind each sign line in version 3, and none in the older versions. */
+static void texts_with_ttls(void)
+{
+    static const struct { const char *text; uint32_t line; } rows[] = {
+        {"version=3", 1}, {"version=03\n", 1}, {"version=3\n", 2}, {"version=13\n", 1}, {"version=30\n", 1}, {"version=4\n", 1},
+        {VERSION_3, 4}, {VERSION_3 "tags=0\n", 0}, {VERSION_3 "tags=0\nttl=0\n", 5},
+        {VERSION_3 "tags=1\n" TAG_5, 8}, {VERSION_3 "tags=1\n" TAG_5 "ttl=0\n", 0}, {VERSION_3 "tags=1\n" TAG_5 "ttl=1\n", 0},
+        {VERSION_3 "tags=1\n" TAG_5 "ttl=59999\n", 0}, {VERSION_3 "tags=1\n" TAG_5 "ttl=60000\n", 0},
+        {VERSION_3 "tags=1\n" TAG_5 "ttl=60001\n", 8}, {VERSION_3 "tags=1\n" TAG_5 "ttl=65536\n", 8},
+        {VERSION_3 "tags=1\n" TAG_5 "ttl=65537\n", 8}, {VERSION_3 "tags=1\n" TAG_5 "ttl=100000\n", 8},
+        {VERSION_3 "tags=1\n" TAG_5 "ttl=4294967296\n", 8}, {VERSION_3 "tags=1\n" TAG_5 "ttl=\n", 8},
+        {VERSION_3 "tags=1\n" TAG_5 "ttl=00\n", 8}, {VERSION_3 "tags=1\n" TAG_5 "ttl=0500\n", 8},
+        {VERSION_3 "tags=1\n" TAG_5 "ttl=-1\n", 8}, {VERSION_3 "tags=1\n" TAG_5 "ttl=+1\n", 8},
+        {VERSION_3 "tags=1\n" TAG_5 "ttl= 1\n", 8}, {VERSION_3 "tags=1\n" TAG_5 "ttl=1\r\n", 8},
+        {VERSION_3 "tags=1\n" TAG_5 "Ttl=1\n", 8}, {VERSION_3 "tags=1\n" TAG_5 "tt=1\n", 8}, {VERSION_3 "tags=1\n" TAG_5 "ttl=1", 8},
+        {VERSION_3 "tags=1\n" TAG_5 "ttl=1\n\n", 9}, {VERSION_3 "tags=1\n" TAG_5 "ttl=1\nttl=1\n", 9},
+        {VERSION_3 "tags=1\naddr=5\nwidth=16\nttl=0\nsign=0\n", 7}, {VERSION_3 "tags=1\naddr=5\nwidth=32\nsign=1\nttl=0\n", 7},
+        {VERSION_3 "tags=1\naddr=65536\nwidth=16\nsign=0\nttl=0\n", 5}, {VERSION_3 "tags=1\naddr=5\nwidth=24\nsign=0\nttl=0\n", 6},
+        {VERSION_3 "tags=2\n" TAG_5 "ttl=7\n" TAG_6 "ttl=60000\n", 0}, {VERSION_3 "tags=2\n" TAG_5 "ttl=7\n" TAG_6 "ttl=60001\n", 12},
+        {VERSION_3 "tags=2\n" TAG_5 "ttl=7\n" TAG_6, 12}, {VERSION_3 "tags=2\n" TAG_5 "ttl=7\n" TAG_5 "ttl=7\n", 9},
+        {VERSION_3 "tags=2\n" TAG_5 "ttl=7\naddr=6\nwidth=8\nsign=0\nttl=0\n", 10},
+        {VERSION_3 "tags=2\n" TAG_5 "ttl=7\naddr=6\nwidth=32\nsign=1\nttl=0\n", 11},
+        {VERSION_3 "tags=2\n" TAG_5 "ttl=7\n" TAG_6 "ttl=8\nx", 13}, {VERSION_3 "tags=3\n" TAG_5 "ttl=7\n" TAG_6 "ttl=8\n", 13},
+        {VERSION_2 "tags=1\n" TAG_5 "ttl=0\n", 8}, {VERSION_2 "tags=2\n" TAG_5 "ttl=0\n" TAG_6 "ttl=0\n", 8},
+        {VERSION_2 "tags=2\n" TAG_5 TAG_6 "ttl=0\n", 11}, {VERSION_3 "tags=2\n" TAG_5 TAG_6, 8},
+        {VERSION_1 "tags=1\naddr=5\nwidth=16\nttl=0\n", 7}, {VERSION_1 "tags=1\n" TAG_5 "ttl=0\n", 7},
+    };
+    for (size_t n = 0; n < sizeof rows / sizeof *rows; n++)
+        expect(is_read_so(read_text(rows[n].text), rows[n].line), rows[n].text, __LINE__);
+}
+
+static const char text_with_ttls[] =
+    "version=3\ntimeout=3000\njoin=1\ntags=4\naddr=1024\nwidth=16\nsign=0\nttl=500\naddr=1026\nwidth=32\nsign=0\nttl=60000\n"
+    "addr=1028\nwidth=16\nsign=1\nttl=0\naddr=1029\nwidth=32\nsign=0\nttl=1\n";
+
 /* A right text with one line replaced, cut short at its end, left out or there twice: wrong at that line, or behind it. */
 static void damage_each_line(const char *text, uint32_t lines)
 {
@@ -989,99 +1476,125 @@ static void damage_each_line(const char *text, uint32_t lines)
 static void wrong_at_each_line(void)
 {
     damage_each_line(text_of_the_document, 8);
-    damage_each_line(text_written_of_the_document, 10);
+    damage_each_line(text_of_version_2, 10);
+    damage_each_line(text_written_of_the_document, 12);
     damage_each_line(text_with_a_sign, 16);
+    damage_each_line(text_with_ttls, 20);
 }
 
-/* Document 01's text is of version 1 and has 75 bytes; what is written of its value is of version 2 and has 89. */
+/* Document 01's text is of version 1 and has 75 bytes; what is written of its value is of version 3 and has 101. */
 static void text_of_75_bytes(void)
 {
-    const uint8_t *text = (const uint8_t *)text_of_the_document, *newer = (const uint8_t *)text_written_of_the_document;
-    uint8_t written[90] = {0};
-    EXPECT(strlen(text_of_the_document) == 75 && strlen(text_written_of_the_document) == 89);
+    const uint8_t *text = (const uint8_t *)text_of_the_document, *newer = (const uint8_t *)text_of_version_2;
+    const uint8_t *newest = (const uint8_t *)text_written_of_the_document;
+    uint8_t written[102] = {0};
+    EXPECT(strlen(text_of_the_document) == 75 && strlen(text_of_version_2) == 89 && strlen(text_written_of_the_document) == 101);
     zb_read r = zb_settings_read(text, 75), again = zb_settings_read(newer, 89);
     EXPECT(r.answer.outcome == ZB_DONE && r.settings.timeout == 3000 && r.settings.join == 1 && r.settings.tags == 2);
-    EXPECT(r.settings.addr[0] == 1024 && r.settings.width[0] == 16 && r.settings.sign[0] == 0);
-    EXPECT(r.settings.addr[1] == 1026 && r.settings.width[1] == 32 && r.settings.sign[1] == 0);
-    EXPECT(r.settings.addr[2] == 0 && r.settings.width[2] == 0 && r.settings.sign[2] == 0);
+    EXPECT(r.settings.addr[0] == 1024 && r.settings.width[0] == 16 && r.settings.sign[0] == 0 && r.settings.ttl[0] == 0);
+    EXPECT(r.settings.addr[1] == 1026 && r.settings.width[1] == 32 && r.settings.sign[1] == 0 && r.settings.ttl[1] == 0);
+    EXPECT(r.settings.addr[2] == 0 && r.settings.width[2] == 0 && r.settings.sign[2] == 0 && r.settings.ttl[2] == 0);
     EXPECT(again.answer.outcome == ZB_DONE && memcmp(&again.settings, &r.settings, sizeof r.settings) == 0);
-    EXPECT(pair_settings_write(&r.settings, 89).length == 89);
-    EXPECT_REFUSED(pair_settings_write(&r.settings, 88), ZB_REFUSED_BUFFER);
+    again = zb_settings_read(newest, 101);
+    EXPECT(again.answer.outcome == ZB_DONE && memcmp(&again.settings, &r.settings, sizeof r.settings) == 0);
+    EXPECT(pair_settings_write(&r.settings, 101).length == 101);
+    EXPECT_REFUSED(pair_settings_write(&r.settings, 100), ZB_REFUSED_BUFFER);
+    EXPECT_REFUSED(pair_settings_write(&r.settings, 89), ZB_REFUSED_BUFFER);
     EXPECT_REFUSED(pair_settings_write(&r.settings, 75), ZB_REFUSED_BUFFER);
-    EXPECT(zb_settings_write(&r.settings, written, 89).length == 89 && memcmp(written, newer, 90) == 0);
+    EXPECT(zb_settings_write(&r.settings, written, 101).length == 101 && memcmp(written, newest, 102) == 0);
     r = zb_settings_read(text, 74);
     EXPECT(is_wrong_at(r.answer, 8) && r.settings.timeout == 3000 && r.settings.join == 1 && r.settings.tags == 0);
     r = zb_settings_read(newer, 88);
     EXPECT(is_wrong_at(r.answer, 10) && r.settings.timeout == 3000 && r.settings.join == 1 && r.settings.tags == 0);
+    r = zb_settings_read(newest, 100);
+    EXPECT(is_wrong_at(r.answer, 12) && r.settings.timeout == 3000 && r.settings.join == 1 && r.settings.tags == 0);
 }
 
-/* A text with a sign is written as it was read; the same with sign 0 is another, of the same length. */
-static void text_with_a_sign_comes_back(void)
+/* A text with signs and ttls is written as it was read; with another sign or ttl it is another, of the same length. */
+static void text_with_ttls_comes_back(void)
 {
     uint8_t written[256] = {0};
-    size_t size = strlen(text_with_a_sign);
-    zb_read r = zb_settings_read((const uint8_t *)text_with_a_sign, size);
+    size_t size = strlen(text_with_ttls);
+    zb_read r = zb_settings_read((const uint8_t *)text_with_ttls, size);
     EXPECT(r.answer.outcome == ZB_DONE && r.settings.tags == 4 && r.settings.sign[1] == 0 && r.settings.sign[3] == 0);
     EXPECT(r.settings.addr[2] == 1028 && r.settings.width[2] == 16 && r.settings.sign[2] == 1);
+    EXPECT(r.settings.ttl[0] == 500 && r.settings.ttl[1] == 60000 && r.settings.ttl[2] == 0 && r.settings.ttl[3] == 1);
     EXPECT(pair_settings_write(&r.settings, size).length == size);
     EXPECT_REFUSED(pair_settings_write(&r.settings, size - 1), ZB_REFUSED_BUFFER);
-    EXPECT(zb_settings_write(&r.settings, written, size).length == size && memcmp(written, text_with_a_sign, size) == 0);
+    EXPECT(zb_settings_write(&r.settings, written, size).length == size && memcmp(written, text_with_ttls, size) == 0);
     r.settings.sign[2] = 0;
     EXPECT(pair_settings_write(&r.settings, size).length == size);
-    EXPECT(zb_settings_write(&r.settings, written, size).length == size && memcmp(written, text_with_a_sign, size) != 0);
+    EXPECT(zb_settings_write(&r.settings, written, size).length == size && memcmp(written, text_with_ttls, size) != 0);
+    r.settings.sign[2] = 1;
+    r.settings.ttl[3] = 2;
+    EXPECT(pair_settings_write(&r.settings, size).length == size);
+    EXPECT(zb_settings_write(&r.settings, written, size).length == size && memcmp(written, text_with_ttls, size) != 0);
+    /* the text of version 2 with the same signs: the value without its ttls */
+    zb_read older = zb_settings_read((const uint8_t *)text_with_a_sign, strlen(text_with_a_sign));
+    memset(r.settings.ttl, 0, sizeof r.settings.ttl);
+    EXPECT(older.answer.outcome == ZB_DONE && memcmp(&older.settings, &r.settings, sizeof r.settings) == 0);
+    EXPECT(pair_settings_write(&older.settings, 256).length == strlen(text_with_a_sign) + 4 * strlen("ttl=0\n"));
 }
 
-/* 256 tags with five digits each, of the two widths and, in version 2, with signs by turns: the longest of a version. */
+/* 256 tags with five digits each, of the two widths, from version 2 on with signs by turns and from version 3 on with the
+   largest ttl: the longest of a version. */
 static size_t put_longest(char *text, int version)
 {
     size_t size = (size_t)sprintf(text, "version=%d\ntimeout=60000\njoin=1\ntags=256\n", version);
     for (int t = 0; t < 256; t++) {
         size += (size_t)sprintf(text + size, "addr=%d\nwidth=%d\n", 10000 + 2 * t, t % 2 ? 16 : 32);
-        if (version == 2)
+        if (version >= 2)
             size += (size_t)sprintf(text + size, "sign=%d\n", t % 2);
+        if (version >= 3)
+            size += (size_t)sprintf(text + size, "ttl=60000\n");
     }
     return size;
 }
 
+/* The longest text of a version is read to the value, and is wrong with a byte more or less; under another version's number
+   it is wrong at the first line that only one of them has. What is written of the value has `length` bytes. */
+static void longest_text(int version, size_t size, uint32_t lines, const zb_settings *s, size_t length)
+{
+    static char text[ZB_MOST_TEXT + 2];
+    static uint8_t written[ZB_MOST_TEXT];
+    EXPECT(put_longest(text, version) == size);
+    EXPECT(pair_settings_read((const uint8_t *)text, size).outcome == ZB_DONE);
+    EXPECT(is_wrong_at(pair_settings_read((const uint8_t *)text, size + 1), lines + 1));
+    EXPECT(is_wrong_at(pair_settings_read((const uint8_t *)text, size - 1), lines));
+    zb_read r = zb_settings_read((const uint8_t *)text, size);
+    EXPECT(memcmp(&r.settings, s, sizeof *s) == 0);
+    EXPECT(pair_settings_write(s, length).length == length);
+    EXPECT_REFUSED(pair_settings_write(s, length - 1), ZB_REFUSED_BUFFER);
+    EXPECT(zb_settings_write(s, written, length).length == length);
+    if (version == 3)
+        EXPECT(length == size && memcmp(written, text, size) == 0);
+    for (int other = 1; other <= 3; other++) {
+        text[8] = (char)('0' + other);
+        if (other != version)
+            EXPECT(is_wrong_at(pair_settings_read((const uint8_t *)text, size),
+                               6 + (uint32_t)(other < version ? other : version)));
+    }
+}
+
 static void longest_texts(void)
 {
-    static char text[ZB_MOST_TEXT + 2], older[ZB_MOST_TEXT + 2];
-    static uint8_t written[ZB_MOST_TEXT];
-    size_t size = put_longest(text, 2), older_size = put_longest(older, 1);
     zb_settings s = {.timeout = 60000, .join = 1, .tags = 256};
     for (uint32_t t = 0; t < 256; t++) {
         s.addr[t] = (uint16_t)(10000 + 2 * t);
         s.width[t] = t % 2 ? 16 : 32;
         s.sign[t] = t % 2;
+        s.ttl[t] = 60000;
     }
-    EXPECT(size == 6952 && older_size == 5160);
-    EXPECT(pair_settings_write(&s, 6952).length == 6952);
-    EXPECT_REFUSED(pair_settings_write(&s, 6951), ZB_REFUSED_BUFFER);
-    EXPECT(zb_settings_write(&s, written, 6952).length == 6952 && memcmp(written, text, 6952) == 0);
-    EXPECT(pair_settings_read((const uint8_t *)text, 6952).outcome == ZB_DONE);
-    EXPECT(is_wrong_at(pair_settings_read((const uint8_t *)text, 6953), 773));
-    EXPECT(is_wrong_at(pair_settings_read((const uint8_t *)text, 6951), 772));
-    zb_read r = zb_settings_read((const uint8_t *)text, 6952);
-    EXPECT(memcmp(&r.settings, &s, sizeof s) == 0);
-    /* the same of version 1: no tag has a sign, and what is written of it is of version 2 and has its length */
-    EXPECT(pair_settings_read((const uint8_t *)older, 5160).outcome == ZB_DONE);
-    EXPECT(is_wrong_at(pair_settings_read((const uint8_t *)older, 5161), 517));
-    EXPECT(is_wrong_at(pair_settings_read((const uint8_t *)older, 5159), 516));
-    r = zb_settings_read((const uint8_t *)older, 5160);
+    longest_text(3, 9512, 1028, &s, 9512);
+    memset(s.ttl, 0, sizeof s.ttl);
+    longest_text(2, 6952, 772, &s, 8488);
     memset(s.sign, 0, sizeof s.sign);
-    EXPECT(memcmp(&r.settings, &s, sizeof s) == 0);
-    EXPECT(pair_settings_write(&r.settings, 6952).length == 6952);
-    EXPECT_REFUSED(pair_settings_write(&r.settings, 5160), ZB_REFUSED_BUFFER);
-    /* the lines of one version under the number of the other */
-    text[8] = '1';
-    older[8] = '2';
-    EXPECT(is_wrong_at(pair_settings_read((const uint8_t *)text, 6952), 7));
-    EXPECT(is_wrong_at(pair_settings_read((const uint8_t *)older, 5160), 7));
+    longest_text(1, 5160, 516, &s, 8488);
 }
 
 static void invalid_settings(void)
 {
-    enum { BAD = 14 };
+    enum { BAD = 18 };
     zb_settings good = settings_of_the_document(), bad[BAD];
     for (int n = 0; n < BAD; n++)
         bad[n] = good;
@@ -1099,6 +1612,10 @@ static void invalid_settings(void)
     bad[11].sign[0] = 65535;
     bad[12].sign[1] = 1; /* its width is 32 */
     bad[13].sign[1] = 2;
+    bad[14].ttl[0] = 60001;
+    bad[15].ttl[0] = 65535;
+    bad[16].ttl[1] = 60001;
+    bad[17].ttl[1] = 65535;
     for (int n = 0; n < BAD; n++) {
         EXPECT_REFUSED(pair_settings_write(&bad[n], ZB_MOST_TEXT), ZB_REFUSED_SETTINGS);
         EXPECT_REFUSED(pair_settings_write(&bad[n], 0), ZB_REFUSED_SETTINGS);
@@ -1115,9 +1632,14 @@ static void invalid_settings(void)
     good.sign[2] = 2;
     good.width[255] = 32;
     good.sign[255] = 1;
-    EXPECT(pair_fresh(&good).outcome == ZB_DONE && pair_settings_write(&good, 89).length == 89);
+    good.ttl[2] = 60001;
+    good.ttl[255] = 65535;
+    EXPECT(pair_fresh(&good).outcome == ZB_DONE && pair_settings_write(&good, 101).length == 101);
     good.sign[0] = 1; /* of width 16 */
-    EXPECT(pair_fresh(&good).outcome == ZB_DONE && pair_settings_write(&good, 89).length == 89);
+    EXPECT(pair_fresh(&good).outcome == ZB_DONE && pair_settings_write(&good, 101).length == 101);
+    good.ttl[0] = 1;
+    good.ttl[1] = 60000;
+    EXPECT(pair_fresh(&good).outcome == ZB_DONE && pair_settings_write(&good, 105).length == 105);
 }
 
 int main(void)
@@ -1127,11 +1649,14 @@ int main(void)
         quantities_and_starts, longest_write, full_entry_ends, struck_out_of_a_full_table, last_place_and_the_next,
         single_writes, signed_writes, signed_reads, signed_echoes, signed_beside_cut_tags, every_signed_word,
         writes_close_what_they_meet, writes_close_both_reads_of_their_table, unissued_writes_close_nothing,
-        closed_reads_end_as_before, cursor_and_clock_stay_after_a_lost_link, struck_room_and_successor, left_by_all,
+        closed_reads_end_as_before, a_hit, lives, keys_beside_each_other, the_longest_and_the_latest, what_an_issue_drops,
+        what_drops_nothing, who_fills, a_reply_over_its_own_key, a_hit_before_a_join, refusals_before_a_hit, fresh_is_empty,
+        the_64th_key_and_the_next, one_expired_in_the_middle, ties_to_the_lowest, which_place_a_reply_takes,
+        cursor_and_clock_stay_after_a_lost_link, struck_room_and_successor, left_by_all,
         due_is_not_joined, next_deadline, mismatched_reply_leaves_the_entry, refusals_of_attach_and_detach,
         refusals_of_request_before_the_frame, refusals_of_request_by_the_frame, lowest_refusal_of_request,
-        refusals_of_reply_and_tick, splitting, texts, texts_with_signs, wrong_at_each_line, text_of_75_bytes,
-        text_with_a_sign_comes_back, longest_texts, invalid_settings,
+        refusals_of_reply_and_tick, splitting, texts, texts_with_signs, texts_with_ttls, wrong_at_each_line,
+        text_of_75_bytes, text_with_ttls_comes_back, longest_texts, invalid_settings,
     };
     pair_open(0);
     for (size_t n = 0; n < sizeof all / sizeof *all; n++)

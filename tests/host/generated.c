@@ -1,7 +1,9 @@
 /* Shows that the archive and a model in plain C, written from documents 01 and 02 alone, agree on over a million generated
-   calls, in every field, byte and number, and that the ledger of demand 3 adds up; then prints what was reached.
+   calls, in every field, byte and number, that the ledger of demand 3 adds up, and that a request is a hit exactly when the
+   ledger of hits says so, and shows that reply; then prints what was reached.
    Arguments: the seed, and how many times the sessions are gone through. */
 #include "dice.h"
+#include "hits.h"
 #include "ledger.h"
 #include "making.h"
 #include "model.h"
@@ -11,9 +13,10 @@
 #include <stdlib.h>
 #include <string.h>
 
-/* LATE: the clock begins near 2^63 - 1. PINS: some ids are never replied to, so that the cursor meets them again:
-   pairs of neighbours and 65,535, with or without 0 behind it. */
-enum special { PLAIN, LATE, PINS, PINS_WITH_0 };
+/* LATE: the clock begins near 2^63 - 1. CACHED: requests are about what is cached; CACHED_LONG: with fewer writes, and many
+   calls in one millisecond. PINS: some ids are never replied to, so that the cursor meets them again: pairs of
+   neighbours and 65,535, with or without 0 behind it. */
+enum special { PLAIN, LATE, CACHED, CACHED_LONG, PINS, PINS_WITH_0 };
 
 /* A session from a fresh state on: how often each call comes, and what it is given. */
 typedef struct {
@@ -41,6 +44,10 @@ static const session sessions[] = {
     {"dense",      50000, SETTINGS_DENSE,           {0, 60, 10, 500, 450, 50, 1, 10, 2, 2}, 0, 30, 10, PLAIN},
     {"leaving",    50000, SETTINGS_OF_THE_DOCUMENT, {0, 200, 150, 500, 100, 60, 30, 0, 0, 0}, 6, 20, 100, PLAIN},
     {"late",       30000, SETTINGS_OF_THE_DOCUMENT, {0, 60, 30, 500, 330, 150, 1, 0, 0, 0}, 5, 15, 9, LATE},
+    {"cached",     60000, SETTINGS_CACHED,          {0, 60, 40, 600, 330, 30, 1, 0, 0, 0}, 0, 30, 6, CACHED},
+    {"cached, ms", 40000, SETTINGS_CACHED,          {0, 60, 20, 600, 400, 10, 1, 0, 0, 0}, 0, 30, 1, CACHED},
+    {"cached all", 60000, SETTINGS_CACHED_NO_JOIN,  {0, 60, 10, 900, 230, 5, 1, 0, 0, 0}, 0, 30, 2, CACHED},
+    {"cached 64",  80000, SETTINGS_CACHED_LONG,     {0, 60, 10, 600, 400, 20, 1, 0, 0, 0}, 0, 30, 100, CACHED_LONG},
     {"noise",      30000, SETTINGS_ANY,             {0, 60, 10, 500, 400, 50, 1, 300, 20, 20}, 0, 2, 10, PLAIN},
     {"restarts",   30000, SETTINGS_ANY,             {20, 90, 10, 400, 200, 60, 1, 0, 0, 0}, 0, 20, 60, PLAIN},
     {"refused",    15000, SETTINGS_INVALID,         {20, 90, 10, 400, 200, 60, 1, 0, 0, 0}, 0, 20, 60, PLAIN},
@@ -89,9 +96,17 @@ static uint32_t attached_client(uint32_t wrong)
     return client;
 }
 
+/* The milliseconds since the call before. */
+static uint32_t some_step(const session *s)
+{
+    if (s->step == 0 || (s->special == CACHED_LONG && !one_in(30)))
+        return 0;
+    return below(s->step);
+}
+
 static uint64_t some_time(const session *s)
 {
-    uint64_t now = ledger.clock + (s->step ? below(s->step) : 0);
+    uint64_t now = ledger.clock + some_step(s);
     if (one_in(s->wrong * 4)) {
         const uint64_t times[] = {LAST_TIME + 1,    UINT64_MAX,       LAST_TIME + below(60000),
                                   ledger.clock - 1, ledger.clock / 2, 0};
@@ -110,12 +125,31 @@ static bool is_pinned(const session *s, uint16_t id)
     return id % PINNED_EVERY == 7 || id % PINNED_EVERY == 8 || id == 65535 || (id == 0 && s->special == PINS_WITH_0);
 }
 
+/* At times a read comes in the last millisecond in which it is a hit, or in the one behind that. */
+static uint64_t time_of_request(const session *s, const uint8_t *frame, size_t size)
+{
+    uint64_t now = some_time(s);
+    const hits_reply *r = one_in(8) ? hits_found(frame, size) : NULL;
+    if (!r)
+        return now;
+    uint64_t end = r->time + r->life - one_in(2);
+    bool is_near = end < ledger.clock + 200 || one_in(40);
+    return end >= ledger.clock && end <= LAST_TIME && is_near ? end : now;
+}
+
+static size_t some_request(const session *s, uint8_t *frame)
+{
+    if (s->special == CACHED || s->special == CACHED_LONG)
+        return make_cached_request(frame, &settings, s->special == CACHED ? 6 : 25, s->wrong);
+    return make_request(frame, &settings, s->pool, s->wrong);
+}
+
 static void do_request(const session *s)
 {
     uint8_t frame[MOST_FRAME];
-    size_t size = make_request(frame, &settings, s->pool, s->wrong);
+    size_t size = some_request(s, frame);
     uint32_t client = attached_client(s->wrong);
-    uint64_t now = some_time(s);
+    uint64_t now = time_of_request(s, frame, size);
     ledger_request(client, now, frame, size, pair_request(client, now, frame, size, some_out_len(s->wrong)));
 }
 
@@ -180,21 +214,29 @@ static void do_read(void)
         reached(REACHED_TEXT_WRONG_DEEP);
     if (a.outcome == ZB_DONE && has_line(text, size, "version=1\n") && !has_line(text, size, "tags=0\n"))
         reached(REACHED_TEXT_OLDER);
+    if (a.outcome == ZB_DONE && has_line(text, size, "version=2\n") && !has_line(text, size, "tags=0\n"))
+        reached(REACHED_TEXT_OF_VERSION_2);
     if (a.outcome == ZB_DONE && has_line(text, size, "sign=1\n"))
         reached(REACHED_TEXT_SIGNED);
     if (a.line > 4 && (a.line - 4) % 3 == 0 && has_line(text, size, "version=2\n"))
         reached(REACHED_TEXT_WRONG_SIGN);
+    if (a.outcome == ZB_DONE && has_line(text, size, "ttl=60000\n"))
+        reached(REACHED_TEXT_TTL);
+    if (a.line > 4 && (a.line - 4) % 4 == 0 && has_line(text, size, "version=3\n"))
+        reached(REACHED_TEXT_WRONG_TTL);
 }
 
-/* Why a value is refused, where nothing but a sign is wrong in it: with every sign 0 it is valid. */
-static void sign_refused(zb_settings s, zb_answer a)
+/* Why a value is refused, where nothing but a sign or a ttl is wrong in it: with every sign and ttl 0 it is valid. */
+static void why_refused(zb_settings s, zb_answer a)
 {
     static uint8_t text[MOST_TEXT];
-    bool above = false, wide = false;
+    bool above = false, wide = false, lasting = false;
     for (uint32_t t = 0; t < ZB_MOST_TAGS && t < s.tags; t++) {
         above |= s.sign[t] > 1;
         wide |= s.sign[t] == 1 && s.width[t] == 32;
+        lasting |= s.ttl[t] > 60000;
         s.sign[t] = 0;
+        s.ttl[t] = 0;
     }
     if (a.refusal != ZB_REFUSED_SETTINGS || model_settings_write(s, text, sizeof text).refusal)
         return;
@@ -202,6 +244,8 @@ static void sign_refused(zb_settings s, zb_answer a)
         reached(REACHED_SIGN_REFUSED);
     if (wide)
         reached(REACHED_SIGN_32_REFUSED);
+    if (lasting)
+        reached(REACHED_TTL_REFUSED);
 }
 
 /* Also with a buffer that holds the text exactly, or lacks one byte. */
@@ -212,8 +256,8 @@ static void do_write(void)
     if (one_in(3))
         s = spoil_settings(s);
     size_t exact = model_settings_write(s, text, sizeof text).length;
-    const size_t lengths[] = {MOST_TEXT, ZB_MOST_TEXT, exact, exact ? exact - 1 : 0, 89, 88, 0};
-    sign_refused(s, pair_settings_write(&s, one_in(4) ? below(MOST_TEXT) : lengths[below(7)]));
+    const size_t lengths[] = {MOST_TEXT, ZB_MOST_TEXT, exact, exact ? exact - 1 : 0, 101, 100, 0};
+    why_refused(s, pair_settings_write(&s, one_in(4) ? below(MOST_TEXT) : lengths[below(7)]));
 }
 
 static void begin_session(const session *s)
@@ -221,7 +265,7 @@ static void begin_session(const session *s)
     settings = make_settings(s->settings);
     zb_answer a = pair_fresh(&settings);
     if (a.refusal) {
-        sign_refused(settings, a);
+        why_refused(settings, a);
         /* the fresh state is then the one for timeout 3000, join 1 and no tags */
         settings = (zb_settings){.timeout = 3000, .join = 1};
     }

@@ -1,6 +1,7 @@
 /* The ledger of demand 3, kept from calls and outcomes alone: where every accepted request went.
    It knows nothing of the model's inside, so that the model cannot be wrong in the same way unnoticed. */
 #include "ledger.h"
+#include "hits.h"
 #include "pair.h"
 #include "reached.h"
 #include <stdio.h>
@@ -54,6 +55,7 @@ void ledger_fresh(const zb_settings *settings)
     ledger.timeout = settings->timeout;
     ledger.join = settings->join;
     ledger.last_id = 65535;
+    hits_fresh();
 }
 
 static void move(uint32_t serial, enum group from, enum group to)
@@ -133,22 +135,25 @@ static bool is_write(uint8_t function)
     return function == 5 || function == 6 || function == 15 || function == 16;
 }
 
-/* #102: the write or "other" has the read's unit, and is "other", or of its table with an address in its range. */
-static bool meets(const ledger_write *w, const ledger_entry *read)
+bool ledger_meets(const ledger_write *w, uint8_t unit, uint8_t function, uint32_t start, uint32_t quantity)
 {
-    if (w->unit != read->unit)
+    if (w->unit != unit)
         return false;
     if (!is_write(w->function))
         return true;
-    return is_of_bits(w->function) == is_of_bits(read->function)
-        && !(w->last < read->start || w->first > (uint32_t)read->start + read->quantity - 1);
+    return is_of_bits(w->function) == is_of_bits(function) && !(w->last < start || w->first > start + quantity - 1);
+}
+
+const ledger_write *ledger_written(uint32_t n)
+{
+    return &written[n];
 }
 
 /* The last write or "other" that was issued after the read and meets it, or NULL: by the history and not by a mark. */
 static const ledger_write *met_since(const ledger_entry *read)
 {
     for (uint32_t n = ledger.writes; n > 0 && written[n - 1].issue > read->issue; n--)
-        if (meets(&written[n - 1], read))
+        if (ledger_meets(&written[n - 1], read->unit, read->function, read->start, read->quantity))
             return &written[n - 1];
     return NULL;
 }
@@ -406,18 +411,37 @@ static void why_refused(uint32_t client, uint64_t now, zb_answer a)
         reached(now > INT64_MAX ? REACHED_TIME_TOO_LARGE : REACHED_CLOCK_BACK);
 }
 
+/* A hit is not accepted: that time has passed is all that it leaves behind. */
+static void hit(const equals *q)
+{
+    if (q->joinable)
+        reached(REACHED_HIT_BEFORE_JOIN);
+    if (!ledger.join)
+        reached(REACHED_HIT_NO_JOIN);
+    if (ledger.lives == ZB_PLACES)
+        reached(REACHED_HIT_WHEN_FULL);
+}
+
 void ledger_request(uint32_t client, uint64_t now, const uint8_t *frame, size_t size, zb_answer a)
 {
     if (a.refusal) {
         why_refused(client, now, a);
+        hits_refused(frame, size, a);
         return;
     }
     ledger.clock = now;
-    if (a.outcome == ZB_EXCEPTION)
+    if (a.outcome == ZB_EXCEPTION) {
         got_exception(frame[7], a);
+        hits_excepted(frame, size);
+    }
     if (a.outcome == ZB_EXCEPTION && a.code != 4)
         return;
     equals q = equal_reads(now, frame, size);
+    hits_request(now, frame, size, a);
+    if (a.outcome == ZB_HIT) {
+        hit(&q);
+        return;
+    }
     if ((a.outcome == ZB_JOINED) != (q.joinable != 0))
         pair_differs("ledger: joined exactly if an entry can be joined");
     if (a.outcome == ZB_JOINED) {
@@ -524,19 +548,27 @@ static void echo_comes_back(const ledger_entry *e, const uint8_t *frame, zb_answ
 }
 
 /* An echo of 05 that differs from the request in nothing but the value. */
-static void echo_refused(const uint8_t *frame, zb_answer a)
+static bool is_echo_of_another_value(const ledger_entry *e, const uint8_t *frame)
 {
-    const ledger_entry *e = a.refusal == ZB_REFUSED_MISMATCH ? live((uint32_t)(frame[0] << 8 | frame[1])) : NULL;
-    if (e && e->function == 5 && frame[7] == 5 && frame[6] == e->unit && (frame[8] << 8 | frame[9]) == e->start
-        && frame[4] == 0 && frame[5] == 6)
+    return e->function == 5 && frame[7] == 5 && frame[6] == e->unit && (frame[8] << 8 | frame[9]) == e->start
+        && frame[4] == 0 && frame[5] == 6;
+}
+
+static void mismatched(ledger_entry *e, const uint8_t *frame)
+{
+    if (!e)
+        pair_differs("ledger: refusal 8 to an id that is not live");
+    if (is_echo_of_another_value(e, frame))
         reached(REACHED_ECHO_VALUE);
+    e->mismatched = true;
 }
 
 void ledger_reply(uint64_t now, const uint8_t *frame, zb_answer a)
 {
     if (a.refusal) {
         why_refused(0, now, a);
-        echo_refused(frame, a);
+        if (a.refusal == ZB_REFUSED_MISMATCH)
+            mismatched(live((uint32_t)(frame[0] << 8 | frame[1])), frame);
         return;
     }
     ledger.clock = now;
@@ -555,6 +587,7 @@ void ledger_reply(uint64_t now, const uint8_t *frame, zb_answer a)
     signed_in_reply(e, frame, a);
     if (frame[7] == 6)
         echo_comes_back(e, frame, a);
+    hits_answered(e, now, frame, a, met_since(e) != NULL);
     end_entry(e, a, BY_REPLY);
 }
 
@@ -620,6 +653,7 @@ void ledger_link_lost(zb_answer a)
         }
     ledger.lives = 0;
     ledger.attached = 0;
+    hits_link_lost();
 }
 
 void ledger_balance(void)

@@ -2,6 +2,7 @@
 #ifndef LEDGER_H
 #define LEDGER_H
 #include "zilborteka.h"
+#include <stdbool.h>
 
 typedef struct {
     uint32_t serial;
@@ -20,6 +21,7 @@ typedef struct {
     uint32_t issue; /* its number among the issues */
     uint32_t ever;  /* parties that it ever had */
     uint32_t struck; /* clients struck out of it, bit n for client n */
+    bool mismatched; /* a reply came that does not answer it */
     uint32_t parties;
     ledger_party party[ZB_PARTY_PLACES / ZB_PLACES];
 } ledger_entry;
@@ -61,4 +63,8 @@ void ledger_balance(void);
 /* After ticks until nothing is due: nothing accepted a full timeout ago is held. */
 void ledger_drained(uint64_t now);
 void ledger_print(void);
+/* #102: the write or "other" has the read's unit, and is "other", or of its table with an address in its range. */
+bool ledger_meets(const ledger_write *w, uint8_t unit, uint8_t function, uint32_t start, uint32_t quantity);
+/* Of the writes and "other" requests that were issued, in their order, the one with this number, from 0. */
+const ledger_write *ledger_written(uint32_t n);
 #endif

@@ -1,6 +1,7 @@
 /* Makes what the generated calls are given: settings, their texts, requests, replies and received runs. */
 #include "making.h"
 #include "dice.h"
+#include "hits.h"
 #include "model.h"
 #include "pair.h"
 #include <stdio.h>
@@ -14,12 +15,19 @@ static void put_word(uint8_t *bytes, uint32_t word)
 
 /* Settings */
 
-static void add_tag(zb_settings *s, uint32_t addr, uint32_t width, uint32_t sign)
+static void add_tag(zb_settings *s, uint32_t addr, uint32_t width, uint32_t sign, uint32_t ttl)
 {
     s->addr[s->tags] = (uint16_t)addr;
     s->width[s->tags] = (uint16_t)width;
     s->sign[s->tags] = (uint16_t)sign;
+    s->ttl[s->tags] = (uint16_t)ttl;
     s->tags++;
+}
+
+static uint32_t some_ttl(void)
+{
+    static const uint16_t ttls[] = {1, 2, 100, 3000, 59999, 60000};
+    return one_in(2) ? 0 : one_in(2) ? ttls[below(6)] : below(60001);
 }
 
 static void add_any_tags(zb_settings *s)
@@ -29,8 +37,35 @@ static void add_any_tags(zb_settings *s)
     uint32_t addr = one_in(2) ? below(50000) : below(2000);
     while (s->tags < wanted && addr <= 65535) {
         uint32_t width = addr < 65535 && one_in(2) ? 32 : 16;
-        add_tag(s, addr, width, width == 16 && one_in(2));
+        add_tag(s, addr, width, width == 16 && one_in(2), some_ttl());
         addr += width / 16 + (one_in(2) ? 0 : below(gap));
+    }
+}
+
+/* Neighbours with ttls of all sizes, and behind each tenth a register in no tag. */
+static void put_cached_tags(zb_settings *s)
+{
+    static const uint16_t ttls[] = {60000, 9, 60000, 1, 40, 0, 60000, 300, 7, 25};
+    uint32_t addr = 1000;
+    for (s->tags = 0; s->tags < 40; s->tags++) {
+        uint32_t n = s->tags, width = n % 3 == 1 ? 32 : 16;
+        s->addr[n] = (uint16_t)addr;
+        s->width[n] = (uint16_t)width;
+        s->sign[n] = n % 3 == 2;
+        s->ttl[n] = ttls[n % 10];
+        addr += width / 16 + (n % 10 == 9);
+    }
+}
+
+/* More neighbours than a read has registers and the cache has places, nearly all of them fresh for long. */
+static void put_long_cached_tags(zb_settings *s)
+{
+    for (s->tags = 0; s->tags < 160; s->tags++) {
+        uint32_t n = s->tags;
+        s->addr[n] = (uint16_t)(2000 + n);
+        s->width[n] = 16;
+        s->sign[n] = n % 2;
+        s->ttl[n] = n % 16 == 9 ? (uint16_t)(30 + n) : 60000;
     }
 }
 
@@ -39,35 +74,39 @@ zb_settings make_settings(enum settings_kind kind)
     static const uint16_t timeouts[] = {100, 101, 250, 3000, 59999, 60000};
     zb_settings s = {0};
     s.timeout = kind == SETTINGS_ANY ? (one_in(2) ? timeouts[below(6)] : 100 + below(59901)) : 3000;
-    s.join = kind == SETTINGS_ANY ? !one_in(4) : kind != SETTINGS_NO_JOIN;
-    if (kind == SETTINGS_BARE)
+    s.join = kind == SETTINGS_ANY ? !one_in(4) : kind != SETTINGS_NO_JOIN && kind != SETTINGS_CACHED_NO_JOIN;
+    if (kind == SETTINGS_BARE || kind == SETTINGS_CACHED)
         s.timeout = 100;
     if (kind == SETTINGS_NO_JOIN)
         s.timeout = 60000;
     if (kind == SETTINGS_OF_THE_DOCUMENT || kind == SETTINGS_NO_JOIN) {
-        add_tag(&s, 1024, 16, 0);
-        add_tag(&s, 1026, 32, 0);
+        add_tag(&s, 1024, 16, 0, 0);
+        add_tag(&s, 1026, 32, 0, 0);
     }
     if (kind == SETTINGS_DENSE)
         for (uint32_t addr = 1000; s.tags < 256; addr += s.width[s.tags - 1] / 16u)
-            add_tag(&s, addr, s.tags % 3 ? 32 : 16, s.tags % 6 == 0);
+            add_tag(&s, addr, s.tags % 3 ? 32 : 16, s.tags % 6 == 0, 0);
     if (kind == SETTINGS_EDGES) {
-        add_tag(&s, 0, 32, 0);
-        add_tag(&s, 2, 16, 1);
-        add_tag(&s, 65532, 16, 0);
-        add_tag(&s, 65534, 32, 0);
+        add_tag(&s, 0, 32, 0, 0);
+        add_tag(&s, 2, 16, 1, 0);
+        add_tag(&s, 65532, 16, 0, 0);
+        add_tag(&s, 65534, 32, 0, 0);
     }
     if (kind == SETTINGS_TOP)
         for (uint32_t addr = 65280; s.tags < 256; addr++)
-            add_tag(&s, addr, 16, addr % 2);
+            add_tag(&s, addr, 16, addr % 2, 0);
     if (kind == SETTINGS_SIGNED) {
         /* each signed one beside a tag of another kind, and the first between two of width 32 */
-        add_tag(&s, 1024, 32, 0);
-        add_tag(&s, 1026, 16, 1);
-        add_tag(&s, 1027, 32, 0);
-        add_tag(&s, 1029, 16, 0);
-        add_tag(&s, 1030, 16, 1);
+        add_tag(&s, 1024, 32, 0, 0);
+        add_tag(&s, 1026, 16, 1, 0);
+        add_tag(&s, 1027, 32, 0, 0);
+        add_tag(&s, 1029, 16, 0, 0);
+        add_tag(&s, 1030, 16, 1, 0);
     }
+    if (kind == SETTINGS_CACHED || kind == SETTINGS_CACHED_NO_JOIN)
+        put_cached_tags(&s);
+    if (kind == SETTINGS_CACHED_LONG)
+        put_long_cached_tags(&s);
     if (kind == SETTINGS_ANY)
         add_any_tags(&s);
     return kind == SETTINGS_INVALID ? spoil_settings(make_settings(SETTINGS_ANY)) : s;
@@ -79,8 +118,9 @@ zb_settings spoil_settings(zb_settings s)
     static const uint32_t timeouts[] = {0, 99, 60001, UINT32_MAX};
     static const uint16_t widths[] = {0, 15, 17, 31, 33, 48, 65535};
     static const uint16_t signs[] = {2, 3, 16, 255, 256, 65535};
+    static const uint16_t ttls[] = {60001, 60002, 65534, 65535};
     uint32_t t = s.tags ? below(s.tags) : 0;
-    switch (below(8)) {
+    switch (below(9)) {
     case 0:
         s.timeout = timeouts[below(4)];
         break;
@@ -102,6 +142,9 @@ zb_settings spoil_settings(zb_settings s)
     case 6:
         s.width[t] = 32;
         s.sign[t] = 1;
+        break;
+    case 7:
+        s.ttl[t] = ttls[below(4)];
         break;
     default:
         s.addr[t] = 65535;
@@ -145,28 +188,49 @@ static size_t put_text(char *text, const zb_settings *s, int version)
         size += (size_t)sprintf(text + size, "addr=%u\nwidth=%u\n", s->addr[t], s->width[t]);
         if (version > 1)
             size += (size_t)sprintf(text + size, "sign=%u\n", s->sign[t]);
+        if (version > 2)
+            size += (size_t)sprintf(text + size, "ttl=%u\n", s->ttl[t]);
     }
     return size;
+}
+
+/* A line with this key, any of those that a text has; none: NULL. */
+static uint8_t *line_with(const char *key, uint8_t *text, size_t size)
+{
+    size_t length = strlen(key), from = size ? below((uint32_t)size) : 0;
+    for (size_t n = 0; n < size; n++) {
+        uint8_t *line = text + (from + n) % size;
+        if (line + length < text + size && memcmp(line, key, length) == 0)
+            return line;
+    }
+    return NULL;
 }
 
 /* A sign line says something else, or a tag of width 32 is signed; nothing where there is no such line. */
 static void spoil_sign(uint8_t *text, size_t size)
 {
     static const char digits[] = "1112379";
-    size_t from = size ? below((uint32_t)size) : 0;
-    for (size_t n = 0; n < size; n++) {
-        uint8_t *line = text + (from + n) % size;
-        if (line + 6 <= text + size && memcmp(line, "sign=", 5) == 0) {
-            line[5] = (uint8_t)digits[below(7)];
-            return;
-        }
-    }
+    uint8_t *line = line_with("sign=", text, size);
+    if (line)
+        line[5] = (uint8_t)digits[below(7)];
+}
+
+/* A ttl has a digit more in front, at times a zero; nothing where there is no such line. */
+static size_t spoil_ttl(uint8_t *text, size_t size)
+{
+    static const char digits[] = "0011679";
+    uint8_t *line = line_with("ttl=", text, size);
+    if (!line)
+        return size;
+    memmove(line + 5, line + 4, size - (size_t)(line + 4 - text));
+    line[4] = (uint8_t)digits[below(7)];
+    return size + 1;
 }
 
 size_t make_text(uint8_t *text)
 {
     zb_settings s = make_settings(one_in(8) ? (enum settings_kind)below(SETTINGS_ANY) : SETTINGS_ANY);
-    size_t size = put_text((char *)text, &s, one_in(3) ? 1 : 2);
+    size_t size = put_text((char *)text, &s, one_in(4) ? 1 : one_in(3) ? 2 : 3);
     if (one_in(3))
         return size;
     switch (below(8)) {
@@ -176,6 +240,8 @@ size_t make_text(uint8_t *text)
     case 1:
         spoil_sign(text, size);
         return size;
+    case 2:
+        return spoil_ttl(text, size);
     default:
         for (uint32_t times = 1 + below(2); times > 0; times--)
             size = spoil_text(text, size);
@@ -453,6 +519,87 @@ size_t make_request(uint8_t *frame, const zb_settings *s, uint32_t pool, uint32_
         frame[6] = 1;
     } else {
         size = make_any(frame, s);
+    }
+    return one_in(wrong) ? spoil_frame(frame, size) : size;
+}
+
+/* A read of a few neighbouring tags, at times of as many as a read has room for; at times it begins or ends a register
+   too early or too late. */
+static size_t make_tags_read(uint8_t *frame, const zb_settings *s)
+{
+    uint32_t first = below(s->tags), last = first + (one_in(12) ? 124 : below(3));
+    last = last < s->tags ? last : s->tags - 1;
+    uint32_t start = s->addr[first] + (one_in(8) ? below(3) - 1 : 0);
+    uint32_t behind = s->addr[last] + s->width[last] / 16u + (one_in(8) ? below(3) - 1 : 0);
+    uint32_t quantity = behind > start + 125 ? 125 : behind <= start ? 1 : behind - start;
+    return make_read(frame, 3 + below(2), start, quantity);
+}
+
+/* A write about the registers of a read: before them, behind them, inside or around, or over none but the one next to
+   them; or the same of coils, or an "other". At times a write of nothing, or with a byte count that does not fit. */
+static size_t make_about(uint8_t *frame, hits_key key)
+{
+    static const uint8_t functions[] = {5, 6, 6, 15, 16, 16, 16, 16};
+    uint32_t function = functions[below(8)], quantity = function < 15 ? 1 : 1 + below(key.quantity + 3u) % 100;
+    uint32_t first = key.start + below(key.quantity + quantity + 1u) - quantity;
+    if (one_in(6))
+        first = one_in(2) ? key.start - quantity : key.start + (uint32_t)key.quantity;
+    if (one_in(20))
+        return make_other(frame);
+    frame[7] = (uint8_t)function;
+    put_word(frame + 8, first);
+    put_word(frame + 10, function < 15 ? 0 : one_in(16) ? 0 : quantity);
+    if (function < 15)
+        return finish_request(frame, 5);
+    frame[12] = (uint8_t)(function == 15 ? bytes_for_bits(quantity) : 2 * quantity);
+    frame[12] = (uint8_t)(frame[12] + one_in(16));
+    memset(frame + 13, (int)below(10), frame[12]);
+    return finish_request(frame, 6u + frame[12]);
+}
+
+/* A read again, at times by the other function or of another unit. */
+static size_t make_again(uint8_t *frame, hits_key key)
+{
+    size_t size = make_read(frame, one_in(12) ? 7u - key.function : key.function, key.start, key.quantity);
+    frame[6] = one_in(12) ? key.unit ^ 3 : key.unit;
+    return size;
+}
+
+/* One of the last replies, mostly one that is cached. */
+static const hits_reply *some_reply(void)
+{
+    const hits_reply *r = hits_recent(below(one_in(2) ? 8 : 120));
+    return r && r->unfit && one_in(2) ? hits_recent(below(60)) : r;
+}
+
+/* A live read of registers, or none. */
+static const ledger_entry *some_live_read(void)
+{
+    const ledger_entry *e = ledger.lives ? &ledger.live[below(ledger.lives)] : NULL;
+    return e && (e->function == 3 || e->function == 4) ? e : NULL;
+}
+
+size_t make_cached_request(uint8_t *frame, const zb_settings *s, uint32_t writes, uint32_t wrong)
+{
+    static hits_key written_about;
+    const hits_reply *r = some_reply();
+    const ledger_entry *e = one_in(6) ? some_live_read() : NULL;
+    size_t size;
+    if (one_in(40)) {
+        size = make_any(frame, s);
+    } else if (e) {
+        size = make_again(frame, (hits_key){e->unit, e->function, e->start, e->quantity});
+    } else if (!r || one_in(3)) {
+        size = make_tags_read(frame, s);
+        frame[6] = one_in(6) ? 2 : 1;
+    } else if (one_in(writes)) {
+        size = make_about(frame, r->key);
+        frame[6] = one_in(6) ? r->key.unit ^ 3 : r->key.unit;
+        written_about = r->key;
+    } else if (written_about.function && one_in(3)) {
+        size = make_again(frame, written_about);
+    } else {
+        size = make_again(frame, r->key);
     }
     return one_in(wrong) ? spoil_frame(frame, size) : size;
 }

@@ -6,15 +6,19 @@
 
 enum settings_kind {
     SETTINGS_OF_THE_DOCUMENT, SETTINGS_BARE, SETTINGS_NO_JOIN, SETTINGS_DENSE, SETTINGS_EDGES, SETTINGS_TOP,
-    SETTINGS_SIGNED, SETTINGS_ANY, SETTINGS_INVALID /* the last: with one change, mostly invalid */
+    SETTINGS_SIGNED, SETTINGS_CACHED, SETTINGS_CACHED_NO_JOIN, SETTINGS_CACHED_LONG, SETTINGS_ANY,
+    SETTINGS_INVALID /* with one change, mostly invalid */
 };
 
 zb_settings make_settings(enum settings_kind kind);
 zb_settings spoil_settings(zb_settings s);
-/* A settings text of either version, right or wrong; returns its length. */
+/* A settings text of any version, right or wrong; returns its length. */
 size_t make_text(uint8_t *text);
 /* A request; `pool` is how many different reads are asked, 0: anything. `wrong`: one in so many is spoilt. */
 size_t make_request(uint8_t *frame, const zb_settings *s, uint32_t pool, uint32_t wrong);
+/* A request about what is cached: a read of neighbouring tags, the same read again, or, one in `writes`, what drops it or
+   nearly does. */
+size_t make_cached_request(uint8_t *frame, const zb_settings *s, uint32_t writes, uint32_t wrong);
 /* What the controller could say to the entry, or nearly. */
 size_t make_reply(uint8_t *frame, const ledger_entry *e, uint32_t wrong);
 size_t make_noise(uint8_t *bytes);

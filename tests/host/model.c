@@ -1,5 +1,5 @@
 /* An ordinary proxy core in C, written from document 01 alone and section by section in its order, with requests #101,
-   #102, #105 and #106 of document 02. */
+   #102, #105, #106 and #107 of document 02. */
 #include "model.h"
 #include <stdio.h>
 #include <stdlib.h>
@@ -348,26 +348,67 @@ static zb_answer issue(model_state *st, model_entry *e, uint64_t now, const uint
     return a;
 }
 
-/* Whether a write has an address that a read has too, both of one table: address by address. */
-static bool is_met(const model_entry *read, const model_entry *write)
+/* Whether what is issued spoils a read (#102): a write one of its unit and table that has an address of it, looked at
+   address by address, an "other" every one of its unit. */
+static bool spoils(const model_entry *asked, uint8_t unit, bool bits, uint32_t start, uint32_t quantity)
 {
-    for (uint32_t address = write->start; address < write->start + write->quantity; address++)
-        if (address >= read->start && address < read->start + read->quantity)
-            return read->bits == write->bits;
+    if (asked->asked == ASKED_READ || asked->unit != unit)
+        return false;
+    if (asked->asked == ASKED_OTHER)
+        return true;
+    for (uint32_t address = asked->start; address < asked->start + asked->quantity; address++)
+        if (address >= start && address < start + quantity)
+            return asked->bits == bits;
     return false;
 }
 
-/* #102: an issued write closes the live reads of its unit and table that it meets, an "other" every live read of its unit. */
+/* #102: nothing joins a live read any more that is spoilt. */
 static void close_reads(model_state *st, const model_entry *asked)
 {
-    if (asked->asked == ASKED_READ)
-        return;
     for (int n = 0; n < MODEL_LIVE; n++) {
         model_entry *e = &st->entries[n];
-        if (e->live && e->asked == ASKED_READ && e->unit == asked->unit
-            && (asked->asked == ASKED_OTHER || is_met(e, asked)))
+        if (e->live && e->asked == ASKED_READ && spoils(asked, e->unit, e->bits, e->start, e->quantity))
             e->closed = true;
     }
+}
+
+/* #107: a cached reply is dropped, fresh or expired, whose read is spoilt. Only reads of registers are cached. */
+static void drop_cached(model_state *st, const model_entry *asked)
+{
+    for (int n = 0; n < MODEL_CACHED; n++) {
+        model_cached *c = &st->cache[n];
+        if (c->filled && spoils(asked, c->unit, false, c->start, c->quantity))
+            c->filled = false;
+    }
+}
+
+/* The place with the read's key, fresh or expired. */
+static model_cached *cached_for(model_state *st, const model_entry *read)
+{
+    for (int n = 0; n < MODEL_CACHED; n++) {
+        model_cached *c = &st->cache[n];
+        if (c->filled && c->unit == read->unit && c->function == read->function && c->start == read->start
+            && c->quantity == read->quantity)
+            return c;
+    }
+    return NULL;
+}
+
+static bool is_fresh(const model_cached *c, uint64_t now)
+{
+    return now - c->filled_at < c->life;
+}
+
+/* A hit: the frame that the reply wrote, under the caller's id, and its counts. */
+static zb_answer show(const model_cached *c, const uint8_t *frame, uint8_t *out)
+{
+    zb_answer a = came_to(ZB_HIT);
+    memcpy(out, c->frame, c->length);
+    put_word(out, word_at(frame));
+    a.length = c->length;
+    a.partial = c->partial;
+    a.value = c->value;
+    return a;
 }
 
 static zb_answer exception_to_caller(const uint8_t *frame, uint8_t code, uint8_t *out)
@@ -407,6 +448,9 @@ zb_answer model_request(model_state *st, uint32_t client, uint64_t now,
     uint8_t code = exception_for(&asked, frame + HEADER);
     if (code)
         return exception_to_caller(frame, code, out);
+    const model_cached *c = cached_for(st, &asked);
+    if (c && is_fresh(c, now))
+        return show(c, frame, out);
     model_entry *e = entry_to_join(st, &asked, now);
     if (e) {
         add_party(e, client, word_at(frame));
@@ -420,7 +464,10 @@ zb_answer model_request(model_state *st, uint32_t client, uint64_t now,
     add_party(&asked, client, word_at(frame));
     zb_answer a = issue(st, &asked, now, frame, frame_len, out);
     *e = asked;
-    close_reads(st, &asked);
+    if (asked.asked != ASKED_READ) {
+        close_reads(st, &asked);
+        drop_cached(st, &asked);
+    }
     return a;
 }
 
@@ -460,6 +507,60 @@ static void end_entry(model_entry *e, uint16_t *list, zb_answer *a)
     e->live = false;
 }
 
+/* How long a reply to the read may be shown: the smallest ttl of the tags that its range is made of, which all have one.
+   0: it is not cacheable. No two tags have a register in common. */
+static uint32_t life_of(const zb_settings *settings, const model_entry *read)
+{
+    uint32_t life = 0, covered = 0;
+    if (read->function != READ_HOLDING && read->function != READ_INPUT)
+        return 0;
+    for (uint32_t t = 0; t < settings->tags; t++) {
+        uint32_t registers = settings->width[t] / 16u;
+        if (settings->ttl[t] == 0 || settings->addr[t] < read->start
+            || settings->addr[t] + registers > read->start + read->quantity)
+            continue;
+        covered += registers;
+        if (life == 0 || settings->ttl[t] < life)
+            life = settings->ttl[t];
+    }
+    return covered == read->quantity ? life : 0;
+}
+
+/* The place with the read's key, else the lowest that is empty or expired, else the oldest, ties to the lowest. */
+static model_cached *place_to_take(model_state *st, const model_entry *read, uint64_t now)
+{
+    model_cached *oldest = &st->cache[0], *own = cached_for(st, read);
+    if (own)
+        return own;
+    for (int n = 0; n < MODEL_CACHED; n++)
+        if (!st->cache[n].filled || !is_fresh(&st->cache[n], now))
+            return &st->cache[n];
+    for (int n = 0; n < MODEL_CACHED; n++)
+        if (st->cache[n].filled_at < oldest->filled_at)
+            oldest = &st->cache[n];
+    return oldest;
+}
+
+/* #107: a reply that is no exception, to a cacheable read that was not closed, is kept as it was written. */
+static void fill(model_state *st, const model_entry *read, uint64_t now, const uint8_t *out, const zb_answer *a)
+{
+    uint32_t life = life_of(&st->settings, read);
+    if (read->closed || life == 0)
+        return;
+    model_cached *c = place_to_take(st, read, now);
+    c->filled = true;
+    c->unit = read->unit;
+    c->function = read->function;
+    c->start = read->start;
+    c->quantity = read->quantity;
+    c->filled_at = now;
+    c->life = life;
+    c->length = a->length;
+    c->partial = a->partial;
+    c->value = a->value;
+    memcpy(c->frame, out, a->length);
+}
+
 zb_answer model_reply(model_state *st, uint64_t now,
                       const uint8_t *frame, size_t frame_len,
                       uint8_t *out, size_t out_len,
@@ -482,8 +583,10 @@ zb_answer model_reply(model_state *st, uint64_t now,
     memcpy(out, frame, frame_len);
     put_word(out, 0);
     bool has_registers = frame[HEADER] < EXCEPTION && !e->bits;
-    if (has_registers && e->asked == ASKED_READ)
+    if (has_registers && e->asked == ASKED_READ) {
         rewrite(&st->settings, tag_to_binary, e->start, e->quantity, out + HEADER + 2, &a);
+        fill(st, e, now, out, &a);
+    }
     if (has_registers && e->asked == ASKED_SINGLE_WRITE && e->reencoded)
         rewrite(&st->settings, tag_to_binary, e->start, 1, out + HEADER + 3, &a);
     end_entry(e, list, &a);
@@ -560,6 +663,8 @@ zb_answer model_link_lost(model_state *st)
     st->attached = 0;
     for (int n = 0; n < MODEL_LIVE; n++)
         st->entries[n].live = false;
+    for (int n = 0; n < MODEL_CACHED; n++)
+        st->cache[n].filled = false;
     return a;
 }
 
@@ -576,6 +681,8 @@ static bool is_valid(const zb_settings *s)
         if (s->width[t] == 32 && s->addr[t] == 65535)
             return false;
         if (s->sign[t] > 1 || (s->sign[t] == 1 && s->width[t] == 32))
+            return false;
+        if (s->ttl[t] > 60000)
             return false;
         least = s->addr[t] + s->width[t] / 16u;
     }
@@ -627,18 +734,21 @@ static bool read_line(reader *r, const char *key, uint32_t least, uint32_t most,
 
 static bool read_tag(reader *r, zb_settings *s, uint32_t t, uint32_t version, uint32_t *least)
 {
-    uint32_t addr, width, sign = 0;
+    uint32_t addr, width, sign = 0, ttl = 0;
     if (!read_line(r, "addr=", *least, 65535, &addr))
         return false;
     if (!read_line(r, "width=", 16, 32, &width) || (width != 16 && width != 32))
         return false;
     if (width == 32 && addr == 65535)
         return false;
-    if (version == 2 && !read_line(r, "sign=", 0, width == 16 ? 1 : 0, &sign))
+    if (version >= 2 && !read_line(r, "sign=", 0, width == 16 ? 1 : 0, &sign))
+        return false;
+    if (version >= 3 && !read_line(r, "ttl=", 0, 60000, &ttl))
         return false;
     s->addr[t] = (uint16_t)addr;
     s->width[t] = (uint16_t)width;
     s->sign[t] = (uint16_t)sign;
+    s->ttl[t] = (uint16_t)ttl;
     *least = addr + width / 16;
     return true;
 }
@@ -646,7 +756,7 @@ static bool read_tag(reader *r, zb_settings *s, uint32_t t, uint32_t version, ui
 static bool read_text(reader *r, zb_settings *s)
 {
     uint32_t version, least = 0;
-    if (!read_line(r, "version=", 1, 2, &version) || !read_line(r, "timeout=", 100, 60000, &s->timeout)
+    if (!read_line(r, "version=", 1, 3, &version) || !read_line(r, "timeout=", 100, 60000, &s->timeout)
         || !read_line(r, "join=", 0, 1, &s->join) || !read_line(r, "tags=", 0, 256, &s->tags))
         return false;
     for (uint32_t t = 0; t < s->tags; t++)
@@ -674,10 +784,11 @@ zb_answer model_settings_write(zb_settings from, uint8_t *text, size_t text_len)
     char whole[ZB_MOST_TEXT + 1];
     if (!is_valid(&from))
         return refused(ZB_REFUSED_SETTINGS);
-    size_t length = (size_t)sprintf(whole, "version=2\ntimeout=%u\njoin=%u\ntags=%u\n",
+    size_t length = (size_t)sprintf(whole, "version=3\ntimeout=%u\njoin=%u\ntags=%u\n",
                                     (unsigned)from.timeout, (unsigned)from.join, (unsigned)from.tags);
     for (uint32_t t = 0; t < from.tags; t++)
-        length += (size_t)sprintf(whole + length, "addr=%u\nwidth=%u\nsign=%u\n", from.addr[t], from.width[t], from.sign[t]);
+        length += (size_t)sprintf(whole + length, "addr=%u\nwidth=%u\nsign=%u\nttl=%u\n", from.addr[t], from.width[t],
+                                  from.sign[t], from.ttl[t]);
     if (length > text_len)
         return refused(ZB_REFUSED_BUFFER);
     memcpy(text, whole, length);

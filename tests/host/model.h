@@ -8,6 +8,7 @@
 
 #define MODEL_LIVE ZB_PLACES
 #define MODEL_PARTIES (ZB_PARTY_PLACES / ZB_PLACES)
+#define MODEL_CACHED 64
 
 typedef struct {
     uint32_t client;
@@ -33,9 +34,25 @@ typedef struct {
     model_party party[MODEL_PARTIES]; /* in joining order */
 } model_entry;
 
+/* A place of the cache (#107): a reply that may be shown again. */
+typedef struct {
+    bool filled;
+    uint8_t unit; /* what was asked: its key */
+    uint8_t function;
+    uint32_t start;
+    uint32_t quantity;
+    uint64_t filled_at;
+    uint32_t life;
+    uint32_t length; /* of the frame that the reply wrote */
+    uint32_t partial;
+    uint32_t value;
+    uint8_t frame[ZB_FRAME_BUFFER];
+} model_cached;
+
 typedef struct {
     zb_settings settings;
     model_entry entries[MODEL_LIVE];
+    model_cached cache[MODEL_CACHED];
     uint16_t cursor;
     uint32_t attached; /* bit n for client n */
     uint64_t clock;

@@ -155,7 +155,7 @@ static void compare_lent(const lent *archives, const lent *models, const char *b
 static void compare_device(zb_answer a)
 {
     bool same = a.refusal != 0 || last.call == CALL_SPLIT || last.call == CALL_READ || last.call == CALL_WRITE;
-    if (a.outcome == ZB_EXCEPTION || a.outcome == ZB_NOTHING_DUE) {
+    if (a.outcome == ZB_EXCEPTION || a.outcome == ZB_NOTHING_DUE || a.outcome == ZB_HIT) {
         before.clock = last.now;
         same = true;
     }

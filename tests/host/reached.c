@@ -2,7 +2,7 @@
 #include "reached.h"
 #include <stdio.h>
 
-enum { REFUSALS = ZB_REFUSED_SETTINGS + 1, OUTCOMES = ZB_MORE + 1 };
+enum { REFUSALS = ZB_REFUSED_SETTINGS + 1, OUTCOMES = ZB_HIT + 1 };
 
 const char *const call_names[CALLS] = {
     "fresh", "attach", "detach", "request", "reply", "tick", "link_lost", "split", "settings_read", "settings_write",
@@ -34,7 +34,7 @@ static const uint32_t can_come_to[CALLS] = {
     [CALL_FRESH] = 1 << ZB_DONE,
     [CALL_ATTACH] = 1 << ZB_DONE,
     [CALL_DETACH] = 1 << ZB_DONE,
-    [CALL_REQUEST] = 1 << ZB_ISSUED | 1 << ZB_JOINED | 1 << ZB_EXCEPTION,
+    [CALL_REQUEST] = 1 << ZB_ISSUED | 1 << ZB_JOINED | 1 << ZB_EXCEPTION | 1 << ZB_HIT,
     [CALL_REPLY] = 1 << ZB_ANSWERED,
     [CALL_TICK] = 1 << ZB_TIMED_OUT | 1 << ZB_NOTHING_DUE,
     [CALL_LINK_LOST] = 1 << ZB_DONE,

@@ -83,13 +83,68 @@ extern const char *const call_names[CALLS];
     X(TIE, "equal deadlines, the smallest id times out") \
     X(NEVER_DUE, "a deadline past 2^63 - 1") \
     X(DRAINED, "ticked until nothing is due") \
+    X(HIT_LAST_MS, "a hit in the last millisecond of its life") \
+    X(MISS_AT_LIFE, "a miss in the one behind it") \
+    X(HIT_OF_1, "a hit of life 1") \
+    X(HIT_OF_60000, "a hit of life 60,000") \
+    X(HIT_SMALLEST, "a hit of tags with different ttls") \
+    X(MISS_SMALLEST, "a miss older than one ttl and not than another") \
+    X(HIT_LONGEST, "a hit of 125 registers") \
+    X(HIT_RAW, "a hit with a tag raw for its value") \
+    X(HIT_FUNCTION, "a hit of 03 or 04 beside the other's reply") \
+    X(MISS_FUNCTION, "a miss beside the other function's reply") \
+    X(HIT_UNIT, "a hit beside another unit's reply") \
+    X(MISS_UNIT, "a miss beside another unit's reply") \
+    X(HIT_NO_JOIN, "a hit with joining off") \
+    X(HIT_WHEN_FULL, "a hit while every place is taken") \
+    X(HIT_BEFORE_JOIN, "a hit where an equal read can be joined") \
+    X(HIT_REFUSED_1, "what would be a hit is refused with 1") \
+    X(HIT_REFUSED_2, "what would be a hit is refused with 2") \
+    X(HIT_REFUSED_3, "what would be a hit is refused with 3") \
+    X(HIT_LATE, "a hit of a reply past its deadline") \
+    X(HIT_EMPTY, "a hit of a reply for nobody") \
+    X(HIT_BEHIND_EXCEPTION, "a hit behind an exception to the same read") \
+    X(HIT_BEHIND_CLOSED, "a hit behind a closed read's reply to it") \
+    X(MISS_EXCEPTION, "a miss behind an exception alone") \
+    X(MISS_CLOSED, "a miss behind a closed read's reply alone") \
+    X(MISS_MISMATCH, "a miss behind a refused reply, 8") \
+    X(MISS_GAP, "a miss for a register in no tag") \
+    X(MISS_CUT_FIRST, "a miss for a tag cut at the range's first end") \
+    X(MISS_CUT_LAST, "a miss for a tag cut at its last end") \
+    X(MISS_TTL_0, "a miss for a tag of ttl 0") \
+    X(OWN_FRESH, "a reply over its own key, fresh") \
+    X(OWN_EXPIRED, "a reply over its own key, expired") \
+    X(OWN_BEHIND_FREE, "the same with an empty or expired place below") \
+    X(LAST_CACHED, "a reply makes all 64 fresh") \
+    X(TAKEN_EXPIRED, "a reply takes an expired place between fresh ones") \
+    X(TAKEN_DROPPED, "a reply takes a dropped place between fresh ones") \
+    X(TAKEN_OLDEST, "a reply takes the oldest of 64 fresh ones") \
+    X(TAKEN_TIE, "the same where two are the oldest") \
+    X(TAKEN_TIE_LATER, "the same and the lowest was filled later") \
+    X(MISS_TAKEN, "a miss because its place was taken") \
+    X(DROP_LEFT, "a miss behind a write that meets it from the left") \
+    X(DROP_RIGHT, "from the right") \
+    X(DROP_INSIDE, "inside") \
+    X(DROP_AROUND, "around it") \
+    X(DROP_OTHER, "a miss behind an \"other\" for its unit") \
+    X(KEPT_BEFORE, "a hit behind a write up to the register before") \
+    X(KEPT_BEHIND, "a hit behind a write from the register behind") \
+    X(KEPT_COILS, "a hit behind 05 or 15 over its addresses") \
+    X(KEPT_UNIT, "a hit behind a write over it in another unit") \
+    X(KEPT_OTHER, "a hit behind an \"other\" for another unit") \
+    X(KEPT_EXCEPTION, "a hit behind a write over it with an exception") \
+    X(MISS_LOST, "a miss behind a lost link") \
     X(TEXT_256, "a settings text of 256 tags is read") \
     X(TEXT_WRONG_DEEP, "a settings text wrong behind line 12") \
     X(TEXT_OLDER, "a settings text of version 1 with tags is read") \
+    X(TEXT_OF_VERSION_2, "a settings text of version 2 with tags is read") \
     X(TEXT_SIGNED, "a settings text with a signed tag is read") \
     X(TEXT_WRONG_SIGN, "a settings text wrong at a sign line") \
+    X(TEXT_TTL, "a settings text with a ttl of 60,000 is read") \
+    X(TEXT_WRONG_TTL, "a settings text wrong at a ttl line") \
     X(SIGN_REFUSED, "a sign that is not 0 or 1 is refused") \
     X(SIGN_32_REFUSED, "sign 1 with width 32 is refused") \
+    X(TTL_REFUSED, "a ttl above 60,000 is refused") \
     X(FULL_WIDTH_CLIENT, "client 259 or 2^32 - 1 is refused") \
     X(CLOCK_BACK, "a time below the clock is refused") \
     X(TIME_TOO_LARGE, "a time above 2^63 - 1 is refused")

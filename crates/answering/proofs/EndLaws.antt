@@ -15,13 +15,14 @@ use Rattle.laws.proofs.SearchLaws.{best-in}
 use Rattle.pdu.specs.Words.{whatOf, Proper}
 use Rattle.pdu.specs.declared.ProxyId.{ProxyId}
 use Rattle.book.specs.Book.Move.{reply}
-use Rattle.machine.specs.Machine.{machine, moved}
-use Rattle.table.specs.Columns.{Columns, columns, SoundTable}
+use Rattle.machine.specs.Machine.{machine, moved, caching}
+use Rattle.caching.specs.Kept.{cacheOf, SoundCache}
+use Rattle.table.specs.Columns.{Columns, columns, placeWord, noteOf, SoundTable}
 use Rattle.table.specs.inner.Places.{holds, isDue, isSooner}
 use Rattle.table.specs.inner.Changes.{reach}
 use Rattle.table.proofs.EntryLaws.{held}
 use Rattle.table.proofs.ChangeLaws.{remove-is-reply, remove-sound}
-use Rattle.proxy.specs.State.{State, seated, valueIn, machineOf, SoundState}
+use Rattle.proxy.specs.State.{State, state, seated, valueIn, machineOf, SoundState}
 use Rattle.proxy.proofs.StateLaws.{still-sound, timed}
 
 -- the proxy id of that number
@@ -32,6 +33,11 @@ named n = record { 0 = n }
 abbrev pub ended : State → List ℕ → ℕ → ℕ → State
 ended s is top t =
     seated s (columns is (s .table .asked) (s .table .callers) (s .table .deadlines) (s .table .counts) (s .table .clients) (s .table .originals) top) (s .attached) t
+
+-- and with other columns of the cache
+abbrev pub endedKeeping : State → List ℕ → ℕ → ℕ → (cache shown : List ℕ) → State
+endedKeeping s is top t cache shown =
+    state (columns is (s .table .asked) (s .table .callers) (s .table .deadlines) (s .table .counts) (s .table .clients) (s .table .originals) top) (s .cursor) (s .attached) t (s .settings) cache shown
 
 -- a live place
 pub record Living (c : Columns) (k : ℕ) : Type 0 where
@@ -67,12 +73,30 @@ module _ (c : Columns) (s : SoundTable c) (k : ℕ) (l : Living c k) where
   pub asks-proper : Proper (whatOf (getD (c .asked) k 0))
   asks-proper = s .proper k (l .live) .0
 
+  -- Its word is that of what was asked, with the mark where that is closed.
+  pub asks-placed : placeWord (whatOf (getD (c .asked) k 0)) (noteOf (getD (c .asked) k 0)) ≡ getD (c .asked) k 0
+  asks-placed = s .proper k (l .live) .1
+
 module _ (s : State) (d : SoundState s) (k : ℕ) (l : Living (s .table) k) (t : ℕ) (is : List ℕ) (top : ℕ)
     (f : (is ≡ set (s .table .ids) k 0) × (top ≡ reach is (s .table .top))) where
   -- The state with the place freed is the machine after the reply to its entry, and after its timeout.
   pub ended-is : machineOf (ended s is top t) ≡ moved (machineOf (timed s t)) (reply k (held (s .table) k))
   ended-is =
-      ap (λ b. machine b (s .attached)) (remove-is-reply (valueIn (s .settings)) (s .cursor) t (s .table) (d .table) k is top (l .low) f (held (s .table) k))
+      ap (λ b. machine b (s .attached) (cacheOf (s .cache) (s .shown))) (remove-is-reply (valueIn (s .settings)) (s .cursor) t (s .table) (d .table) k is top (l .low) f (held (s .table) k))
+
+  -- With other columns of the cache it is that machine with another cache, and sound.
+  pub ended-keeping : (cache shown : List ℕ) → machineOf (endedKeeping s is top t cache shown) ≡ caching (moved (machineOf (timed s t)) (reply k (held (s .table) k))) (cacheOf cache shown)
+  ended-keeping cache shown =
+      ap (λ b. machine b (s .attached) (cacheOf cache shown)) (remove-is-reply (valueIn (s .settings)) (s .cursor) t (s .table) (d .table) k is top (l .low) f (held (s .table) k))
+
+  pub ended-keeping-sound : (cache shown : List ℕ) → SoundCache cache shown → SoundState (endedKeeping s is top t cache shown)
+  ended-keeping-sound cache shown h = record {
+    table = remove-sound (valueIn (s .settings)) (s .cursor) t (s .table) (d .table) k is top (l .low) f;
+    cursor = d .cursor;
+    attached = d .attached;
+    settings = d .settings;
+    cache = h;
+  }
 
   -- It is sound.
   pub ended-sound : SoundState (ended s is top t)

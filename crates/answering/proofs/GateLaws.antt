@@ -96,3 +96,8 @@ pub reply-timely : (out list time clock : ℕ) (f : List ℕ) → replyGate out 
 reply-timely out list time clock f z =
     let b = both (tickGate out list time clock) (cond (misframed f) 4 0) (sym (split out list time clock f _ refl) ∙ z) in
     (tick-timely out list time clock (b .0), framed f (past (misframed f) 4 0 (λ y. omega arith) (b .1) .0))
+
+-- Its frame is not refused.
+pub reply-framed : (out list time clock : ℕ) (f : List ℕ) → replyGate out list time clock f ≡ 0 → misframed f ≡ false
+reply-framed out list time clock f z =
+    past (misframed f) 4 0 (λ y. omega arith) (both (tickGate out list time clock) (cond (misframed f) 4 0) (sym (split out list time clock f _ refl) ∙ z) .1) .0

@@ -3,3 +3,4 @@ pub mod EndLaws
 pub mod FrameLaws
 pub mod ReplyLaws
 pub mod TickLaws
+pub mod KeepLaws

@@ -17,12 +17,14 @@ use Rattle.rewrite.specs.Rewriting.{Rewritten, withCounts}
 use Rattle.rewrite.specs.Frames.{returned, under}
 use Rattle.rewrite.specs.inner.Lent.{tagsOf}
 use Rattle.book.specs.Book.{Live, at}
+use Rattle.book.specs.Book.Move.{reply as replies}
 use Rattle.book.specs.Desk.{idPlace}
-use Rattle.machine.specs.Machine.{Machine, Note, rules}
+use Rattle.caching.specs.Kept.{cacheOf}
+use Rattle.machine.specs.Machine.{Machine, Note, rules, moved, caching}
 use Rattle.machine.specs.Calls.{Outcome, done, outOf, listOf}
 use Rattle.machine.specs.Calls.Call.{reply}
 use Rattle.machine.specs.Refusals.{entryFor}
-use Rattle.machine.specs.Replies.{pairs, answeredTo, answered}
+use Rattle.machine.specs.Replies.{pairs, cacheAfter, answeredTo, answered}
 use Rattle.machine.specs.Outcomes.{granted, outcome}
 use Rattle.machine.specs.declared.Answer.the-variants.{Refused, Answered}
 use Rattle.machine.proofs.OutcomeLaws.{granted-is, refused-is}
@@ -35,7 +37,7 @@ use Rattle.proxy.specs.State.{State, valueIn, machineOf, SoundState}
 use Rattle.proxy.specs.Gates.{replyGate}
 use Rattle.proxy.proofs.StateLaws.{timed, clock-is}
 use Rattle.answering.proofs.GateLaws.{reply-gate, reply-behind, reply-timely}
-use Rattle.answering.proofs.EndLaws.{named, ended, Living, holder-lives, ended-is}
+use Rattle.answering.proofs.EndLaws.{named, endedKeeping, Living, holder-lives, ended-keeping}
 
 -- what is said and written, by its parts
 abbrev sent : ProxyId → (size parties : ℕ) → Machine → List ℕ → Rewritten → Outcome
@@ -90,12 +92,13 @@ module _ (s : State) (d : SoundState s) (t : ℕ) (f o l : List ℕ) (gate : rep
           ∙ rw (← place-is, stands, clock-is s t (reply-timely (length o) (length l) t (s .clock) f gate .0 .later))
 
       -- The reply answers it, and the entry ends.
-      pub was-answered : (id : ProxyId) (n p v : ℕ) (o′ l′ is : List ℕ) (top : ℕ)
+      pub was-answered : (id : ProxyId) (n p v : ℕ) (o′ l′ is : List ℕ) (top : ℕ) (cache shown : List ℕ)
           → id .0 ≡ held (s .table) k .id
           → (n ≡ length (held (s .table) k .parties)) × (l′ ≡ over (pairs (held (s .table) k .parties)) l)
           → (is ≡ set (s .table .ids) k 0) × (top ≡ reach is (s .table .top))
           → withCounts p v o′ ≡ under 0 o (returned (tagsOf (s .settings .tagCount) (s .settings .tagWords)) (held (s .table) k .what) f)
-          → done (Answered id (length f) n p v) (machineOf (ended s is top t)) o′ l′ ≡ outcome (machineOf s) (reply t f o l)
+          → cacheOf cache shown ≡ cacheAfter (machineOf (timed s t)) (held (s .table) k) f
+          → done (Answered id (length f) n p v) (machineOf (endedKeeping s is top t cache shown)) o′ l′ ≡ outcome (machineOf s) (reply t f o l)
       unfolding answeredTo valueIn
-      was-answered id n p v o′ l′ is top i h q w =
-          told (length f) i (h .0) (ended-is s d k living t is top q) (h .1) w ∙ sym is-answered
+      was-answered id n p v o′ l′ is top cache shown i h q w keeps =
+          told (length f) i (h .0) (ended-keeping s d k living t is top q cache shown ∙ ap (caching (moved (machineOf (timed s t)) (replies k (held (s .table) k)))) keeps) (h .1) w ∙ sym is-answered

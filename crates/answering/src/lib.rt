@@ -1,15 +1,26 @@
-// The reply and the tick: an entry of the live table ends, its parties stand in the list, its frame in the buffer.
+// The reply and the tick: an entry of the live table ends, its parties stand in the list, its frame in the buffer; a reply may fill a place of the cache.
 use machine::Answer;
+use pdu::Asked;
+use pdu::Table;
 use rewrite::Raw;
 ghost use mathlib.Core.Path.{_≡_};
-ghost use mathlib.Core.Bool.{true};
-ghost use Rattle.pdu.specs.Replies.{answering};
+ghost use mathlib.Core.Bool.{true, cond};
+ghost use Prim.Native.Nat.{ℕ};
+ghost use lib.Dec.{eqb};
+ghost use Rattle.wire.specs.Frame.{laid};
+ghost use Rattle.pdu.specs.Replies.{What, answering};
 ghost use Rattle.pdu.specs.Words.{whatOf, Proper};
 ghost use Rattle.rewrite.specs.Rewriting.{withCounts};
 ghost use Rattle.rewrite.specs.Frames.{returned, under};
 ghost use Rattle.rewrite.specs.inner.Lent.{tagsOf, TagWords, Framed};
+ghost use Rattle.cache.specs.Cache.{filledWith};
+ghost use Rattle.cache.specs.Life.{lifeOf};
+ghost use Rattle.caching.specs.Kept.{cached, cacheOf, Key, Fills, SoundCache};
+ghost use Rattle.book.specs.Book.{Live};
+ghost use Rattle.machine.specs.Machine.{Note};
+ghost use Rattle.machine.specs.Replies.{fills};
 ghost use Rattle.machine.specs.Calls.Call.{reply as replyCall, tick as tickCall};
-ghost use Rattle.table.specs.Columns.{columns, SoundTable};
+ghost use Rattle.table.specs.Columns.{columns, noteOf, SoundTable};
 ghost use Rattle.proxy.specs.State.{State, keptSettings, lentTable, lentKept, Settled, SoundState};
 ghost use Rattle.proxy.specs.Calls.{Does};
 ghost use Rattle.proxy.specs.Gates.{replyGate, tickGate};
@@ -71,7 +82,65 @@ fn write_reply(
     payloads::give_back(out, frame, function, asked, tag_words, tag_count)
 }
 
-// The controller's reply: refused, or the entry that it answers ends with the rewritten frame.
+// For how long a reply to what the word says was asked is shown again: 0 for an exception, where that is closed, and where it is no cacheable read.
+fn life_given(
+    word: u64,
+    frame: &[u8],
+    tag_words: &[u64; numbers::MOST_TAGS],
+    tag_count: usize,
+) -> u16
+    requires { ⌜ TagWords «tag_count» (now «tag_words») ⌝ }
+    ensures { λ r. ⌜ ((e : Live What Note) → e .what ≡ whatOf word → e .note ≡ noteOf word → r ≡ cond (fills (tagsOf «tag_count» (now («tag_words» .entry))) e (now (frame .entry))) (lifeOf (tagsOf «tag_count» (now («tag_words» .entry))) (e .what)) 0) ⌝ }
+{
+    let excepted = checking::matching::is_exception(checking::words::function_in(word), frame);
+    if excepted | checking::words::is_closed(word) {
+        return 0;
+    }
+    match checking::words::asked_in(word) {
+        Asked::Read {
+            table,
+            start,
+            quantity,
+        } => match table {
+            Table::Bits => 0,
+            Table::Registers => caching::lives::life_of(tag_words, tag_count, start, quantity),
+        },
+        Asked::SingleWrite {
+            table: _,
+            address: _,
+            value: _,
+        } => 0,
+        Asked::MultipleWrite {
+            table: _,
+            start: _,
+            quantity: _,
+        } => 0,
+        Asked::Other => 0,
+    }
+}
+
+// Keeps a reply, as it is handed out, at the place that it takes; one with no life is not kept.
+fn keep<'a>(
+    cache: &'a mut [u64; numbers::CACHE_NUMBERS],
+    shown: &'a mut [u8; numbers::CACHE_BYTES],
+    word: u64,
+    time: u64,
+    life: u16,
+    value: u32,
+    frame: &[u8],
+)
+    requires { ⌜ SoundCache (now cache) (now shown) × ((life ≡ 0 → ⊥) → Key word × Fills (whatOf word) (now frame)) ⌝ }
+    ensures { λ r. ⌜ (cacheOf (now (cache .exit)) (now (shown .exit)) ≡ cond (eqb life 0) (cacheOf (now (cache .entry)) (now (shown .entry))) (filledWith (cached (whatOf word) time life value (laid 0 (now (frame .entry)))) (cacheOf (now (cache .entry)) (now (shown .entry)))))
+        × SoundCache (now (cache .exit)) (now (shown .exit)) ⌝ }
+{
+    if life == 0 {
+        return;
+    }
+    let place = caching::taken_place(cache, word, time);
+    caching::fill(cache, shown, place, word, time, life, value, frame);
+}
+
+// The controller's reply: refused, or the entry that it answers ends with the rewritten frame, which may fill a place of the cache.
 pub fn reply<'a>(
     ids: &'a mut [u32; numbers::PLACES],
     asked: &'a mut [u64; numbers::PLACES],
@@ -86,15 +155,17 @@ pub fn reply<'a>(
     join: &'a mut u32,
     tag_count: &'a mut u32,
     tag_words: &'a mut [u64; numbers::MOST_TAGS],
+    cache: &'a mut [u64; numbers::CACHE_NUMBERS],
+    shown: &'a mut [u8; numbers::CACHE_BYTES],
     time: u64,
     frame: &[u8],
     out: &mut [u8],
     list: &mut [u16],
 ) -> Answer
-    requires { ⌜ SoundTable (columns (now ids) (now asked) (now callers) (now deadlines) (now counts) (now clients) (now originals) (now top)) × Settled (keptSettings (now timeout) (now join) (now «tag_count») (now «tag_words»)) ⌝ }
-    ensures { λ r. ⌜ ((s : State) → SoundState (lentKept s (now (ids .entry)) (now (asked .entry)) (now (callers .entry)) (now (deadlines .entry)) (now (counts .entry)) (now (clients .entry)) (now (originals .entry)) (now (top .entry)) (now (clock .entry)) (now (timeout .entry)) (now (join .entry)) (now («tag_count» .entry)) (now («tag_words» .entry)))
-        → Does (lentKept s (now (ids .entry)) (now (asked .entry)) (now (callers .entry)) (now (deadlines .entry)) (now (counts .entry)) (now (clients .entry)) (now (originals .entry)) (now (top .entry)) (now (clock .entry)) (now (timeout .entry)) (now (join .entry)) (now («tag_count» .entry)) (now («tag_words» .entry))) (replyCall time (now (frame .entry)) (now (out .entry)) (now (list .entry))) r
-        (lentKept s (now (ids .exit)) (now (asked .exit)) (now (callers .exit)) (now (deadlines .exit)) (now (counts .exit)) (now (clients .exit)) (now (originals .exit)) (now (top .exit)) (now (clock .exit)) (now (timeout .exit)) (now (join .exit)) (now («tag_count» .exit)) (now («tag_words» .exit))) (now (out .exit)) (now (list .exit))) ⌝ }
+    requires { ⌜ SoundTable (columns (now ids) (now asked) (now callers) (now deadlines) (now counts) (now clients) (now originals) (now top)) × Settled (keptSettings (now timeout) (now join) (now «tag_count») (now «tag_words»)) × SoundCache (now cache) (now shown) ⌝ }
+    ensures { λ r. ⌜ ((s : State) → SoundState (lentKept s (now (ids .entry)) (now (asked .entry)) (now (callers .entry)) (now (deadlines .entry)) (now (counts .entry)) (now (clients .entry)) (now (originals .entry)) (now (top .entry)) (now (clock .entry)) (now (timeout .entry)) (now (join .entry)) (now («tag_count» .entry)) (now («tag_words» .entry)) (now (cache .entry)) (now (shown .entry)))
+        → Does (lentKept s (now (ids .entry)) (now (asked .entry)) (now (callers .entry)) (now (deadlines .entry)) (now (counts .entry)) (now (clients .entry)) (now (originals .entry)) (now (top .entry)) (now (clock .entry)) (now (timeout .entry)) (now (join .entry)) (now («tag_count» .entry)) (now («tag_words» .entry)) (now (cache .entry)) (now (shown .entry))) (replyCall time (now (frame .entry)) (now (out .entry)) (now (list .entry))) r
+        (lentKept s (now (ids .exit)) (now (asked .exit)) (now (callers .exit)) (now (deadlines .exit)) (now (counts .exit)) (now (clients .exit)) (now (originals .exit)) (now (top .exit)) (now (clock .exit)) (now (timeout .exit)) (now (join .exit)) (now («tag_count» .exit)) (now («tag_words» .exit)) (now (cache .exit)) (now (shown .exit))) (now (out .exit)) (now (list .exit))) ⌝ }
 {
     let refused = reply_refusal(out.len(), list.len(), time, *clock, frame);
     if refused != 0 {
@@ -112,7 +183,10 @@ pub fn reply<'a>(
     let id = table::id_at(ids, place);
     let parties = moves::ending::end_at(ids, counts, clients, originals, top, place, list);
     let raw = write_reply(out, frame, word, tag_words, *tag_count as usize);
-    let length = frame.len() as u32;
+    let life = life_given(word, frame, tag_words, *tag_count as usize);
+    let size = frame.len();
+    keep(cache, shown, word, time, life, raw.value, &out[..size]);
+    let length = size as u32;
     Answer::Answered {
         id,
         length,

@@ -61,6 +61,18 @@ older-exactly (some x) (some y) = (
   λ h. rw (Option·some-injective x (h .0) (h .2), Option·some-injective y (h .1) (h .3)) (lt-ltb _ _ (h .4)),
 )
 
+-- what has a key and is fresh is a reply to that whose life is not over
+shown-there : (now : ℕ) (w : What) (o : Option Cached) → (hasKey w o && isFresh now o) ≡ true → (e : Cached) × (o ≡ some e) × (e .what ≡ w) × (now - e .filled < e .life)
+shown-there now w o t =
+    let a = has-keyed w o (and-left _ _ t) in
+    let b = fresh-exactly now o .0 (and-right (hasKey w o) _ t) in
+    (a .0, a .1, a .2, rw (Option·some-injective (b .0) (a .0) (sym (b .1) ∙ a .1)) at (b .2))
+
+-- A request that is hit finds a reply to what it asks, whose life is not over.
+pub hit-found : (c : Cache) (now : ℕ) (w : What) → hitPlace now w c < 64
+    → (e : Cached) × (inCache c (hitPlace now w c) ≡ some e) × (e .what ≡ w) × (now - e .filled < e .life)
+hit-found c now w l = shown-there now w (inCache c (hitPlace now w c)) (best-some (λ k. hasKey w (inCache c k) && isFresh now (inCache c k)) (λ i j. false) 64 l)
+
 -- where something does not hold, a test that holds exactly then fails
 fails : {P : Type 0} (t : Bool) → (t ≡ true) ↔ P → (P → ⊥) → t ≡ false
 fails true e n = absurd (n (e .0 refl))
@@ -124,10 +136,7 @@ module _ (c : Cache) (sorted : Sorted c) (now : ℕ) (w : What) (self : equalRea
 
   shown-exactly : (k : ℕ) → (shows k ≡ true) ↔ ((e : Cached) × (inCache c k ≡ some e) × (e .what ≡ w) × (now - e .filled < e .life))
   shown-exactly k = (
-    λ t.
-        let a = key-exactly w self (inCache c k) .0 (and-left _ _ t) in
-        let b = fresh-exactly now (inCache c k) .0 (and-right (hasKey w (inCache c k)) _ t) in
-        (a .0, a .1, a .2, rw (Option·some-injective (b .0) (a .0) (sym (b .1) ∙ a .1)) at (b .2)),
+    λ t. shown-there now w (inCache c k) t,
     λ h. rw (key-exactly w self (inCache c k) .1 (h .0, h .1, h .2)) (fresh-exactly now (inCache c k) .1 (h .0, h .1, h .3)),
   )
 
@@ -232,6 +241,15 @@ module _ (c : Cache) (sorted : Sorted c) (now : ℕ) (w : What) (self : equalRea
   pub taken-exactly : (p : ℕ) → p < 64 → (takenPlace now w c ≡ p) ↔ Takes now w c p
   taken-exactly p l = (λ q. rw q at (takes .1), λ t. takes-one (takenPlace now w c) p taken-low l (takes .1) t)
 
+-- A place that is fresh is taken only by a reply with its own key, or by one whose key stands nowhere while all are fresh; then it is the one filled earliest, of several the lowest.
+pub fresh-taken : (c : Cache) (now : ℕ) (w : What) (p : ℕ) → Takes now w c p → (d : Cached) → inCache c p ≡ some d → now - d .filled < d .life
+    → (d .what ≡ w)
+    ⊎ (((k : ℕ) → k < 64 → Keyed w (inCache c k) → ⊥) × ((k : ℕ) → k < 64 → Fresh now (inCache c k))
+    × ((k : ℕ) (e : Cached) → k < 64 → inCache c k ≡ some e → (d .filled ≤ e .filled) × (k < p → d .filled < e .filled)))
+fresh-taken c now w p (own a) d h f = inl (ap (λ (x : Cached). x .what) (Option·some-injective d (a .0) (sym h ∙ a .1)) ∙ a .2)
+fresh-taken c now w p (spare n s l) d h f = absurd (never-both now (inCache c p) (d, h, f) s)
+fresh-taken c now w p (oldest n a o) d h f = inr (n, a, λ k e l g. o k d e l h g)
+
 -- What is no read hits nothing.
 pub no-read-hits-nothing : (c : Cache) (now : ℕ) (w : What) → ((t : Table) (s q : ℕ) → w .asked ≡ Read t s q → ⊥) → hitPlace now w c ≡ 64
 no-read-hits-nothing c now w other = best-nothing _ (λ i j. false) 64 64 (λ k l. keyless (inCache c k))
@@ -318,8 +336,8 @@ module _ (e : Cached) (c : Cache) (s : Sorted c) (self : equalReads (e .what) (e
   abbrev taken : ℕ
   taken = takenPlace (e .filled) (e .what) c
 
-  -- a place holds the new reply, or what it held, which has another key
-  filled-place : (k : ℕ) (d : Cached) → inCache (filledWith e c) k ≡ some d → ((k ≡ taken) × (d ≡ e)) ⊎ ((inCache c k ≡ some d) × (e .what ≡ d .what → ⊥))
+  -- A place holds the new reply, or what it held, which has another key.
+  pub filled-place : (k : ℕ) (d : Cached) → inCache (filledWith e c) k ≡ some d → ((k ≡ taken) × (d ≡ e)) ⊎ ((inCache c k ≡ some d) × (k ≡ taken → ⊥) × (e .what ≡ d .what → ⊥))
   filled-place k d h =
       let f = filled-exactly e c s self in
       ⊎-elim
@@ -327,7 +345,7 @@ module _ (e : Cached) (c : Cache) (s : Sorted c) (self : equalReads (e .what) (e
       (λ (q : k ≡ taken → ⊥).
       let there = sym (f .1 k q) ∙ h in
       let low : k < 64 = ⊎-elim (λ l. l) (λ (l : 64 ≤ k). absurd (Option·none-ne-some d (sym (List·getD-eq-default c none (rw (s .long) l)) ∙ there))) (lt-or k 64) in
-      inr (there, λ z. q (sym (taken-exactly c s (e .filled) (e .what) self k low .1 (own (d, there, sym z))))))
+      inr (there, q, λ z. q (sym (taken-exactly c s (e .filled) (e .what) self k low .1 (own (d, there, sym z))))))
       (eq-or k taken)
 
   pub filled-sorted : Sorted (filledWith e c)
@@ -337,7 +355,7 @@ module _ (e : Cached) (c : Cache) (s : Sorted c) (self : equalReads (e .what) (e
     reads = λ k d h. ⊎-elim (λ q. rw (q .1) self) (λ q. s .reads k d (q .0)) (filled-place k d h);
     once =
         λ j k a b h g z. ⊎-elim
-        (λ q. ⊎-elim (λ p. q .0 ∙ sym (p .0)) (λ p. absurd (p .1 (sym (ap (λ (x : Cached). x .what) (q .1)) ∙ z))) (filled-place k b g))
-        (λ q. ⊎-elim (λ p. absurd (q .1 (sym (z ∙ ap (λ (x : Cached). x .what) (p .1))))) (λ p. s .once j k a b (q .0) (p .0) z) (filled-place k b g))
+        (λ q. ⊎-elim (λ p. q .0 ∙ sym (p .0)) (λ p. absurd (p .2 (sym (ap (λ (x : Cached). x .what) (q .1)) ∙ z))) (filled-place k b g))
+        (λ q. ⊎-elim (λ p. absurd (q .2 (sym (z ∙ ap (λ (x : Cached). x .what) (p .1))))) (λ p. s .once j k a b (q .0) (p .0) z) (filled-place k b g))
         (filled-place j a h);
   }

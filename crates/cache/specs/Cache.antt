@@ -6,14 +6,11 @@ use mathlib.Core.Option.{Option, some, none}
 use mathlib.Core.List.{List, map}
 use lib.ListN.{getD, set, replicate}
 use lib.Dec.{ltb}
+use Rattle.numbers.specs.Numbers.{cachePlaces}
 use Rattle.laws.specs.Search.{best}
 use Rattle.pdu.specs.Replies.{What}
 use Rattle.pdu.specs.Spoiling.{spoils}
 use Rattle.pdu.specs.Reads.{equalReads}
-
--- 64 places
-abbrev pub cachePlaces : ℕ
-cachePlaces = 64
 
 -- a cached reply: the read that it answered, which is its key; when it came and for how long it is good; its raw counts, and its rewritten frame with id bytes 00 00
 pub record Cached : Type 0 where

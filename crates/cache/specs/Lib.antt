@@ -1,2 +1,3 @@
 pub mod Cache
+pub mod Life
 pub mod Plain

@@ -22,7 +22,7 @@ use Rattle.pdu.specs.Words.{whatOf}
 use Rattle.pdu.proofs.ReplyLaws.{excepts-exact, answers-exact, answering-room}
 use Rattle.cache.specs.Cache.{takenPlace, filledWith}
 use Rattle.cache.proofs.CacheLaws.{taken-low, filled-sorted}
-use Rattle.caching.specs.Kept.{wordAt, timeAt, bytesOf, replyTo, cached, cachedAt, cacheOf, Key, Fills, SoundCache}
+use Rattle.caching.specs.Kept.{wordAt, timeAt, boundIn, boundOver, bytesOf, replyTo, cached, cachedAt, cacheOf, Key, Fills, SoundCache, storedAt}
 use Rattle.caching.proofs.KeptLaws.{key-asks, key-reads, key-bytes, word-there}
 
 -- PARTS OF A BUFFER
@@ -105,32 +105,42 @@ module _ (word : ℕ) (key : Key word) (f : List ℕ) (fills : Fills (whatOf wor
 pub taken-below : (cache shown : List ℕ) → SoundCache cache shown → (word time : ℕ) → Key word → takenPlace time (whatOf word) (cacheOf cache shown) < 64
 taken-below cache shown s word time key = taken-low (cacheOf cache shown) (s .sorted) time (whatOf word) (key-reads word key)
 
--- three numbers are stored, and bytes are laid from 256 times the place on
+-- three numbers are stored, the bound is raised, and bytes are laid from 256 times the place on
 module _ (cache shown : List ℕ) (s : SoundCache cache shown) (p word time life value : ℕ) (l : p < 64) (key : Key word) (short : life < 65536) (few : value < 4294967296) where
-  abbrev numbers : List ℕ
-  numbers = set (set (set cache p word) (64 + p) time) (128 + p) (value * 65536 + life)
+  abbrev raised : List ℕ
+  raised = set cache 192 (boundOver cache p)
 
-  -- a number that is none of the three
-  stays : (i : ℕ) → (i ≡ p → ⊥) → (i ≡ 64 + p → ⊥) → (i ≡ 128 + p → ⊥) → getD numbers i 0 ≡ getD cache i 0
-  stays i a b d =
-      getD-set-other (set (set cache p word) (64 + p) time) (128 + p) i _ 0 d
-      ∙ getD-set-other (set cache p word) (64 + p) i time 0 b
-      ∙ getD-set-other cache p i word 0 a
+  abbrev numbers : List ℕ
+  numbers = storedAt p word time (value * 65536 + life) cache
+
+  -- a number that is none of the four
+  stays : (i : ℕ) → (i ≡ p → ⊥) → (i ≡ 64 + p → ⊥) → (i ≡ 128 + p → ⊥) → (i ≡ 192 → ⊥) → getD numbers i 0 ≡ getD cache i 0
+  stays i a b d e =
+      getD-set-other (set (set raised p word) (64 + p) time) (128 + p) i _ 0 d
+      ∙ getD-set-other (set raised p word) (64 + p) i time 0 b
+      ∙ getD-set-other raised p i word 0 a
+      ∙ getD-set-other cache 192 i _ 0 e
 
   word-here : wordAt numbers p ≡ word
   word-here =
-      getD-set-other (set (set cache p word) (64 + p) time) (128 + p) p _ 0 (λ z. omega arith)
-      ∙ getD-set-other (set cache p word) (64 + p) p time 0 (λ z. omega arith)
-      ∙ getD-set-same cache p word 0 (omega (arith, s .long))
+      getD-set-other (set (set raised p word) (64 + p) time) (128 + p) p _ 0 (λ z. omega arith)
+      ∙ getD-set-other (set raised p word) (64 + p) p time 0 (λ z. omega arith)
+      ∙ getD-set-same raised p word 0 (rw (length-set cache 192 _) (omega (arith, s .long)))
 
   time-here : timeAt numbers p ≡ time
   time-here =
-      getD-set-other (set (set cache p word) (64 + p) time) (128 + p) (64 + p) _ 0 (λ z. omega arith)
-      ∙ getD-set-same (set cache p word) (64 + p) time 0 (rw (length-set cache p word) (omega (arith, s .long)))
+      getD-set-other (set (set raised p word) (64 + p) time) (128 + p) (64 + p) _ 0 (λ z. omega arith)
+      ∙ getD-set-same (set raised p word) (64 + p) time 0 (simp length-set (omega (arith, s .long)))
 
   count-here : getD numbers (128 + p) 0 ≡ value * 65536 + life
-  count-here =
-      getD-set-same (set (set cache p word) (64 + p) time) (128 + p) _ 0 (rw (length-set (set cache p word) (64 + p) time, length-set cache p word) (omega (arith, s .long)))
+  count-here = getD-set-same (set (set raised p word) (64 + p) time) (128 + p) _ 0 (simp length-set (omega (arith, s .long)))
+
+  bound-here : boundIn numbers ≡ boundOver cache p
+  bound-here =
+      getD-set-other (set (set raised p word) (64 + p) time) (128 + p) 192 _ 0 (λ z. omega arith)
+      ∙ getD-set-other (set raised p word) (64 + p) 192 time 0 (λ z. omega arith)
+      ∙ getD-set-other raised p 192 word 0 (λ z. omega arith)
+      ∙ getD-set-same cache 192 _ 0 (omega (arith, s .long))
 
   module _ (f : List ℕ) (fills : Fills (whatOf word) f) where
     abbrev bytes : List ℕ
@@ -155,7 +165,7 @@ module _ (cache shown : List ℕ) (s : SoundCache cache shown) (p word time life
 
     held-other : (k : ℕ) → k < 64 → (k ≡ p → ⊥) → cachedAt numbers bytes k ≡ cachedAt cache shown k
     held-other k m ne =
-        rw (stays k ne (λ z. omega arith) (λ z. omega arith), stays (64 + k) (λ z. omega arith) (λ z. omega (arith, ne)) (λ z. omega arith), stays (128 + k) (λ z. omega arith) (λ z. omega arith) (λ z. omega (arith, ne)))
+        rw (stays k ne (λ z. omega arith) (λ z. omega arith) (λ z. omega arith), stays (64 + k) (λ z. omega arith) (λ z. omega (arith, ne)) (λ z. omega arith) (λ z. omega arith), stays (128 + k) (λ z. omega arith) (λ z. omega arith) (λ z. omega (arith, ne)) (λ z. omega arith))
         (⊎-elim
         (λ (t : eqb (wordAt cache k) 0 ≡ true). rw t)
         (λ (t : eqb (wordAt cache k) 0 ≡ false).
@@ -175,13 +185,19 @@ module _ (cache shown : List ℕ) (s : SoundCache cache shown) (p word time life
       filled-sound low = record {
         long = simp length-set (s .long);
         bytes = record { long = length-overAt (drop 9 f) (256 * p) shown room ∙ s .bytes .long; low = low };
+        bounded = record {
+          low = rw bound-here (omega (arith, s .bounded .low));
+          above = λ k b m.
+              let h : boundOver cache p ≤ k = rw bound-here at b in
+              stays k (λ z. omega arith) (λ z. omega arith) (λ z. omega arith) (λ z. omega arith) ∙ s .bounded .above k (omega arith) m;
+        };
         keys = λ k m. ⊎-elim
             (λ (q : k ≡ p). rw (q, word-here) (λ there. key))
-            (λ (q : k ≡ p → ⊥). rw (stays k q (λ z. omega arith) (λ z. omega arith)) (s .keys k m))
+            (λ (q : k ≡ p → ⊥). rw (stays k q (λ z. omega arith) (λ z. omega arith) (λ z. omega arith)) (s .keys k m))
             (eq-or k p);
         counts = λ k m. ⊎-elim
             (λ (q : k ≡ p). rw (q, count-here) (omega arith))
-            (λ (q : k ≡ p → ⊥). rw (stays (128 + k) (λ z. omega arith) (λ z. omega arith) (λ z. omega (arith, q))) (s .counts k m))
+            (λ (q : k ≡ p → ⊥). rw (stays (128 + k) (λ z. omega arith) (λ z. omega arith) (λ z. omega (arith, q)) (λ z. omega arith)) (s .counts k m))
             (eq-or k p);
         sorted = rw filled-cache (filled-sorted _ (cacheOf cache shown) (s .sorted) (key-reads word key));
       }

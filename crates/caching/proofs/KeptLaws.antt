@@ -12,7 +12,7 @@ use borrow.Author.Tests.{eq-eqb, ne-eqb, eqb-true, eqb-false, lt-ltb, le-ltb}
 use Rattle.laws.specs.Search.{best}
 use Rattle.laws.proofs.Choice.{true-or, lt-or, or-left, same-test}
 use Rattle.laws.proofs.ListLaws.{getD-tab}
-use Rattle.laws.proofs.SearchLaws.{best-wins, best-stays, best-ext, best-some, best-none}
+use Rattle.laws.proofs.SearchLaws.{best-wins, best-stays, best-ext, best-some, best-none, best-nothing, best-cut, first-cut}
 use Rattle.pdu.specs.Reads.{equalReads}
 use Rattle.pdu.specs.Words.{askedFrom, wordOf, whatOf, Lawful}
 use Rattle.pdu.specs.declared.Table.the-variants.{Registers}
@@ -21,7 +21,7 @@ use Rattle.pdu.proofs.RequestLaws.{class-read, known}
 use Rattle.pdu.proofs.ReadLaws.{equal-exact, equal-self}
 use Rattle.cache.specs.Cache.{inCache, hasKey, isFresh, hitPlace, ownPlace, sparePlace, oldestPlace, takenPlace}
 use Rattle.cache.proofs.CacheLaws.{hit-is-own}
-use Rattle.caching.specs.Kept.{wordAt, timeAt, bytesOf, cachedAt, cacheOf, Word, Key, SoundCache, hasWord, lasts, isSpare, isEarlier}
+use Rattle.caching.specs.Kept.{wordAt, timeAt, boundIn, bytesOf, cachedAt, cacheOf, Word, Key, Bounded, SoundCache, hasWord, lasts, isSpare, isEarlier}
 
 -- WHAT A KEY IS
 
@@ -78,9 +78,16 @@ module _ (cache shown : List ℕ) (s : SoundCache cache shown) where
 
   -- THE SEARCHES
 
-  own-found : (word : ℕ) → Word word → best (hasWord cache word) (λ j k. false) 64 64 ≡ ownPlace (whatOf word) (cacheOf cache shown)
+  -- no place from the bound on has the word of something that may be asked
+  own-below : (word : ℕ) → Word word → best (hasWord cache word) (λ j k. false) 64 64 ≡ best (hasWord cache word) (λ j k. false) 64 (boundIn cache)
+  own-below word w =
+      best-cut (hasWord cache word) (λ j k. false) 64 (boundIn cache) 64 (s .bounded .low)
+      (λ k b l. ne-eqb (wordAt cache k) word (λ z. word-there word w (sym z ∙ s .bounded .above k b l)))
+
+  own-found : (word : ℕ) → Word word → best (hasWord cache word) (λ j k. false) 64 (boundIn cache) ≡ ownPlace (whatOf word) (cacheOf cache shown)
   own-found word w =
-      best-ext _ _ (λ j k. false) (λ j k. false) 64 64
+      sym (own-below word w)
+      ∙ best-ext _ _ (λ j k. false) (λ j k. false) 64 64
       (λ k l. sym (rw (place-at cache shown k l) (same-key word w k l)))
       (λ j k l m t u. refl)
 
@@ -101,35 +108,42 @@ module _ (cache shown : List ℕ) (s : SoundCache cache shown) where
       there k l = or-left _ _ (best-none (isSpare cache time) (λ j k. false) 64 full k l)
 
   -- A request is hit at the place that has its word, if less than the life of what stands there has gone by.
-  pub hit-found : (word time own : ℕ) → Word word → own ≡ best (hasWord cache word) (λ j k. false) 64 64
+  pub hit-found : (word time own : ℕ) → Word word → own ≡ best (hasWord cache word) (λ j k. false) 64 (boundIn cache)
       → hitPlace time (whatOf word) (cacheOf cache shown) ≡ cond (ltb own 64 && lasts cache time own) own 64
   hit-found word time own w e =
       let q : ownPlace (whatOf word) (cacheOf cache shown) ≡ own = sym (e ∙ own-found word w) in
+      let f = e ∙ sym (own-below word w) in
       hit-is-own (cacheOf cache shown) (s .sorted) time (whatOf word)
       ∙ rw q
       (⊎-elim
       (λ (l : own < 64).
-      let has : eqb (wordAt cache own) word ≡ true = rw (← e) at (best-some (hasWord cache word) (λ j k. false) 64 (rw (← e) l)) in
+      let has : eqb (wordAt cache own) word ≡ true = rw (← f) at (best-some (hasWord cache word) (λ j k. false) 64 (rw (← f) l)) in
       rw (place-at cache shown own l, same-fresh time own, eqb-true (wordAt cache own) word has, ne-eqb word 0 (word-there word w)))
       (λ (l : 64 ≤ own). rw (le-ltb own 64 l))
       (lt-or own 64))
 
   -- A reply takes what the three searches find, the first of them first.
   module _ (word time : ℕ) (w : Word word) where
-    pub taken-own : {own : ℕ} → own ≡ best (hasWord cache word) (λ j k. false) 64 64 → own < 64 → own ≡ takenPlace time (whatOf word) (cacheOf cache shown)
+    pub taken-own : {own : ℕ} → own ≡ best (hasWord cache word) (λ j k. false) 64 (boundIn cache) → own < 64 → own ≡ takenPlace time (whatOf word) (cacheOf cache shown)
     unfolding takenPlace
     taken-own {own} e l = rw (← own-found word w, ← e, lt-ltb own 64 l)
 
-    pub taken-spare : {own spare : ℕ} → own ≡ best (hasWord cache word) (λ j k. false) 64 64 → 64 ≤ own → spare ≡ best (isSpare cache time) (λ j k. false) 64 64 → spare < 64
+    pub taken-spare : {own spare : ℕ} → own ≡ best (hasWord cache word) (λ j k. false) 64 (boundIn cache) → 64 ≤ own → spare ≡ best (isSpare cache time) (λ j k. false) 64 64 → spare < 64
         → spare ≡ takenPlace time (whatOf word) (cacheOf cache shown)
     unfolding takenPlace
     taken-spare {own} {spare} e l f m = rw (← own-found word w, ← e, le-ltb own 64 l, ← spare-found time, ← f, lt-ltb spare 64 m)
 
-    pub taken-oldest : {own spare oldest : ℕ} → own ≡ best (hasWord cache word) (λ j k. false) 64 64 → 64 ≤ own → spare ≡ best (isSpare cache time) (λ j k. false) 64 64 → 64 ≤ spare
+    pub taken-oldest : {own spare oldest : ℕ} → own ≡ best (hasWord cache word) (λ j k. false) 64 (boundIn cache) → 64 ≤ own → spare ≡ best (isSpare cache time) (λ j k. false) 64 64 → 64 ≤ spare
         → oldest ≡ best (λ k. true) (isEarlier cache) 64 64 → oldest ≡ takenPlace time (whatOf word) (cacheOf cache shown)
     unfolding takenPlace
     taken-oldest {own} {spare} e l f m g =
         rw (← own-found word w, ← e, le-ltb own 64 l, ← spare-found time, ← f, le-ltb spare 64 m) (g ∙ oldest-found time (rw (← f) m))
+
+-- Where no place below the bound is empty or expired, the bound is the lowest that is empty, or there is none.
+pub spare-bound : (cache : List ℕ) (time : ℕ) → Bounded cache → ((k : ℕ) → k < boundIn cache → isSpare cache time k ≡ false) → boundIn cache ≡ best (isSpare cache time) (λ j k. false) 64 64
+spare-bound cache time b none-below =
+    sym (first-cut (isSpare cache time) (boundIn cache) 64 (b .low) (λ k m l. rw (b .above k m l))
+    ∙ best-nothing (isSpare cache time) (λ j k. false) (boundIn cache) (boundIn cache) none-below)
 
 -- A turn of the search for the oldest: a place that was filled earlier than what was found, or not.
 pub oldest-turn : (cache : List ℕ) (k found : ℕ) {r : ℕ} → k < 64 → found < k → found ≡ best (λ k. true) (isEarlier cache) 64 k

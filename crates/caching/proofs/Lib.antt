@@ -3,3 +3,4 @@ pub mod DropLaws
 pub mod FillLaws
 pub mod ShowLaws
 pub mod PlainLaws
+pub mod LivesLaws

@@ -1,6 +1,6 @@
 -- The columns in plain numbers: their sizes, which places are empty, and what stands at the others.
 -- Assumes nothing.
-use Prim.Native.Nat.{ℕ, _+_, _*_, _/_, _%_, _<_}
+use Prim.Native.Nat.{ℕ, _+_, _*_, _/_, _%_, _≤_, _<_}
 use mathlib.Core.Path.{_≡_, refl, sym, _∙_, subst}
 use mathlib.Core.Logic.{_↔_, ⊎-elim}
 use mathlib.Core.Bool.{true, false}
@@ -18,8 +18,8 @@ use Rattle.caching.specs.Plain.{Stored}
 use Rattle.caching.proofs.KeptLaws.{key-bytes, place-at}
 use Rattle.caching.proofs.ShowLaws.{stands-held, stands-key}
 
--- Three numbers and 256 bytes for each of 64 places.
-pub sizes : (cache shown : List ℕ) → SoundCache cache shown → (length cache ≡ 3 * 64) × (length shown ≡ 256 * 64) × ((k : ℕ) → getD shown k 0 < 256)
+-- Three numbers and 256 bytes for each of 64 places, and the bound.
+pub sizes : (cache shown : List ℕ) → SoundCache cache shown → (length cache ≡ 3 * 64 + 1) × (length shown ≡ 256 * 64) × ((k : ℕ) → getD shown k 0 < 256)
 sizes cache shown s = (s .long, s .bytes .long, s .bytes .low)
 
 -- A place is empty exactly if its first number is 0.
@@ -30,6 +30,10 @@ empty-exactly cache shown k l =
     (λ (t : eqb (wordAt cache k) 0 ≡ true). rw t (λ h. eqb-true _ _ t, λ h. refl))
     (λ (t : eqb (wordAt cache k) 0 ≡ false). rw t (λ h. absurd (Option·none-ne-some _ (sym h)), λ h. absurd (eqb-false _ _ t h)))
     (true-or (eqb (wordAt cache k) 0)))
+
+-- No place from the bound on holds anything.
+pub empty-above : (cache shown : List ℕ) → SoundCache cache shown → (getD cache 192 0 ≤ 64) × ((k : ℕ) → getD cache 192 0 ≤ k → k < 64 → inCache (cacheOf cache shown) k ≡ none)
+empty-above cache shown s = (s .bounded .low, λ k b l. empty-exactly cache shown k l .1 (s .bounded .above k b l))
 
 -- What stands at a place is stored so.
 pub stored : (cache shown : List ℕ) → SoundCache cache shown → (k : ℕ) (e : Cached) → k < 64 → inCache (cacheOf cache shown) k ≡ some e → Stored cache shown k e

@@ -1,13 +1,14 @@
 -- The cache that two columns are, and what every call keeps of them.
 -- Assumes nothing.
-use Prim.Native.Nat.{ℕ, _+_, _*_, _-_, _/_, _%_, _<_}
+use Prim.Native.Nat.{ℕ, _+_, _*_, _-_, _/_, _%_, _≤_, _<_, max}
 use mathlib.Core.Path.{_≡_}
 use mathlib.Core.Logic.{_⊎_}
 use mathlib.Core.Bool.{Bool, true, false, cond, not, _||_}
 use mathlib.Core.Option.{Option, some, none}
 use mathlib.Core.List.{List, [], _∷_, _++_}
-use lib.ListN.{length, getD, take, drop}
+use lib.ListN.{length, getD, set, take, drop}
 use lib.Dec.{eqb, ltb}
+use Rattle.numbers.specs.Numbers.{cachePlaces, cacheNumbers, cacheBytes}
 use Rattle.laws.specs.Bytes.{pairOf}
 use Rattle.laws.specs.Lists.{tab}
 use Rattle.wire.specs.Frame.{misframed}
@@ -17,21 +18,25 @@ use Rattle.pdu.specs.Spoiling.{spoils}
 use Rattle.pdu.specs.Words.{wordOf, whatOf, Proper}
 use Rattle.pdu.specs.declared.Asked.{Asked}
 use Rattle.pdu.specs.declared.Asked.the-variants.{Read, SingleWrite, MultipleWrite, Other}
-use Rattle.cache.specs.Cache.{Cached, Cache, cachePlaces, droppedBy}
+use Rattle.cache.specs.Cache.{Cached, Cache, droppedBy}
 use Rattle.cache.specs.Plain.{Sorted}
 
--- `cache` is three blocks of 64 numbers: the word of what was asked, 0 for an empty place; the time of filling; the life, and 65,536 times how many tags were raw for value
+-- `cache` is three blocks of 64 numbers: the word of what was asked, 0 for an empty place; the time of filling; the life, and 65,536 times how many tags were raw for value. Behind them stands the bound: no
+-- place from there on holds anything
 abbrev pub wordAt : List ℕ → ℕ → ℕ
 wordAt cache k = getD cache k 0
 
 abbrev pub timeAt : List ℕ → ℕ → ℕ
-timeAt cache k = getD cache (64 + k) 0
+timeAt cache k = getD cache (cachePlaces + k) 0
 
 abbrev pub lifeAt : List ℕ → ℕ → ℕ
-lifeAt cache k = getD cache (128 + k) 0 % 65536
+lifeAt cache k = getD cache (2 * cachePlaces + k) 0 % 65536
 
 abbrev pub valueAt : List ℕ → ℕ → ℕ
-valueAt cache k = getD cache (128 + k) 0 / 65536
+valueAt cache k = getD cache (2 * cachePlaces + k) 0 / 65536
+
+abbrev pub boundIn : List ℕ → ℕ
+boundIn cache = getD cache (3 * cachePlaces) 0
 
 -- how many bytes of a reply to a read are behind its byte count
 abbrev pub bytesOf : Asked → ℕ
@@ -85,16 +90,31 @@ pub record Fills (w : What) (f : List ℕ) : Type 0 where
 
 -- what may stand in `shown`
 pub record Bytes (shown : List ℕ) : Type 0 where
-  pub long : length shown ≡ 16384
+  pub long : length shown ≡ cacheBytes
   pub low : (k : ℕ) → getD shown k 0 < 256
 
--- what every call keeps: the columns have their lengths, a word is 0 or a key, counts fit 32 bits, and the cache is sorted
+-- the bound is right
+pub record Bounded (cache : List ℕ) : Type 0 where
+  pub low : boundIn cache ≤ cachePlaces
+  pub above : (k : ℕ) → boundIn cache ≤ k → k < cachePlaces → wordAt cache k ≡ 0
+
+-- what every call keeps: the columns have their lengths, the bound is right, a word is 0 or a key, counts fit 32 bits, and the cache is sorted
 pub record SoundCache (cache shown : List ℕ) : Type 0 where
-  pub long : length cache ≡ 192
+  pub long : length cache ≡ cacheNumbers
   pub bytes : Bytes shown
-  pub keys : (k : ℕ) → k < 64 → (wordAt cache k ≡ 0 → ⊥) → Key (wordAt cache k)
-  pub counts : (k : ℕ) → k < 64 → valueAt cache k < 4294967296
+  pub bounded : Bounded cache
+  pub keys : (k : ℕ) → k < cachePlaces → (wordAt cache k ≡ 0 → ⊥) → Key (wordAt cache k)
+  pub counts : (k : ℕ) → k < cachePlaces → valueAt cache k < 4294967296
   pub sorted : Sorted (cacheOf cache shown)
+
+-- the bound once something stands at the place p; three numbers stored there, and the bound raised
+abbrev pub boundOver : List ℕ → ℕ → ℕ
+boundOver cache p = max (boundIn cache) (p + 1)
+
+abbrev pub storedAt : (place word time counted : ℕ) → List ℕ → List ℕ
+storedAt p word time counted cache =
+    set (set (set (set cache (3 * cachePlaces) (boundOver cache p)) p word) (cachePlaces + p) time)
+    (2 * cachePlaces + p) counted
 
 -- THE TESTS BY WHICH THE CODE PICKS A PLACE
 

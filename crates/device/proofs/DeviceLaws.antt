@@ -14,7 +14,7 @@ use Rattle.table.specs.inner.Changes.{Runs}
 use Rattle.table.specs.inner.Places.{isTaken}
 use Rattle.table.proofs.EntryLaws.{runs-of}
 use Rattle.table.proofs.FindLaws.{next-time, next-live}
-use Rattle.proxy.specs.State.{State, valueIn}
+use Rattle.proxy.specs.State.{State, valueIn, machineOf}
 use Rattle.proxy.proofs.MakingLaws.{zeros-sound}
 use Rattle.device.specs.declared.Device.{Device}
 use Rattle.device.specs.Fields.{device, stateOf, zeros, stateSize}
@@ -34,14 +34,15 @@ pub awaited : (d : Device) → MadeDevice d → {n : NextDeadline}
 awaited d made found =
     let s = stateOf d in
     let v = valueIn (s .settings) in
-    rw (found .0 ∙ next-time v _ (s .cursor) (s .clock) (made .table) (s .attached), found .1 ∙ next-live v _ (s .cursor) (s .clock) (made .table) (s .attached))
+    let h = machineOf s .cache in
+    rw (found .0 ∙ next-time v _ (s .cursor) (s .clock) (made .table) (s .attached) h, found .1 ∙ next-live v _ (s .cursor) (s .clock) (made .table) (s .attached) h)
 
 -- A host that forgets to make its device fresh has a sound one, to which nobody is attached.
 pub zeros-made : MadeDevice zeros × ((client : ℕ) → has (zeros .attached) client ≡ false)
 zeros-made = zeros-sound
 
--- A device in memory has 32,296 bytes, and that is the size that a host is told.
-pub state-size : (size mir ≡ 32296) × (stateSize ≡ 32296)
+-- A device in memory has 50,224 bytes, and that is the size that a host is told.
+pub state-size : (size mir ≡ 50224) × (stateSize ≡ 50224)
 state-size = (refl, refl)
 
 -- the device whose state it is: stateOf read backwards
@@ -50,7 +51,7 @@ deviceOf s =
     let t = s .table in
     let k = s .settings in
     device (t .ids) (t .asked) (t .callers) (t .deadlines) (t .counts) (t .clients) (t .originals) (t .top) (s .cursor) (s .attached) (s .clock) (k .timeout) (k .join)
-    (k .tagCount) (k .tagWords)
+    (k .tagCount) (k .tagWords) (s .cache) (s .shown)
 
 -- Two devices of one state are one device, field by field.
 pub same-device : (d e : Device) → stateOf d ≡ stateOf e → d ≡ e

@@ -20,10 +20,12 @@ pub struct Device {
     pub join: u32,
     pub tag_count: u32,
     pub tag_words: [u64; numbers::MOST_TAGS],
+    pub cache: [u64; numbers::CACHE_NUMBERS],
+    pub shown: [u8; numbers::CACHE_BYTES],
 }
 
 // The fields lie in their order, each at a multiple of its element's size.
-const STATE_SIZE: usize = 32296;
+const STATE_SIZE: usize = 50224;
 
 // How many bytes a device has.
 pub fn size() -> usize

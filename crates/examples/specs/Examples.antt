@@ -20,20 +20,21 @@ use Rattle.pdu.specs.Reads.{sameRead, equalReads}
 use Rattle.rewrite.specs.Registers.{registersAt, laidAt}
 use Rattle.rewrite.specs.Rewriting.{turned, verdict, laidBy, rewrittenFrom, partials, values, rewriting}
 use Rattle.rewrite.specs.Frames.{forwarded, reencoded, returnedBy, returned}
+use Rattle.cache.specs.Cache.{keptFrom, droppedBy}
 use Rattle.book.specs.Book.{liveIn}
 use Rattle.machine.specs.Machine.{Machine, made}
 use Rattle.machine.specs.Calls.{Call, Outcome, outOf, listOf}
 use Rattle.machine.specs.Calls.Call.{attach, request, reply, tick}
 use Rattle.machine.specs.Refusals.{rows, lowest}
-use Rattle.machine.specs.Requests.{alike, joins, closing, exhausted, excepted, joinedTo, issuedTo, served, admitted}
+use Rattle.machine.specs.Requests.{alike, joins, closing, exhausted, excepted, hitOn, joinedTo, issuedTo, missed, served, admitted}
 use Rattle.machine.specs.Replies.{answeredTo, answered, expiredTo, ticked}
 use Rattle.machine.specs.Outcomes.{granted, outcome}
 use Rattle.machine.specs.declared.Answer.{Answer}
 use Rattle.machine.specs.declared.Answer.the-variants.{Issued, Joined, Answered, TimedOut, NothingDue, Done as Finished}
 
--- the document's settings: timeout 3000, join 1, a tag of width 16 at 1,024 and one of width 32 at 1,026, both without a sign
+-- the document's settings: timeout 3000, join 1, a tag of width 16 at 1,024 and one of width 32 at 1,026, both without a sign and a ttl
 abbrev pub tag : ℕ → ℕ → Tag
-tag a w = record { address = a; width = w; sign = 0 }
+tag a w = record { address = a; width = w; sign = 0; ttl = 0 }
 
 abbrev pub site : Value
 site = record { timeout = 3000; join = 1; tags = tag 1024 16 ∷ tag 1026 32 ∷ [] }
@@ -81,7 +82,7 @@ whole e =
 
 -- what it comes to by the definitions, all of which are computed with where this one is
 unfoldable pub shown : Example → Given
-unfolding played outcome granted rows lowest admitted served exhausted excepted joinedTo issuedTo sameTable meets spoils sameRead equalReads alike joins closing answered answeredTo ticked expiredTo outOf listOf
+unfolding played outcome granted rows lowest admitted served missed exhausted excepted hitOn joinedTo issuedTo sameTable meets spoils sameRead equalReads keptFrom droppedBy alike joins closing answered answeredTo ticked expiredTo outOf listOf
     forwarded reencoded returned returnedBy rewriting partials values rewrittenFrom laidBy verdict turned registersAt laidAt filter tab best first with
     digits value below packed unpacked decimal encodedDigits decodedDigits registers encoded decoded wordsOf numberOf kindOf
     classOf badFunction badLength badValue badAddress askedBy faultOf shaped answering misframed exception liveIn flatMap

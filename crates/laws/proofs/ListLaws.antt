@@ -1,15 +1,15 @@
--- Lists made by a rule, and the fronts of lists.
+-- Lists made by a rule, the fronts of lists, and what holds of each element with those before it.
 -- Assumes nothing.
 use Prim.Native.Nat.{ℕ, zero, suc, _+_, _-_, _≤_, _<_}
-use mathlib.Core.Path.{_≡_, refl, ap, sym, _∙_}
-use mathlib.Core.Logic.{⊎-elim}
+use mathlib.Core.Path.{_≡_, refl, ap, sym, _∙_, subst₂}
+use mathlib.Core.Logic.{⊎-elim, _⊎_, inl, inr}
 use mathlib.Core.List.{List, [], _∷_, _++_, map, map-append, flatMap, append-assoc, append-nil}
 use native.Mathlib.Numerals.{add-one}
 use native.Mathlib.Omega.{arith}
 use lib.ListN.{length, getD, set, take, drop, replicate, length-append, length-replicate, getD-replicate, replicate-append-replicate, List·getD-append, List·getD-eq-default}
 use lib.Seq.{set-at, set-append-left, getD-at, take-append-seam, drop-append-seam, set-append-seam, ext-getD}
 use Rattle.laws.specs.Lists.{tab}
-use Rattle.laws.proofs.Choice.{eq-or, lt-or}
+use Rattle.laws.proofs.Choice.{eq-or, lt-or, never}
 
 module _ {A : Type 0} where
   pub tab-ext : (n : ℕ) (f g : ℕ → A) → ((j : ℕ) → j < n → f j ≡ g j) → tab n f ≡ tab n g
@@ -135,3 +135,29 @@ grown P start more xs = go [] xs start
     go : (ys xs : List _) → P ys → P (ys ++ xs)
     go ys [] h = rw (append-nil ys) h
     go ys (x ∷ xs) h = rw (append-assoc ys (x ∷ []) xs) at (go (ys ++ (x ∷ [])) xs (more ys x h))
+
+-- EACH ELEMENT OF A LIST, with those before it
+
+-- Of a list that is split at two elements: the first stands before the second, they are one, or it stands behind it.
+pub splits : {A : Type 0} (xs : List A) (a : A) (ys us : List A) (b : A) (ws : List A) → xs ++ a ∷ ys ≡ us ++ b ∷ ws
+    → ((mid : List A) × (us ≡ xs ++ a ∷ mid) × (ys ≡ mid ++ b ∷ ws)) ⊎ (((xs ≡ us) × (a ≡ b)) ⊎ ((mid : List A) × (xs ≡ us ++ b ∷ mid) × (ws ≡ mid ++ a ∷ ys)))
+splits [] a ys [] b ws e = inr (inl (refl, cc))
+splits [] a ys (u ∷ us) b ws e = let h : u ≡ a = cc in inl (us, ap (_∷ us) h, cc)
+splits (x ∷ xs) a ys [] b ws e = let h : x ≡ b = cc in inr (inr (xs, ap (_∷ xs) h, cc))
+splits (x ∷ xs) a ys (u ∷ us) b ws e =
+    let h : x ≡ u = cc in
+    let t : xs ++ a ∷ ys ≡ us ++ b ∷ ws = cc in
+    ⊎-elim
+    (λ w. inl (w .0, ap (u ∷_) (w .1) ∙ ap (_∷ (xs ++ a ∷ w .0)) (sym h), w .2))
+    (λ v. inr (⊎-elim (λ w. inl (ap (x ∷_) (w .0) ∙ ap (_∷ us) h, w .1)) (λ w. inr (w .0, ap (x ∷_) (w .1) ∙ ap (_∷ (us ++ b ∷ w .0)) h, w .2)) v))
+    (splits xs a ys us b ws t)
+
+-- No elements are split at none; what holds of each element and those before it, and of one more, holds of each element of the longer list.
+pub each-none : {A : Type 0} (mid : List A) (y : A) (rest : List A) → [] ≡ mid ++ y ∷ rest → ⊥
+each-none [] y rest e = never (cc)
+each-none (m ∷ ms) y rest e = never (cc)
+
+pub each-more : {A : Type 0} (P : List A → A → Type 0) (xs : List A) (x : A) → ((mid : List A) (y : A) (rest : List A) → xs ≡ mid ++ y ∷ rest → P mid y) → P xs x
+    → (mid : List A) (y : A) (rest : List A) → xs ++ (x ∷ []) ≡ mid ++ y ∷ rest → P mid y
+each-more P xs x h p mid y rest e =
+    ⊎-elim (λ w. absurd (each-none (w .0) y rest (w .2))) (⊎-elim (λ w. subst₂ P (w .0) (w .1) p) (λ w. h mid y (w .0) (w .1))) (splits xs x [] mid y rest e)

@@ -13,7 +13,7 @@ use borrow.Author.Tests.{not-false}
 use Rattle.numbers.specs.Numbers.{places, noResponse}
 use Rattle.laws.specs.Bytes.{over}
 use Rattle.laws.proofs.Choice.{eq-or, lt-or}
-use Rattle.wire.specs.Frame.{idOf, laid, exception}
+use Rattle.wire.specs.Frame.{misframed, idOf, laid, exception}
 use Rattle.settings.specs.Grammar.{Tag}
 use Rattle.pdu.specs.Replies.{What, answering, excepts}
 use Rattle.pdu.specs.declared.Table.the-variants.{Registers}
@@ -49,6 +49,23 @@ use Rattle.machine.proofs.Follows.{same-entry}
 matched : (f : List ℕ) (q : Option (Live What Note)) (e : Live What Note) → isMismatched f q ≡ false → q ≡ some e → answering (e .what) f ≡ true
 matched f q e n h = not-false (answering (e .what) f) (sym (ap (isMismatched f) h) ∙ n)
 
+-- A reply that is not refused is a frame, and answers the entry under its id.
+pub reply-framed : (m : Machine) (t : ℕ) (f o l : List ℕ) → refusal m (reply t f o l) ≡ 0 → misframed f ≡ false
+unfolding rows
+reply-framed m t f o l h =
+    let a = none-applies _ 1 _ (λ z. omega arith) h in
+    let b = none-applies _ 3 _ (λ z. omega arith) (a .1) in
+    none-applies (misframed f) 4 _ (λ z. omega arith) (b .1) .0
+
+pub reply-matches : (m : Machine) (t : ℕ) (f o l : List ℕ) → refusal m (reply t f o l) ≡ 0 → (e : Live What Note) → entryFor m f ≡ some e → answering (e .what) f ≡ true
+unfolding rows
+reply-matches m t f o l h e there =
+    let a = none-applies _ 1 _ (λ z. omega arith) h in
+    let b = none-applies _ 3 _ (λ z. omega arith) (a .1) in
+    let c = none-applies _ 4 _ (λ z. omega arith) (b .1) in
+    let d = none-applies _ 7 _ (λ z. omega arith) (c .1) in
+    matched f (entryFor m f) e (none-applies (isMismatched f (entryFor m f)) 8 _ (λ z. omega arith) (d .1) .0) there
+
 answered-frame : (m : Machine) (k : ℕ) (f o l : List ℕ) (e : Live What Note)
     → (answeredTo m k f o l (some e) .written ≡ over (laid 0 (returned (settings m .tags) (e .what) f .bytes)) o) × (answeredTo m k f o l (some e) .listed ≡ over (pairs (e .parties)) l)
     × (answeredTo m k f o l (some e) .after .book .places ≡ set (m .book .places) k none)
@@ -73,18 +90,13 @@ emptied ps k e h = getD-set-same ps k none none (at-low ps k e h)
 
 -- A reply that is not refused hands the parties of its own entry the definition's rewriting of that reply, which answers what the entry holds.
 pub reply-answers : (m : Machine) (t : ℕ) (f o l : List ℕ) → Good rules (m .book) → refusal m (reply t f o l) ≡ 0 → Answers m f o l (outcome m (reply t f o l))
-unfolding granted rows answered
+unfolding granted answered
 reply-answers m t f o l g h =
-    let a = none-applies _ 1 _ (λ z. omega arith) h in
-    let b = none-applies _ 3 _ (λ z. omega arith) (a .1) in
-    let c = none-applies _ 4 _ (λ z. omega arith) (b .1) in
-    let d = none-applies _ 7 _ (λ z. omega arith) (c .1) in
-    let x = none-applies (isMismatched f (entryFor m f)) 8 _ (λ z. omega arith) (d .1) in
     let e = reply-finds m t f o l h in
     let k = idPlace rules (m .book) (idOf f) in
     let q : outcome m (reply t f o l) ≡ answeredTo (clocked m t) k f o l (some (e .0)) = granted-is m (reply t f o l) h ∙ ap (answeredTo (clocked m t) k f o l) (e .1) in
     let w = id-found rules (m .book) g (idOf f) (rw (g .long) at (at-low (m .book .places) k (e .0) (e .1))) in
-    let matches = matched f (entryFor m f) (e .0) (x .0) (e .1) in
+    let matches = reply-matches m t f o l h (e .0) (e .1) in
     let frame = ap (λ (y : Outcome). y .written) q ∙ answered-frame (clocked m t) k f o l (e .0) .0 in
     record {
       place = k;

@@ -1,4 +1,4 @@
--- What a request that is not refused comes to, in plain numbers and bytes: it is issued, it joins, or it gets an exception.
+-- What a request that is not refused comes to, in plain numbers and bytes: it is a hit, it is issued, it joins, or it gets an exception.
 -- Assumes nothing.
 use Prim.Native.Nat.{ℕ, _+_, _*_, _-_, _/_, _%_, _≤_, _<_}
 use mathlib.Core.Path.{_≡_, refl, ap, sym, _∙_}
@@ -13,7 +13,7 @@ use borrow.Author.Tests.{ltb-false}
 use Rattle.numbers.specs.Numbers.{places, frameBuffer, deviceFailure}
 use Rattle.laws.specs.Bytes.{over}
 use Rattle.laws.proofs.Choice.{eq-or, never}
-use Rattle.wire.specs.Frame.{laid, exception}
+use Rattle.wire.specs.Frame.{idOf, laid, exception}
 use Rattle.wire.proofs.FrameLaws.{framed, length-laid}
 use Rattle.settings.specs.Grammar.{Tag}
 use Rattle.pdu.specs.Requests.{askedOf, faultOf, checkedOf, legal}
@@ -31,6 +31,8 @@ use Rattle.rewrite.specs.Plain.{OfBits, Rewrites}
 use Rattle.rewrite.specs.Plain.OfBits.{coils-read, discrete-read, coil-written, coils-written}
 use Rattle.rewrite.proofs.FrameLaws.{length-forwarded, stands-under}
 use Rattle.rewrite.proofs.TurnedLaws.{stands-rewritten}
+use Rattle.cache.specs.Cache.{Cached, inCache}
+use Rattle.cache.proofs.CacheLaws.{dropped-exactly}
 use Rattle.book.specs.Book.{Live, Good, at, newEntry, marked}
 use Rattle.book.specs.Desk.{freePlace, freeId}
 use Rattle.book.proofs.PlaceLaws.{at-low}
@@ -39,16 +41,20 @@ use Rattle.machine.specs.Machine.{Machine, Note, opened, rules, settings
 use Rattle.machine.specs.Calls.{Outcome}
 use Rattle.machine.specs.Calls.Call.{request}
 use Rattle.machine.specs.Refusals.{refusal}
-use Rattle.machine.specs.Requests.{wanted, partyOf, closing, excepted, joinedTo, issuedTo}
+use Rattle.machine.specs.Requests.{wanted, partyOf, closing, excepted, hitOn, joinedTo, issuedTo}
 use Rattle.machine.specs.Outcomes.{outcome}
 use Rattle.machine.specs.Spelled.{spelled, asking}
+use Rattle.machine.specs.Cached.{NoHit}
 use Rattle.machine.specs.declared.Answer.the-variants as answer
-use Rattle.machine.specs.Requested.{MayJoin, NoneToJoin, Carries, Issues, Joins, Excepts}
+use Rattle.machine.specs.Requested.{MayJoin, NoneToJoin, Carries, Hits, Issues, Joins, Excepts}
 use Rattle.machine.specs.Requested.Carries.{single, multiple}
+use Rattle.machine.specs.Answered.{showing}
 use Rattle.machine.proofs.SpelledLaws.{party-spelled, asked-spelled, wanted-spelled}
 use Rattle.machine.proofs.OutcomeLaws.{clocked-at, not-refused}
-use Rattle.machine.proofs.RequestLaws.Comes.{faulty, joining, full, issuing}
+use Rattle.machine.proofs.RequestLaws.Comes.{faulty, hitting, joining, full, issuing}
 use Rattle.machine.proofs.RequestLaws.{Comes, comes, request-passes, fault-checked}
+use Rattle.machine.proofs.NumberLaws.{numbers-plainly}
+use Rattle.machine.proofs.CachedLaws.{Stocked}
 
 -- what carries registers, and that 01, 02, 05 and 15 carry none
 carrying : Asked → Bool
@@ -115,9 +121,9 @@ module _ (x : What → Note → Note) (ps : List (Option (Live What Note))) (k :
   marked-elsewhere : (j : ℕ) → (j ≡ k → ⊥) → getD (map (Option·map (marked x)) (set ps k (some e))) j none ≡ Option·map (marked x) (getD ps j none)
   marked-elsewhere j n = List·getD-map (Option·map (marked x)) (set ps k (some e)) j none ∙ ap (Option·map (marked x)) (getD-set-other ps k j (some e) none n)
 
--- THE THREE OUTCOMES
+-- THE FOUR OUTCOMES
 
-module _ (m : Machine) (c t : ℕ) (f o : List ℕ) (g : Good rules (m .book)) (h : refusal m (request c t f o) ≡ 0) where
+module _ (m : Machine) (c t : ℕ) (f o : List ℕ) (g : Good rules (m .book)) (s : Stocked (m .cache)) (h : refusal m (request c t f o) ≡ 0) where
   set-clock : clocked m t .book .clock ≡ t
   set-clock = clocked-at m (request c t f o) t h refl
 
@@ -128,9 +134,34 @@ module _ (m : Machine) (c t : ℕ) (f o : List ℕ) (g : Good rules (m .book)) (
       let b = ltb-false (length o) frameBuffer (p .0) in
       omega arith
 
-  issued-is : legal (settings m) f ≡ true → NoneToJoin m t f → freePlace rules (m .book) < places → Issues m c t f o (issuedTo (clocked m t) c f o)
+  hit-is : legal (settings m) f ≡ true → (k : ℕ) (e : Cached) → inCache (m .cache) k ≡ some e → e .what ≡ asking f → t - e .filled < e .life → Hits m c t f o (hitOn (clocked m t) f o (some e))
+  unfolding hitOn
+  hit-is is-legal k e there same young =
+      let room = fits-in in
+      let y = framed (e .bytes) (s .frames k e there .0) in
+      let size : length (laid (idOf f) (e .bytes)) ≡ length (e .bytes) = length-laid (idOf f) (e .bytes) (omega arith) in
+      record {
+        is-legal = is-legal;
+        place = k;
+        cached = e;
+        there = there;
+        same = same;
+        young = young;
+        says = refl;
+        report = numbers-plainly .hit _ _ _;
+        high = λ b. own-bytes (getD f 0 0) (getD f 1 0) 0 (b 1) (omega arith) .0;
+        low = λ b. own-bytes (getD f 0 0) (getD f 1 0) 0 (b 1) (omega arith) .1;
+        bytes = λ j a b. stands-under (idOf f) (e .bytes) o j a b;
+        behind = λ j b. over-behind (laid (idOf f) (e .bytes)) o j (omega arith);
+        size = over-size (laid (idOf f) (e .bytes)) o (omega arith);
+        frame = refl;
+        listed = refl;
+        after = ap (showing m) set-clock;
+      }
+
+  issued-is : legal (settings m) f ≡ true → NoHit m t f → NoneToJoin m t f → freePlace rules (m .book) < places → Issues m c t f o (issuedTo (clocked m t) c f o)
   unfolding issuedTo closing
-  issued-is is-legal alone l =
+  issued-is is-legal no-hit alone l =
       let id = freeId rules (m .book) in
       let place = freePlace rules (m .book) in
       let entered : Live What Note = newEntry id (wanted f) opened (clocked m t .book .clock + settings m .timeout) (partyOf c f) in
@@ -140,6 +171,7 @@ module _ (m : Machine) (c t : ℕ) (f o : List ℕ) (g : Good rules (m .book)) (
       let size : length (laid id (sent .bytes)) ≡ length f = length-laid id (sent .bytes) (omega arith) ∙ long in
       record {
         is-legal = is-legal;
+        no-hit = no-hit;
         alone = alone;
         id = id;
         partial = sent .partial;
@@ -161,18 +193,20 @@ module _ (m : Machine) (c t : ℕ) (f o : List ℕ) (g : Good rules (m .book)) (
         free = free-found rules (m .book) l .0;
         entered = marked-here (closing (wanted f)) (m .book .places) place entered (rw (g .long) l) ∙ rw (spoils-itself (wanted f), ← wanted-spelled f, ← party-spelled c f, set-clock) refl;
         others = λ k n. marked-elsewhere (closing (wanted f)) (m .book .places) place entered k n ∙ rw (← wanted-spelled f) refl;
+        cached = λ k e. rw (wanted-spelled f) (dropped-exactly (asking f) (m .cache) k e);
         cursor = refl;
         clock = set-clock;
         attached = refl;
         rule = refl;
       }
 
-  joined-is : legal (settings m) f ≡ true → (k : ℕ) (e : Live What Note) → at (m .book) k ≡ some e → MayJoin m t f e → ((j : ℕ) (d : Live What Note) → at (m .book) j ≡ some d → MayJoin m t f d → e .id ≤ d .id)
+  joined-is : legal (settings m) f ≡ true → NoHit m t f → (k : ℕ) (e : Live What Note) → at (m .book) k ≡ some e → MayJoin m t f e → ((j : ℕ) (d : Live What Note) → at (m .book) j ≡ some d → MayJoin m t f d → e .id ≤ d .id)
       → Joins m c t f o (joinedTo (clocked m t) k c f o (some e))
   unfolding joinedTo
-  joined-is is-legal k e there may smallest =
+  joined-is is-legal no-hit k e there may smallest =
       record {
         is-legal = is-legal;
+        no-hit = no-hit;
         place = k;
         entry = e;
         there = there;
@@ -183,6 +217,7 @@ module _ (m : Machine) (c t : ℕ) (f o : List ℕ) (g : Good rules (m .book)) (
         listed = refl;
         added = getD-set-same (m .book .places) k _ none (at-low (m .book .places) k e there) ∙ rw (← party-spelled c f) refl;
         others = λ j n. getD-set-other (m .book .places) k j _ none n;
+        cache = refl;
         cursor = refl;
         clock = set-clock;
         attached = refl;
@@ -203,29 +238,39 @@ module _ (m : Machine) (c t : ℕ) (f o : List ℕ) (g : Good rules (m .book)) (
         size = omega (arith, length-drop 9 o);
         listed = refl;
         places = refl;
+        cache = refl;
         cursor = refl;
         clock = set-clock;
         attached = refl;
         rule = refl;
       }
 
-  one-of-three : {d : Outcome} → Comes m c t f o d → Issues m c t f o d ⊎ (Joins m c t f o d ⊎ Excepts m t f o d)
-  one-of-three (faulty z) = inr (inr (excepted-is (faultOf f) (λ n. fault-checked m c t f o h z)))
-  one-of-three (joining z k e there may smallest) = inr (inl (joined-is z k e there may smallest))
-  one-of-three (full z alone all) = inr (inr (excepted-is deviceFailure (λ n. absurd (n refl))))
-  one-of-three (issuing z alone l) = inl (issued-is z alone l)
+  one-of-four : {d : Outcome} → Comes m c t f o d → Hits m c t f o d ⊎ (Issues m c t f o d ⊎ (Joins m c t f o d ⊎ Excepts m t f o d))
+  one-of-four (faulty z) = inr (inr (inr (excepted-is (faultOf f) (λ n. fault-checked m c t f o h z))))
+  one-of-four (hitting z k e there same young) = inl (hit-is z k e there same young)
+  one-of-four (joining z no-hit k e there may smallest) = inr (inr (inl (joined-is z no-hit k e there may smallest)))
+  one-of-four (full z no-hit alone all) = inr (inr (inr (excepted-is deviceFailure (λ n. absurd (n refl)))))
+  one-of-four (issuing z no-hit alone l) = inr (inl (issued-is z no-hit alone l))
 
-  -- A request that is not refused is issued, joins, or gets an exception.
-  pub request-comes-to : Issues m c t f o (outcome m (request c t f o)) ⊎ (Joins m c t f o (outcome m (request c t f o)) ⊎ Excepts m t f o (outcome m (request c t f o)))
-  request-comes-to = one-of-three (comes m c t f o g h)
+  -- A request that is not refused is a hit, is issued, joins, or gets an exception.
+  pub request-comes-to : Hits m c t f o (outcome m (request c t f o))
+      ⊎ (Issues m c t f o (outcome m (request c t f o)) ⊎ (Joins m c t f o (outcome m (request c t f o)) ⊎ Excepts m t f o (outcome m (request c t f o))))
+  request-comes-to = one-of-four (comes m c t f o g (s .sorted) h)
 
-module _ (m : Machine) (c t : ℕ) (f o : List ℕ) (g : Good rules (m .book)) where
-  -- Which of the three it is, is what is said.
+module _ (m : Machine) (c t : ℕ) (f o : List ℕ) (g : Good rules (m .book)) (s : Stocked (m .cache)) where
+  -- Which of the four it is, is what is said.
+  pub hit-is-said : (n p w : ℕ) → outcome m (request c t f o) .says ≡ answer.Hit n p w → Hits m c t f o (outcome m (request c t f o))
+  hit-is-said n p w e =
+      ⊎-elim (λ x. x) (⊎-elim (λ x. never (cc)) (⊎-elim (λ x. never (cc)) (λ x. never (cc)))) (request-comes-to m c t f o g s (not-refused m (request c t f o) _ refl e))
+
   pub issue-is : (i : ProxyId) (n p w : ℕ) → outcome m (request c t f o) .says ≡ answer.Issued i n p w → Issues m c t f o (outcome m (request c t f o))
-  issue-is i n p w e = ⊎-elim (λ x. x) (⊎-elim (λ x. never (cc)) (λ x. never (cc))) (request-comes-to m c t f o g (not-refused m (request c t f o) _ refl e))
+  issue-is i n p w e =
+      ⊎-elim (λ x. never (cc)) (⊎-elim (λ x. x) (⊎-elim (λ x. never (cc)) (λ x. never (cc)))) (request-comes-to m c t f o g s (not-refused m (request c t f o) _ refl e))
 
   pub join-is : (i : ProxyId) → outcome m (request c t f o) .says ≡ answer.Joined i → Joins m c t f o (outcome m (request c t f o))
-  join-is i e = ⊎-elim (λ x. never (cc)) (⊎-elim (λ x. x) (λ x. never (cc))) (request-comes-to m c t f o g (not-refused m (request c t f o) _ refl e))
+  join-is i e =
+      ⊎-elim (λ x. never (cc)) (⊎-elim (λ x. never (cc)) (⊎-elim (λ x. x) (λ x. never (cc)))) (request-comes-to m c t f o g s (not-refused m (request c t f o) _ refl e))
 
   pub exception-is : (n : ℕ) → outcome m (request c t f o) .says ≡ answer.Excepted n → Excepts m t f o (outcome m (request c t f o))
-  exception-is n e = ⊎-elim (λ x. never (cc)) (⊎-elim (λ x. never (cc)) (λ x. x)) (request-comes-to m c t f o g (not-refused m (request c t f o) _ refl e))
+  exception-is n e =
+      ⊎-elim (λ x. never (cc)) (⊎-elim (λ x. never (cc)) (⊎-elim (λ x. never (cc)) (λ x. x))) (request-comes-to m c t f o g s (not-refused m (request c t f o) _ refl e))

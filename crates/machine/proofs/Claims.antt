@@ -4,9 +4,9 @@
 -- Assumes nothing.
 use Prim.Native.Nat.{ℕ, suc, _+_, _*_, _-_, _≤_, _<_}
 use mathlib.Core.Path.{_≡_, refl, ap, sym, _∙_}
-use mathlib.Core.Logic.{_⊎_, _↔_}
+use mathlib.Core.Logic.{⊎-elim, _⊎_, _↔_}
 use mathlib.Core.Bool.{true, false}
-use mathlib.Core.Option.{some, Option·getD}
+use mathlib.Core.Option.{some, Option·getD, Option·some-injective}
 use mathlib.Core.List.{List, [], _∷_, _++_, append-assoc, List·Memᴰ, List·Memᴰ·head, Memᴰ·append-right}
 use native.Mathlib.Omega.{arith}
 use lib.ListN.{length, getD, take}
@@ -35,13 +35,16 @@ use Rattle.rewrite.specs.Registers.{registersAt}
 use Rattle.rewrite.specs.Rewriting.{ownIn, Rewritten}
 use Rattle.rewrite.specs.Plain.{Whole, OfBits}
 use Rattle.rewrite.proofs.FrameLaws.{returned-bits}
+use Rattle.cache.specs.Cache.{Cached, inCache}
+use Rattle.cache.specs.Plain.{Keyed, Fresh, Takes}
+use Rattle.cache.proofs.CacheLaws.{fresh-taken}
 use Rattle.book.specs.Book.{Party, Live, Event, Good, at}
 use Rattle.book.specs.Book.Event.{passed, issued, left, lost}
 use Rattle.book.specs.Ledger.{Ticket, Apart, Differing, Anew, under, partiesOf}
 use Rattle.book.specs.Traced.{touches, issuedId, behind, Outstanding, Holds}
 use Rattle.book.specs.Desk.{AllLive}
 use Rattle.book.specs.Follower.{Accounted, history, linesOf}
-use Rattle.book.proofs.History.{always-sound, ids-come-round-late, after-on, after-one, history-on}
+use Rattle.book.proofs.History.{ids-come-round-late, after-on, after-one, history-on, history-one}
 use Rattle.book.proofs.SpacedLaws.{apart-exactly}
 use Rattle.book.proofs.TracedLaws.{traced}
 use Rattle.book.proofs.LedgerLaws.{successor, successor-of-lost}
@@ -57,29 +60,32 @@ use Rattle.machine.specs.Waiting.{nextDeadline, Waits}
 use Rattle.machine.specs.Spelled.{asker, asking, AskedBy}
 use Rattle.machine.specs.Histories.{seenOf, events, told, afterCalls, toldBy, toldSince, ledgerOf, Origin}
 use Rattle.machine.specs.Closed.{Unspoiled, Joinable, Meets}
+use Rattle.machine.specs.Cached.{NoHit, Fills, KeptFor, Put, LastReply, Latest, Shows}
 use Rattle.machine.specs.declared.Answer.{Answer}
 use Rattle.machine.specs.declared.Answer.the-variants as answer
 use Rattle.machine.specs.RefusalTable.{table, Applies}
-use Rattle.machine.specs.Requested.{NoneToJoin, Carries, Issues, Joins, Excepts, Accepts, Stands}
+use Rattle.machine.specs.Requested.{NoneToJoin, Carries, Hits, Issues, Joins, Excepts, Accepts, Stands}
 use Rattle.machine.specs.Requested.Carries.{single}
 use Rattle.machine.specs.Answered.{Answers, Expires, showing, Lent, tickAt, ticksAt}
-use Rattle.machine.specs.PartysFrames.{EachItsFrame}
+use Rattle.machine.specs.PartysFrames.{PartysFrame, EachItsFrame}
 use Rattle.machine.proofs.RefusalLaws.{refused-exactly}
 use Rattle.machine.proofs.OutcomeLaws.{says-refusal, refused-is, granted-is}
 use Rattle.machine.proofs.NumberLaws.{numbers-tell}
 use Rattle.machine.proofs.SpelledLaws.{asked-spelled, kept-as-asked, asking-says}
 use Rattle.machine.proofs.RequestLaws.{codeOf, no-other-exception, exception-04 as said-exactly}
 use Rattle.machine.proofs.Follows.{same-entry}
-use Rattle.machine.proofs.AskLaws.{bits-carry-none, request-comes-to, issue-is, join-is, exception-is}
+use Rattle.machine.proofs.AskLaws.{bits-carry-none, request-comes-to, hit-is-said, issue-is, join-is, exception-is}
 use Rattle.machine.proofs.PartyLaws.{accepted-stands}
 use Rattle.machine.proofs.AnswerLaws.{reply-answers, tick-expires, idle-is, idle-when}
 use Rattle.machine.proofs.ReadBack.{comes-back}
 use Rattle.machine.proofs.EchoBack.{echo-comes-back, own-frame, sent-id}
 use Rattle.machine.proofs.TickLaws.{ticking-ends}
 use Rattle.machine.proofs.WaitingLaws.{waits, outstanding-due, none-waits, next-tick}
-use Rattle.machine.proofs.FrameOfParty.{reply-frame, always-known, timeout-frame}
-use Rattle.machine.proofs.Histories.{product, accounted}
-use Rattle.machine.proofs.ClosedLaws.{open-exactly, not-stale, not-stale-in-bytes, joins-exactly}
+use Rattle.machine.proofs.FrameOfParty.{reply-frame, hit-frame, always-known, timeout-frame}
+use Rattle.machine.proofs.Histories.{product, in-force, stocked, accounted}
+use Rattle.machine.proofs.ClosedLaws.{open-exactly, since, not-stale, not-stale-in-bytes, joins-exactly}
+use Rattle.machine.proofs.MeetsLaws.{spoils-in-bytes}
+use Rattle.machine.proofs.Freshness.{hit-shows, then-hit, came-after, one-place, nothing-else, none-cut-cached}
 use Rattle.machine.proofs.StateLaws.{attached-exactly, clock-exactly, issue-origin}
 
 -- Tender 3, the sum: accepted = answered by a reply + answered by timeout + dropped by a leaving + dropped by a lost link + held in the party places; each accepted
@@ -106,6 +112,14 @@ pub never-refused : (m : Machine) → refusal m linkLost ≡ 0
 unfolding rows lowest
 never-refused m = refl
 
+-- a hit tells its time
+hit-tells : (v : Value) (m : Machine) (c t : ℕ) (f o : List ℕ) (n p w : ℕ) → outcome m (request c t f o) .says ≡ answer.Hit n p w
+    → events v (request c t f o) (seenOf (outcome m (request c t f o))) ≡ passed t ∷ []
+unfolding events told numbers
+hit-tells v m c t f o n p w e =
+    let d = outcome m (request c t f o) in
+    ap (λ (a : Answer). events v (request c t f o) (record { report = numbers a; frame = d .written; list = d .listed })) e
+
 module _ (v : Value) (xs : List Call) where
   -- every book of a history is good
   good : Good rules (afterCalls v xs .book)
@@ -113,7 +127,7 @@ module _ (v : Value) (xs : List Call) where
 
   -- The settings in force are those that the machine was made with, whatever was called.
   pub the-settings-in-force-stay : settings (afterCalls v xs) ≡ v
-  the-settings-in-force-stay = always-sound (product v) xs
+  the-settings-in-force-stay = in-force v xs
 
   -- Tender 1: a call refuses by the numbers in document 01. It says the refusal n exactly if row n of the document's table applies to it and no lower row does; the
   -- table in plain words is `table` of specs/RefusalTable.antt.
@@ -143,33 +157,44 @@ module _ (v : Value) (xs : List Call) where
   -- Tender 3: an accepted request stands in the party places afterwards, as the latest party of a live entry that asks what it asks.
   pub the-accepted-stand : (c t : ℕ) (f o : List ℕ) (id : ℕ)
       → Accepts (outcome (afterCalls v xs) (request c t f o) .says) id → Stands (outcome (afterCalls v xs) (request c t f o) .after .book) id (asking f) (asker c f)
-  the-accepted-stand c t f o id = accepted-stands (afterCalls v xs) c t f o good id
+  the-accepted-stand c t f o id = accepted-stands (afterCalls v xs) c t f o good (stocked v xs) id
 
-  -- Tender 2 and 3, a request: one that is not refused is issued, joins, or gets an exception, and each of the three is told in plain numbers and bytes: what is said, every
-  -- byte of the buffer, and the whole machine afterwards.
+  -- Tender 2 and 3, with #107: a request that is not refused is a hit, is issued, joins, or gets an exception, and each of the four is told in plain numbers and bytes: what is said,
+  -- every byte of the buffer, and the whole machine afterwards.
   pub a-request-comes-to-this : (c t : ℕ) (f o : List ℕ) → refusal (afterCalls v xs) (request c t f o) ≡ 0
-      → Issues (afterCalls v xs) c t f o (outcome (afterCalls v xs) (request c t f o))
-      ⊎ (Joins (afterCalls v xs) c t f o (outcome (afterCalls v xs) (request c t f o)) ⊎ Excepts (afterCalls v xs) t f o (outcome (afterCalls v xs) (request c t f o)))
-  a-request-comes-to-this c t f o = request-comes-to (afterCalls v xs) c t f o good
+      → Hits (afterCalls v xs) c t f o (outcome (afterCalls v xs) (request c t f o))
+      ⊎ (Issues (afterCalls v xs) c t f o (outcome (afterCalls v xs) (request c t f o))
+      ⊎ (Joins (afterCalls v xs) c t f o (outcome (afterCalls v xs) (request c t f o)) ⊎ Excepts (afterCalls v xs) t f o (outcome (afterCalls v xs) (request c t f o))))
+  a-request-comes-to-this c t f o = request-comes-to (afterCalls v xs) c t f o good (stocked v xs)
 
-  -- Which of the three it is, the answer says.
+  -- Which of the four it is, the answer says.
+  pub a-hit-is-this : (c t : ℕ) (f o : List ℕ) (n p w : ℕ) → outcome (afterCalls v xs) (request c t f o) .says ≡ answer.Hit n p w
+      → Hits (afterCalls v xs) c t f o (outcome (afterCalls v xs) (request c t f o))
+  a-hit-is-this c t f o = hit-is-said (afterCalls v xs) c t f o good (stocked v xs)
+
+  -- Request #107: a hit is not accepted. It tells the ledger that time has passed and nothing else, as an exception does, so that demand 3's sum is as before.
+  pub a-hit-is-not-accepted : (c t : ℕ) (f o : List ℕ) (n p w : ℕ) → outcome (afterCalls v xs) (request c t f o) .says ≡ answer.Hit n p w
+      → toldBy v (xs ++ request c t f o ∷ []) ≡ toldBy v xs ++ passed t ∷ []
+  a-hit-is-not-accepted c t f o n p w e = history-one (product v) (made v) xs (request c t f o) ∙ ap (λ vs. toldBy v xs ++ vs) (hit-tells v (afterCalls v xs) c t f o n p w e)
+
   pub an-issue-is-this : (c t : ℕ) (f o : List ℕ) (i : ProxyId) (n p w : ℕ) → outcome (afterCalls v xs) (request c t f o) .says ≡ answer.Issued i n p w
       → Issues (afterCalls v xs) c t f o (outcome (afterCalls v xs) (request c t f o))
-  an-issue-is-this c t f o = issue-is (afterCalls v xs) c t f o good
+  an-issue-is-this c t f o = issue-is (afterCalls v xs) c t f o good (stocked v xs)
 
   pub a-join-is-this : (c t : ℕ) (f o : List ℕ) (i : ProxyId) → outcome (afterCalls v xs) (request c t f o) .says ≡ answer.Joined i
       → Joins (afterCalls v xs) c t f o (outcome (afterCalls v xs) (request c t f o))
-  a-join-is-this c t f o = join-is (afterCalls v xs) c t f o good
+  a-join-is-this c t f o = join-is (afterCalls v xs) c t f o good (stocked v xs)
 
   pub an-exception-is-this : (c t : ℕ) (f o : List ℕ) (n : ℕ) → outcome (afterCalls v xs) (request c t f o) .says ≡ answer.Excepted n
       → Excepts (afterCalls v xs) t f o (outcome (afterCalls v xs) (request c t f o))
-  an-exception-is-this c t f o = exception-is (afterCalls v xs) c t f o good
+  an-exception-is-this c t f o = exception-is (afterCalls v xs) c t f o good (stocked v xs)
 
-  -- Tender 3, with #104's number: the proxy itself gives exception 04 exactly when a legal request can join nothing and 256 are live.
+  -- Tender 3, with #104's number and #107: the proxy itself gives exception 04 exactly when a legal request hits nothing, can join nothing and 256 are live.
   pub exception-04-exactly : (c t : ℕ) (f o : List ℕ)
       → (outcome (afterCalls v xs) (request c t f o) .says ≡ answer.Excepted 4)
-      ↔ ((refusal (afterCalls v xs) (request c t f o) ≡ 0) × (legal (settings (afterCalls v xs)) f ≡ true) × NoneToJoin (afterCalls v xs) t f × AllLive rules (afterCalls v xs .book))
-  exception-04-exactly c t f o = said-exactly (afterCalls v xs) c t f o good
+      ↔ ((refusal (afterCalls v xs) (request c t f o) ≡ 0) × (legal (settings (afterCalls v xs)) f ≡ true) × NoHit (afterCalls v xs) t f × NoneToJoin (afterCalls v xs) t f
+      × AllLive rules (afterCalls v xs .book))
+  exception-04-exactly c t f o = said-exactly (afterCalls v xs) c t f o good (stocked v xs .sorted)
 
   -- and no other call says an exception
   pub no-other-call-says-one : (x : Call) → ((c t : ℕ) (f o : List ℕ) → x ≡ request c t f o → ⊥) → (n : ℕ) → outcome (afterCalls v xs) x .says ≡ answer.Excepted n → ⊥
@@ -304,13 +329,72 @@ module _ (v : Value) (xs : List Call) where
       → (d′ : ℕ) × (p′ : Party) × (lastOf (touches (i .0)) later ≡ some (issued (i .0) (asking f) d′ p′))
   a-read-after-a-write-is-not-stale = not-stale v xs
 
-  -- And closing everything is no way out: a legal 01 to 04 that is not refused, with joining on, joins exactly where some live entry asks the same, has room for one more
-  -- party and a deadline later than now, and nothing that spoils it was issued since its issue; of several the smallest id.
+  -- And closing everything is no way out: a legal 01 to 04 that is not refused, with joining on, joins exactly where it hits nothing (#107) and some live entry asks the same, has room for
+  -- one more party and a deadline later than now, and nothing that spoils it was issued since its issue; of several the smallest id.
   pub a-read-joins-exactly : (c t : ℕ) (f o : List ℕ) → refusal (afterCalls v xs) (request c t f o) ≡ 0 → legal (settings (afterCalls v xs)) f ≡ true
       → ((getD f 7 0 ≡ 1) ⊎ (getD f 7 0 ≡ 2)) ⊎ ((getD f 7 0 ≡ 3) ⊎ (getD f 7 0 ≡ 4)) → v .join ≡ 1 → (i : ProxyId)
       → (outcome (afterCalls v xs) (request c t f o) .says ≡ answer.Joined i)
-      ↔ (Joinable (afterCalls v xs .book) (toldBy v xs) t f (i .0) × ((id : ℕ) → Joinable (afterCalls v xs .book) (toldBy v xs) t f id → i .0 ≤ id))
+      ↔ (NoHit (afterCalls v xs) t f × Joinable (afterCalls v xs .book) (toldBy v xs) t f (i .0) × ((id : ℕ) → Joinable (afterCalls v xs .book) (toldBy v xs) t f id → i .0 ≤ id))
   a-read-joins-exactly = joins-exactly v xs
+
+  -- Request #107: a hit shows the last reply that filled its place, younger than its life. For each hit there is a reply among the calls that filled for what the request asks: it was not
+  -- refused, was no exception, and answered a live entry that asked the same unit, function, start and quantity, which was cacheable and not closed (`Fills`). Since then no other reply
+  -- filled for that read (`Latest`), no reply took its place, nothing that spoils the read was issued and no link was lost; and less has gone by than its life, the smallest ttl of the tags
+  -- in the range (`LastReply`). The hit shows that reply's bytes behind the caller's own id, with its length and its counts (`Shows`).
+  pub a-hit-shows-the-last-reply : (c t : ℕ) (f o : List ℕ) (n p w : ℕ) → outcome (afterCalls v xs) (request c t f o) .says ≡ answer.Hit n p w
+      → (s : LastReply (afterCalls v) (toldBy v) xs t (asking f)) × Latest (afterCalls v) (toldBy v) xs t (asking f) s
+      × Shows f o (outcome (afterCalls v xs) (request c t f o)) (outcome (afterCalls v (s .before)) (s .call))
+  a-hit-shows-the-last-reply c t f o n p w e = hit-shows v xs c t f o (outcome (afterCalls v xs) (request c t f o)) (a-hit-is-this c t f o n p w e)
+
+  -- And never caching is no way out: after a reply that fills, and any later calls of which none issues what spoils it, loses the link or takes its place, every equal request that is not
+  -- refused and comes within its life is a hit that shows that reply.
+  pub a-reply-that-filled-is-shown : (c t : ℕ) (f o : List ℕ) (s : LastReply (afterCalls v) (toldBy v) xs t (asking f)) → refusal (afterCalls v xs) (request c t f o) ≡ 0
+      → Shows f o (outcome (afterCalls v xs) (request c t f o)) (outcome (afterCalls v (s .before)) (s .call))
+  a-reply-that-filled-is-shown = then-hit v xs
+
+  -- A reply that fills takes one of the 64 places, and one only: its own key's, else the lowest that is empty or expired, else the oldest, ties to the lowest (`Takes`). It stands there afterwards
+  -- with its own time and the life of its read, and every other place is as it was (`Put`).
+  pub a-filling-reply-takes-one-place : (x : Call) (r : What) (f : Fills (afterCalls v xs) (toldBy v xs) x r)
+      → (p : ℕ) × (p < 64) × Takes (f .time) r (afterCalls v xs .cache) p × ((q : ℕ) → q < 64 → Takes (f .time) r (afterCalls v xs .cache) q → q ≡ p)
+      × Put (settings (afterCalls v xs) .tags) (f .start) (f .quantity) (f .time) r p (afterCalls v xs .cache) (outcome (afterCalls v xs) x .after .cache)
+  a-filling-reply-takes-one-place = one-place v xs
+
+  -- One key stands in at most one place.
+  pub one-key-one-place : (j k : ℕ) (d e : Cached) → inCache (afterCalls v xs .cache) j ≡ some d → inCache (afterCalls v xs .cache) k ≡ some e → d .what ≡ e .what → j ≡ k
+  one-key-one-place = stocked v xs .sorted .once
+
+  -- And nothing but a reply that fills puts anything in: what stands in a place after a call stood there before, or the call is a reply that filled for it and took that place.
+  pub nothing-else-puts-anything-in : (x : Call) (k : ℕ) (e : Cached) → inCache (outcome (afterCalls v xs) x .after .cache) k ≡ some e
+      → (inCache (afterCalls v xs .cache) k ≡ some e)
+      ⊎ ((f : Fills (afterCalls v xs) (toldBy v xs) x (e .what)) × Takes (f .time) (e .what) (afterCalls v xs .cache) k × KeptFor (settings (afterCalls v xs) .tags) (f .start) (f .quantity) (f .time) e)
+  nothing-else-puts-anything-in = nothing-else v xs
+
+  -- A place whose reply is another after a call was taken by that call, a reply that fills; and if what stood there was fresh, only by a reply with its own key, or by one whose key stood nowhere while
+  -- all 64 were fresh; then it was the one filled earliest, ties to the lowest.
+  pub when-a-fresh-place-is-taken : (x : Call) (p : ℕ) (d e : Cached) → inCache (afterCalls v xs .cache) p ≡ some d → inCache (outcome (afterCalls v xs) x .after .cache) p ≡ some e → (e ≡ d → ⊥)
+      → (f : Fills (afterCalls v xs) (toldBy v xs) x (e .what))
+      × (f .time - d .filled < d .life
+      → (d .what ≡ e .what)
+      ⊎ (((k : ℕ) → k < 64 → Keyed (e .what) (inCache (afterCalls v xs .cache) k) → ⊥) × ((k : ℕ) → k < 64 → Fresh (f .time) (inCache (afterCalls v xs .cache) k))
+      × ((k : ℕ) (h : Cached) → k < 64 → inCache (afterCalls v xs .cache) k ≡ some h → (d .filled ≤ h .filled) × (k < p → d .filled < h .filled))))
+  when-a-fresh-place-is-taken x p d e was is other =
+      ⊎-elim
+      (λ (w : inCache (afterCalls v xs .cache) p ≡ some e). absurd (other (Option·some-injective e d (sym w ∙ was))))
+      (λ (w : (f : Fills (afterCalls v xs) (toldBy v xs) x (e .what)) × Takes (f .time) (e .what) (afterCalls v xs .cache) p × KeptFor (settings (afterCalls v xs) .tags) (f .start) (f .quantity) (f .time) e).
+      (w .0, fresh-taken (afterCalls v xs .cache) (w .0 .time) (e .what) p (w .1) d was))
+      (nothing-else-puts-anything-in x p e is)
+
+  -- Whoever hits gets, of as many bytes as the report says, a frame that is not refused, carries its own id, comes from the unit and is of the function that it asked, and answers it.
+  pub a-hits-frame : (c t : ℕ) (f o : List ℕ) (n p w : ℕ) → outcome (afterCalls v xs) (request c t f o) .says ≡ answer.Hit n p w
+      → PartysFrame (asking f) (asker c f) (take (numbers (outcome (afterCalls v xs) (request c t f o) .says) .length) (outcome (afterCalls v xs) (request c t f o) .written))
+  a-hits-frame c t f o n p w e = hit-frame (afterCalls v xs) c t f o (outcome (afterCalls v xs) (request c t f o)) (stocked v xs) (a-hit-is-this c t f o n p w e)
+
+  -- And it counts no tag that is raw for partial cover: each register lies in a tag wholly inside the range, and tags do not overlap.
+  pub a-hit-cuts-no-tag : valid v ≡ true → (c t : ℕ) (f o : List ℕ) (n p w : ℕ) → outcome (afterCalls v xs) (request c t f o) .says ≡ answer.Hit n p w → p ≡ 0
+  a-hit-cuts-no-tag right c t f o n p w e =
+      let h = a-hit-is-this c t f o n p w e in
+      let same : p ≡ h .cached .partial = cc (h .says) in
+      same ∙ none-cut-cached v (valid-ascends v right) xs (h .place) (h .cached) (h .there)
 
   -- Document 01: link lost returns the former set, client by client those that were attached, and nobody is attached after it.
   pub link-lost-says-who-was-attached : (s : ℕ) × (outcome (afterCalls v xs) linkLost .says ≡ answer.Lost s)
@@ -358,6 +442,15 @@ issue-told v m c t f o ys i n p w e =
     let d = outcome m (request c t f o) in
     ap (λ (a : Answer). events v (request c t f o) (record { report = numbers a; frame = d .written; list = d .listed }) ++ history (product v) (d .after) ys) e
 
+-- the lines of calls among which one is issued
+issue-among : (v : Value) (before : List Call) (c t : ℕ) (g o : List ℕ) (j : ProxyId) (n p w : ℕ) → outcome (afterCalls v before) (request c t g o) .says ≡ answer.Issued j n p w → (later : List Call)
+    → toldBy v (before ++ request c t g o ∷ later)
+    ≡ (toldBy v before ++ passed t ∷ []) ++ issued (j .0) (asking g) (t + v .timeout) (asker c g) ∷ toldSince v (before ++ request c t g o ∷ []) later
+issue-among v before c t g o j n p w e later =
+    let x = request c t g o in
+    rw (after-one (product v) (made v) before x)
+    (history-on (product v) (made v) before (x ∷ later) ∙ ap (λ vs. toldBy v before ++ vs) (issue-told v (afterCalls v before) c t g o later j n p w e) ∙ sym (append-assoc (toldBy v before) (passed t ∷ []) _))
+
 -- Request #102 in bytes: a read after a write is not stale. A request g was issued, after whatever calls; whatever calls came later, a request f then joins, and g meets it: byte 6 of both
 -- is equal, byte 7 of g is 05 or 15 and that of f 01 or 02, or 06 or 16 and 03 or 04, and some address is in both ranges, or g is "other" and f a read. Then of the lines that the later
 -- calls tell (`toldSince`), the last that begins or ends a life of the id that f joined is its issue, which asks what f asks: what f joined was issued after g, and is live since.
@@ -367,12 +460,36 @@ pub a-read-after-a-write-is-not-stale-in-bytes : (v : Value) (before : List Call
     → getD g 6 0 ≡ getD f 6 0 → Meets g f
     → (d : ℕ) × (q : Party) × (lastOf (touches (i .0)) (toldSince v (before ++ request c t g o ∷ []) later) ≡ some (issued (i .0) (asking f) d q))
 a-read-after-a-write-is-not-stale-in-bytes v before c t g o j n p w e later c′ t′ f o′ i =
-    let m = afterCalls v before in
     let x = request c t g o in
     not-stale-in-bytes v (before ++ x ∷ later) (toldBy v before ++ passed t ∷ []) (toldSince v (before ++ x ∷ []) later) (j .0) _ g (t + v .timeout) (asker c g) (an-issue-is-this v before c t g o j n p w e .is-legal)
-    (rw (after-one (product v) (made v) before x)
-    (history-on (product v) (made v) before (x ∷ later) ∙ ap (λ vs. toldBy v before ++ vs) (issue-told v m c t g o later j n p w e) ∙ sym (append-assoc (toldBy v before) (passed t ∷ []) _)))
-    c′ t′ f o′ i
+    (issue-among v before c t g o j n p w e later) c′ t′ f o′ i
+
+-- Request #107 in bytes: a hit after a write is not stale. A request g was issued, after whatever calls; whatever calls came later, a request f then hits, and g meets it, as above. Then the
+-- reply that the hit shows is one of the later calls, and the id that it answered was issued after g: of the lines told between g and that reply, the last that begins or ends a life of
+-- that id is its issue, which asks what f asks.
+pub a-hit-after-a-write-is-not-stale-in-bytes : (v : Value) (before : List Call) (c t : ℕ) (g o : List ℕ) (j : ProxyId) (n p w : ℕ)
+    → outcome (afterCalls v before) (request c t g o) .says ≡ answer.Issued j n p w
+    → (later : List Call) (c′ t′ : ℕ) (f o′ : List ℕ) (n′ p′ w′ : ℕ) → outcome (afterCalls v (before ++ request c t g o ∷ later)) (request c′ t′ f o′) .says ≡ answer.Hit n′ p′ w′
+    → getD g 6 0 ≡ getD f 6 0 → Meets g f
+    → (s : LastReply (afterCalls v) (toldBy v) (before ++ request c t g o ∷ later) t′ (asking f)) × (mid : List Call) × (later ≡ mid ++ s .call ∷ s .later)
+    × Shows f o′ (outcome (afterCalls v (before ++ request c t g o ∷ later)) (request c′ t′ f o′)) (outcome (afterCalls v (before ++ request c t g o ∷ mid)) (s .call))
+    × ((d : ℕ) × (q : Party) × (lastOf (touches (s .fills .entry .id)) (toldSince v (before ++ request c t g o ∷ []) mid) ≡ some (issued (s .fills .entry .id) (asking f) d q)))
+a-hit-after-a-write-is-not-stale-in-bytes v before c t g o j n p w e later c′ t′ f o′ n′ p′ w′ hit unit met =
+    let x = request c t g o in
+    let y = a-hit-shows-the-last-reply v (before ++ x ∷ later) c′ t′ f o′ n′ p′ w′ hit in
+    let s = y .0 in
+    let spoiled : spoils (asking g) (asking f) ≡ true =
+    spoils-in-bytes _ _ g f (an-issue-is-this v before c t g o j n p w e .is-legal) (a-hit-is-this v (before ++ x ∷ later) c′ t′ f o′ n′ p′ w′ hit .is-legal) .1 (unit, met) in
+    let k = came-after v before c t g o j n p w e later t′ (asking f) spoiled s in
+    let lines : toldBy v (s .before) ≡ (toldBy v before ++ passed t ∷ []) ++ issued (j .0) (asking g) (t + v .timeout) (asker c g) ∷ toldSince v (before ++ x ∷ []) (k .0) =
+    ap (toldBy v) (k .1) ∙ issue-among v before c t g o j n p w e (k .0) in (
+      s,
+      k .0,
+      k .2,
+      rw (k .1) at (y .2),
+      since (toldBy v before ++ passed t ∷ []) (toldSince v (before ++ x ∷ []) (k .0)) (j .0) (asking g) (t + v .timeout) (asker c g) (s .fills .entry .id) (asking f) (s .fills .entry .deadline) spoiled
+          (rw lines at (s .fills .unclosed)),
+    )
 
 -- Tender 2: a value in a tag's range, written over the whole tag in one request, stored as sent and read back whole in one, comes back equal. Whatever calls came before the
 -- write and whatever calls came before the reply: the registers of the tag in the frame that was issued, carried by a reply to a read that covers the tag, reach the reader

@@ -30,24 +30,25 @@ use Rattle.book.specs.Traced.{touches}
 use Rattle.book.specs.Follower.{tells, applies, AllFit, stateAfter, linesOf}
 use Rattle.book.proofs.PlaceLaws.{at-low, nothing-there, set-each, none-each, map-each, live-not}
 use Rattle.book.proofs.GoodLaws.{good-move}
-use Rattle.book.proofs.History.{always, always-sound, after-one, history-one}
+use Rattle.book.proofs.History.{always, after-one, history-one}
 use Rattle.machine.specs.Machine.{Machine, Note, opened, Live-book, made, rules, settings, clocked}
 use Rattle.machine.specs.Calls.{Call, Outcome}
 use Rattle.machine.specs.Calls.Call.{attach, detach, request, reply, tick, linkLost}
 use Rattle.machine.specs.Refusals.{refusal, entryFor}
-use Rattle.machine.specs.Requests.{closing, canJoin, exhausted, joiningPlace, joinedTo}
+use Rattle.machine.specs.Requests.{closing, canJoin, exhausted, joiningPlace, hits, joinedTo}
 use Rattle.machine.specs.Outcomes.{outcome}
 use Rattle.machine.specs.Spelled.{asking}
 use Rattle.machine.specs.declared.Answer.the-variants as answer
 use Rattle.machine.specs.Closed.{closes, concernsRead, Unspoiled, Joinable, Meets}
 use Rattle.machine.specs.Requested.{MayJoin}
 use Rattle.machine.specs.Histories.{afterCalls, toldBy}
+use Rattle.machine.specs.Cached.{NoHit}
 use Rattle.machine.proofs.MeetsLaws.{spoils-in-bytes}
-use Rattle.machine.proofs.RequestLaws.Comes.{faulty, joining, full, issuing}
+use Rattle.machine.proofs.RequestLaws.Comes.{faulty, hitting, joining, full, issuing}
 use Rattle.machine.proofs.RequestLaws.{Comes, comes}
 use Rattle.machine.proofs.AskLaws.{join-is}
-use Rattle.machine.proofs.Follows.{Moves, joining as joins, serving, ending, grantedMoves, moves, follows, fits, honest}
-use Rattle.machine.proofs.Histories.{product}
+use Rattle.machine.proofs.Follows.{Moves, joining as joins, missing, serving, ending, grantedMoves, moves, follows, fits, honest}
+use Rattle.machine.proofs.Histories.{product, in-force, stocked}
 
 abbrev Entries : Type 0
 Entries = List (Option (Live What Note))
@@ -144,7 +145,7 @@ mark-moves b vs (closing-all {k} {id} {w} {d} {p} {ms} q) g h a =
 
 -- every call makes such moves
 paired : (m : Machine) (x : Call) → Paired (moves m x)
-unfolding moves grantedMoves serving joins ending
+unfolding moves grantedMoves serving missing joins ending
 paired m x = both (eqb (refusal m x) 0) (granted x) done
   where
     both : (t : Bool) {xs ys : Moves} → Paired xs → Paired ys → Paired (cond t xs ys)
@@ -164,7 +165,8 @@ paired m x = both (eqb (refusal m x) 0) (granted x) done
     granted (detach c) = plain tt done
     granted (request c t f o) =
         plain tt (both (eqb (faultOf f) 0)
-        (both (canJoin (clocked m t) f) (joined (clocked m t) (joiningPlace (clocked m t) f) c f (at (clocked m t .book) (joiningPlace (clocked m t) f))) (both (exhausted (clocked m t) c) done (closing-all done)))
+        (both (hits (clocked m t) f) done
+        (both (canJoin (clocked m t) f) (joined (clocked m t) (joiningPlace (clocked m t) f) c f (at (clocked m t .book) (joiningPlace (clocked m t) f))) (both (exhausted (clocked m t) c) done (closing-all done))))
         done)
     granted (reply t f o l) = plain tt (ended _ (λ e. tt) (entryFor m f))
     granted (tick t o l) = plain tt (ended _ (λ e. tt) (at (clocked m t .book) (duePlace rules (clocked m t .book))))
@@ -180,13 +182,13 @@ open-exactly v =
     let g = always M xs .good in
     subst₂ (λ b vs. AllMark (b .places) vs)
     (sym (ap (λ (n : Machine). n .book) (after-one M (made v) xs x) ∙ follows m x))
-    (sym (history-one M (made v) xs x ∙ ap (λ vs. toldBy v xs ++ vs) (honest v m x g (always-sound M xs))))
+    (sym (history-one M (made v) xs x ∙ ap (λ vs. toldBy v xs ++ vs) (honest v m x g (in-force v xs))))
     (mark-moves (m .book) (toldBy v xs) (paired m x) g (fits m x g) a))
 
 -- WHAT A READ JOINS
 
--- what is unspoiled was issued since whatever spoils it, and is outstanding since
-since : (before later : List (Event What)) (j : ℕ) (w : What) (d : ℕ) (p : Party) (id : ℕ) (r : What) (e : ℕ) → spoils w r ≡ true
+-- What is unspoiled was issued since whatever spoils it, and is outstanding since.
+pub since : (before later : List (Event What)) (j : ℕ) (w : What) (d : ℕ) (p : Party) (id : ℕ) (r : What) (e : ℕ) → spoils w r ≡ true
     → Unspoiled (before ++ (issued j w d p ∷ later)) id r e → (d′ : ℕ) × (p′ : Party) × (lastOf (touches id) later ≡ some (issued id r d′ p′))
 since before later j w d p id r e met (q, u) =
     let line = issued id r e q in
@@ -204,7 +206,7 @@ module _ (v : Value) (xs : List Call) where
   -- what is joined is unspoiled
   joined-unspoiled : (c t : ℕ) (f o : List ℕ) (i : ProxyId) → outcome (afterCalls v xs) (request c t f o) .says ≡ answer.Joined i → (d : ℕ) × Unspoiled (toldBy v xs) (i .0) (asking f) d
   joined-unspoiled c t f o i says =
-      let y = join-is (afterCalls v xs) c t f o good i says in
+      let y = join-is (afterCalls v xs) c t f o good (stocked v xs) i says in
       let same : y .entry .id ≡ i .0 = cc (y .says) in
       (y .entry .deadline, rw (same, y .may .same) at (open-exactly v xs (y .place) (y .entry) (y .there) .0 (y .may .unclosed)))
 
@@ -221,7 +223,7 @@ module _ (v : Value) (xs : List Call) where
       → (c t : ℕ) (f o : List ℕ) (i : ProxyId) → outcome (afterCalls v xs) (request c t f o) .says ≡ answer.Joined i → getD g 6 0 ≡ getD f 6 0 → Meets g f
       → (d′ : ℕ) × (p′ : Party) × (lastOf (touches (i .0)) later ≡ some (issued (i .0) (asking f) d′ p′))
   not-stale-in-bytes before later j s g d p l told c t f o i says unit met =
-      let y = join-is (afterCalls v xs) c t f o good i says in
+      let y = join-is (afterCalls v xs) c t f o good (stocked v xs) i says in
       not-stale before later j (asking g) d p told c t f o i says (spoils-in-bytes s _ g f l (y .is-legal) .1 (unit, met))
 
   module _ (c t : ℕ) (f o : List ℕ) (h : refusal (afterCalls v xs) (request c t f o) ≡ 0) (l : legal (settings (afterCalls v xs)) f ≡ true)
@@ -231,7 +233,7 @@ module _ (v : Value) (xs : List Call) where
 
     may-of : (id : ℕ) (j : Can id) → MayJoin (afterCalls v xs) t f (j .entry)
     may-of id j = record {
-      on = ap (λ (x : Value). x .join) (always-sound (product v) xs) ∙ on;
+      on = ap (λ (x : Value). x .join) (in-force v xs) ∙ on;
       reads = reads;
       unclosed = open-exactly v xs (j .place) (j .entry) (j .there) .1 (rw (j .named, j .same) (j .unspoiled));
       same = j .same;
@@ -251,23 +253,24 @@ module _ (v : Value) (xs : List Call) where
       unspoiled = rw (may .same) at (open-exactly v xs k e there .0 (may .unclosed));
     }
 
-    then-joins : {d : Outcome} → Comes (afterCalls v xs) c t f o d → (i : ProxyId) → Can (i .0) → ((id : ℕ) → Can id → i .0 ≤ id) → d .says ≡ answer.Joined i
+    then-joins : {d : Outcome} → Comes (afterCalls v xs) c t f o d → (i : ProxyId) → NoHit (afterCalls v xs) t f → Can (i .0) → ((id : ℕ) → Can id → i .0 ≤ id) → d .says ≡ answer.Joined i
     unfolding joinedTo
-    then-joins (faulty z) i j least = absurd (true≢false (sym l ∙ z))
-    then-joins (joining z k e there may smallest) i j least =
+    then-joins (faulty z) i q j least = absurd (true≢false (sym l ∙ z))
+    then-joins (hitting z k e there same young) i q j least = absurd (q k e there same young)
+    then-joins (joining z no-hit k e there may smallest) i q j least =
         let a = smallest (j .place) (j .entry) (j .there) (may-of (i .0) j) in
         let b = least (e .id) (can-of k e there may) in
         let same : e .id ≡ i .0 = omega (arith, j .named) in
         ap (λ (n : ℕ). answer.Joined (record { 0 = n })) same
-    then-joins (full z alone all) i j least = absurd (alone (j .place) (j .entry) (j .there) (may-of (i .0) j))
-    then-joins (issuing z alone y) i j least = absurd (alone (j .place) (j .entry) (j .there) (may-of (i .0) j))
+    then-joins (full z no-hit alone all) i q j least = absurd (alone (j .place) (j .entry) (j .there) (may-of (i .0) j))
+    then-joins (issuing z no-hit alone y) i q j least = absurd (alone (j .place) (j .entry) (j .there) (may-of (i .0) j))
 
-    -- A legal read, with joining on, joins exactly the smallest id that it may join by the lines of the history.
-    pub joins-exactly : (i : ProxyId) → (outcome (afterCalls v xs) (request c t f o) .says ≡ answer.Joined i) ↔ (Can (i .0) × ((id : ℕ) → Can id → i .0 ≤ id))
+    -- A legal read, with joining on, that hits nothing joins exactly the smallest id that it may join by the lines of the history.
+    pub joins-exactly : (i : ProxyId) → (outcome (afterCalls v xs) (request c t f o) .says ≡ answer.Joined i) ↔ (NoHit (afterCalls v xs) t f × Can (i .0) × ((id : ℕ) → Can id → i .0 ≤ id))
     joins-exactly i = (
       λ says.
-          let y = join-is (afterCalls v xs) c t f o good i says in
+          let y = join-is (afterCalls v xs) c t f o good (stocked v xs) i says in
           let same : y .entry .id ≡ i .0 = cc (y .says) in
-          (rw same at (can-of (y .place) (y .entry) (y .there) (y .may)), λ id j. let a = y .smallest (j .place) (j .entry) (j .there) (may-of id j) in omega (arith, j .named)),
-      λ w. then-joins (comes (afterCalls v xs) c t f o good h) i (w .0) (w .1),
+          (y .no-hit, rw same at (can-of (y .place) (y .entry) (y .there) (y .may)), λ id j. let a = y .smallest (j .place) (j .entry) (j .there) (may-of id j) in omega (arith, j .named)),
+      λ w. then-joins (comes (afterCalls v xs) c t f o good (stocked v xs .sorted) h) i (w .0) (w .1) (w .2),
     )

@@ -18,6 +18,7 @@ use Rattle.settings.specs.Grammar.{Value}
 use Rattle.wire.specs.Frame.{idOf}
 use Rattle.pdu.specs.Requests.{faultOf}
 use Rattle.pdu.specs.Replies.{What, what}
+use Rattle.cache.specs.Cache.{Cached, inCache}
 use Rattle.book.specs.Book.{Party, Live, Move, Good, at}
 use Rattle.book.specs.Book.Move.{pass, join, issue, reply as replies, expire, strike, wipe, mark}
 use Rattle.book.specs.Book.Event.{passed, replied, expired, left, lost}
@@ -30,7 +31,7 @@ use Rattle.machine.specs.Machine.{Machine, Note, opened, Live-book, rule
 use Rattle.machine.specs.Calls.{Call, Outcome, done, outOf, listOf}
 use Rattle.machine.specs.Calls.Call.{attach, detach, request, reply, tick, linkLost}
 use Rattle.machine.specs.Refusals.{refusal, entryFor}
-use Rattle.machine.specs.Requests.{wanted, partyOf, joins, closing, joiningPlace, canJoin, exhausted, excepted, joinedTo, issuedTo, served, admitted}
+use Rattle.machine.specs.Requests.{wanted, partyOf, joins, closing, joiningPlace, canJoin, exhausted, excepted, hittingPlace, hits, hitOn, joinedTo, issuedTo, missed, served, admitted}
 use Rattle.machine.specs.Replies.{pairs, answeredTo, answered, expiredTo, ticked}
 use Rattle.machine.specs.Outcomes.{granted, outcome}
 use Rattle.machine.specs.Numbers.{numbers}
@@ -45,16 +46,19 @@ use Rattle.machine.proofs.JoinLaws.{joins-exact}
 abbrev pub Moves : Type 0
 Moves = List (Move Value What Note)
 
--- the moves that a legal request makes once the clock is set: joining, else issuing and closing what it spoils, else none
+-- the moves that a legal request makes once the clock is set: none where it hits; joining, else issuing and closing what it spoils, else none
 unfoldable pub joining : Machine → ℕ → ℕ → List ℕ → Option (Live What Note) → Moves
 joining m k c f none = []
 joining m k c f (some e) = join k e (wanted f) (partyOf c f) ∷ []
 
-unfoldable pub serving : Machine → ℕ → List ℕ → Moves
-serving m c f =
+unfoldable pub missing : Machine → ℕ → List ℕ → Moves
+missing m c f =
     cond (canJoin m f) (joining m (joiningPlace m f) c f (at (m .book) (joiningPlace m f)))
     (cond (exhausted m c) []
     (issue (freePlace rules (m .book)) (freeId rules (m .book)) (wanted f) opened (m .book .clock + settings m .timeout) (partyOf c f) ∷ mark (closing (wanted f)) ∷ []))
+
+unfoldable pub serving : Machine → ℕ → List ℕ → Moves
+serving m c f = cond (hits m f) [] (missing m c f)
 
 unfoldable pub ending : (Live What Note → Move Value What Note) → Option (Live What Note) → Moves
 ending x none = []
@@ -87,9 +91,9 @@ unfolding joinedTo joining excepted applies
 joined-follows m k c f o none = refl
 joined-follows m k c f o (some e) = refl
 
-served-follows : (m : Machine) (c : ℕ) (f o : List ℕ) → served m c f o .after .book ≡ applies rules (m .book) (serving m c f)
-unfolding served serving excepted issuedTo applies
-served-follows m c f o =
+missed-follows : (m : Machine) (c : ℕ) (f o : List ℕ) → missed m c f o .after .book ≡ applies rules (m .book) (missing m c f)
+unfolding missed missing excepted issuedTo applies
+missed-follows m c f o =
     ⊎-elim
     (λ (t : canJoin m f ≡ true). rw t (into (at (m .book) (joiningPlace m f))))
     (λ (t : canJoin m f ≡ false). rw t (⊎-elim (λ (u : exhausted m c ≡ true). rw u refl) (λ (u : exhausted m c ≡ false). rw u refl) (true-or (exhausted m c))))
@@ -97,6 +101,19 @@ served-follows m c f o =
   where
     into : (q : Option (Live What Note)) → joinedTo m (joiningPlace m f) c f o q .after .book ≡ applies rules (m .book) (joining m (joiningPlace m f) c f q)
     into q = joined-follows m (joiningPlace m f) c f o q
+
+hit-follows : (m : Machine) (f o : List ℕ) (q : Option Cached) → hitOn m f o q .after .book ≡ m .book
+unfolding hitOn excepted
+hit-follows m f o none = refl
+hit-follows m f o (some e) = refl
+
+served-follows : (m : Machine) (c : ℕ) (f o : List ℕ) → served m c f o .after .book ≡ applies rules (m .book) (serving m c f)
+unfolding served serving applies
+served-follows m c f o =
+    ⊎-elim
+    (λ (t : hits m f ≡ true). rw t (hit-follows m f o (inCache (m .cache) (hittingPlace m f))))
+    (λ (t : hits m f ≡ false). rw t (missed-follows m c f o))
+    (true-or (hits m f))
 
 granted-follows : (m : Machine) (x : Call) → refusal m x ≡ 0 → granted m x .after .book ≡ applies rules (m .book) (grantedMoves m x)
 unfolding granted grantedMoves applies admitted answered answeredTo ticked expiredTo ending excepted
@@ -129,9 +146,9 @@ joined-fits : (m : Machine) (k c : ℕ) (f : List ℕ) (e : Live What Note) → 
 unfolding joining AllFit
 joined-fits m k c f e h o = ((h, o .1, o .2, joins-exact (settings m) (wanted f) (e .what) (e .note) (o .0) .1), tt)
 
-served-fits : (m : Machine) (c : ℕ) (f : List ℕ) → Good rules (m .book) → AllFit rules (m .book) (serving m c f)
-unfolding serving AllFit exhausted
-served-fits m c f g =
+missed-fits : (m : Machine) (c : ℕ) (f : List ℕ) → Good rules (m .book) → AllFit rules (m .book) (missing m c f)
+unfolding missing AllFit exhausted
+missed-fits m c f g =
     ⊎-elim
     (λ (t : canJoin m f ≡ true).
     let w = join-found rules (m .book) g (joins (settings m) (wanted f)) (ltb-true (joiningPlace m f) places t) in
@@ -143,6 +160,10 @@ served-fits m c f g =
     (λ (u : ltb (freePlace rules (m .book)) places ≡ false). rw u tt)
     (true-or (ltb (freePlace rules (m .book)) places))))
     (true-or (canJoin m f))
+
+served-fits : (m : Machine) (c : ℕ) (f : List ℕ) → Good rules (m .book) → AllFit rules (m .book) (serving m c f)
+unfolding serving AllFit
+served-fits m c f g = ⊎-elim (λ (t : hits m f ≡ true). rw t tt) (λ (t : hits m f ≡ false). rw t (missed-fits m c f g)) (true-or (hits m f))
 
 pub same-entry : {d e : Live What Note} → some d ≡ some e → d ≡ e
 same-entry h = cc
@@ -193,10 +214,10 @@ pairs-back (p ∷ ps) = ap (p ∷_) (pairs-back ps)
 listed-back : (ps : List Party) (l : List ℕ) → partiesIn (take (2 * length ps) (over (pairs ps) l)) ≡ ps
 listed-back ps l = ap partiesIn (take-at (pairs ps) (drop (length (pairs ps)) l) (2 * length ps) (pairs-length ps)) ∙ pairs-back ps
 
-served-honest : (v : Value) (m : Machine) (c t : ℕ) (f o : List ℕ) → Good rules (m .book) → settings m ≡ v → m .book .clock ≡ t
-    → told v (request c t f o) (seenOf (served m c f o)) ≡ passed t ∷ tells (serving m c f)
-unfolding told served serving tells numbers excepted issuedTo joinedTo joining exhausted
-served-honest v m c t f o g s k =
+missed-honest : (v : Value) (m : Machine) (c t : ℕ) (f o : List ℕ) → Good rules (m .book) → settings m ≡ v → m .book .clock ≡ t
+    → told v (request c t f o) (seenOf (missed m c f o)) ≡ passed t ∷ tells (missing m c f)
+unfolding told missed missing tells numbers excepted issuedTo joinedTo joining exhausted
+missed-honest v m c t f o g s k =
     rw (← wanted-spelled f, ← party-spelled c f)
     (⊎-elim
     (λ (z : canJoin m f ≡ true).
@@ -208,6 +229,20 @@ served-honest v m c t f o g s k =
     (λ (u : ltb (freePlace rules (m .book)) places ≡ false). rw u refl)
     (true-or (ltb (freePlace rules (m .book)) places))))
     (true-or (canJoin m f)))
+
+hit-honest : (v : Value) (m : Machine) (c t : ℕ) (f o : List ℕ) (q : Option Cached) → told v (request c t f o) (seenOf (hitOn m f o q)) ≡ passed t ∷ []
+unfolding told numbers hitOn excepted
+hit-honest v m c t f o none = refl
+hit-honest v m c t f o (some e) = refl
+
+served-honest : (v : Value) (m : Machine) (c t : ℕ) (f o : List ℕ) → Good rules (m .book) → settings m ≡ v → m .book .clock ≡ t
+    → told v (request c t f o) (seenOf (served m c f o)) ≡ passed t ∷ tells (serving m c f)
+unfolding served serving tells
+served-honest v m c t f o g s k =
+    ⊎-elim
+    (λ (z : hits m f ≡ true). rw z (hit-honest v m c t f o (inCache (m .cache) (hittingPlace m f))))
+    (λ (z : hits m f ≡ false). rw z (missed-honest v m c t f o g s k))
+    (true-or (hits m f))
 
 replied-honest : (v : Value) (m n : Machine) (k t : ℕ) (f o l : List ℕ) (e : Live What Note)
     → told v (reply t f o l) (seenOf (answeredTo n k f o l (some e))) ≡ passed t ∷ tells (ending (replies k) (some e))
@@ -270,8 +305,8 @@ honest v m x g s =
 
 -- the settings stay those that the machine was made with
 served-rule : (m : Machine) (c : ℕ) (f o : List ℕ) → settings (served m c f o .after) ≡ settings m
-unfolding excepted joinedTo issuedTo
-served-rule m c f o = served-cases (λ d. settings (d .after) ≡ settings m) m c f o refl (λ k e. refl) refl
+unfolding excepted joinedTo issuedTo hitOn
+served-rule m c f o = served-cases (λ d. settings (d .after) ≡ settings m) m c f o refl (λ k e. refl) refl (λ e. refl)
 
 expired-rule : (m : Machine) (k : ℕ) (o l : List ℕ) (q : Option (Live What Note)) → settings (expiredTo m k o l q .after) ≡ settings m
 unfolding expiredTo

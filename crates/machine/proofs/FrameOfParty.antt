@@ -1,4 +1,4 @@
--- The frame that a party is handed: whoever a reply or a timeout answers gets a frame that is not refused, carries its own id, and answers what it asked.
+-- The frame that a party is handed: whoever a reply, a timeout or a hit answers gets a frame that is not refused, carries its own id, and answers what it asked.
 -- Assumes nothing.
 use Prim.Native.Nat.{ℕ, _+_, _≤_, _<_}
 use mathlib.Core.Path.{_≡_, refl, ap, _∙_}
@@ -7,13 +7,13 @@ use mathlib.Core.Bool.{true, false}
 use mathlib.Core.Option.{Option, some, none, Option·none-ne-some, Option·some-injective}
 use mathlib.Core.List.{List, [], _∷_}
 use native.Mathlib.Omega.{arith}
-use lib.ListN.{length, getD, drop, set}
+use lib.ListN.{length, getD, take, drop, set}
 use lib.Seq.{take-at, set-out}
 use lib.Dec.{eqb}
 use Rattle.numbers.specs.Numbers.{places, noResponse}
 use Rattle.laws.proofs.Choice.{true-or, eq-or, lt-or}
 use Rattle.settings.specs.Grammar.{Value}
-use Rattle.wire.specs.Frame.{functionOf, misframed, laid, exception}
+use Rattle.wire.specs.Frame.{functionOf, idOf, misframed, laid, exception}
 use Rattle.wire.proofs.FrameLaws.{framed, exception-framed, length-laid, laid-framed}
 use Rattle.pdu.specs.Requests.{badFunction, faultOf}
 use Rattle.pdu.specs.Replies.{What, answering}
@@ -22,25 +22,31 @@ use Rattle.pdu.proofs.RequestLaws.{known}
 use Rattle.pdu.proofs.ReplyLaws.{excepts-exact, answers-exact, exception-excepts}
 use Rattle.rewrite.specs.Frames.{returned}
 use Rattle.rewrite.proofs.FrameLaws.{length-returned, returned-framed, returned-answers, laid-answers}
+use Rattle.cache.specs.Cache.{Cached, inCache}
 use Rattle.book.specs.Book.{Party, Live, at, newEntry, struck, marked}
 use Rattle.book.specs.Desk.{freePlace, freeId, duePlace}
 use Rattle.book.specs.Follower.{after, stateAfter}
 use Rattle.book.proofs.PlaceLaws.{set-cases, map-each, nothing-there}
 use Rattle.machine.specs.Machine.{Machine, Note, opened, made, rules, settings, clocked}
-use Rattle.machine.specs.Calls.{Call}
+use Rattle.machine.specs.Calls.{Call, Outcome}
 use Rattle.machine.specs.Calls.Call.{attach, detach, request, reply, tick, linkLost}
 use Rattle.machine.specs.Refusals.{rows, refusal}
-use Rattle.machine.specs.Requests.{wanted, partyOf, closing, joiningPlace, canJoin, exhausted, excepted, joinedTo, issuedTo, served, admitted}
+use Rattle.machine.specs.Requests.{wanted, partyOf, closing, joiningPlace, canJoin, exhausted, excepted, hittingPlace, hits, hitOn, joinedTo, issuedTo, missed, served, admitted}
 use Rattle.machine.specs.Replies.{answeredTo, answered, expiredTo, ticked}
 use Rattle.machine.specs.Outcomes.{granted, outcome}
 use Rattle.machine.specs.Numbers.{numbers}
+use Rattle.machine.specs.Spelled.{asker, asking}
 use Rattle.machine.specs.Histories.{seenOf, afterCalls}
 use Rattle.machine.specs.declared.Answer.{Answer}
+use Rattle.machine.specs.Requested.{Hits}
 use Rattle.machine.specs.Answered.{Answers, Expires}
 use Rattle.machine.specs.PartysFrames.{PartysFrame, frameFor}
 use Rattle.machine.proofs.RefusalLaws.{refusal-changes-nothing}
 use Rattle.machine.proofs.LowestLaws.{none-applies}
 use Rattle.machine.proofs.OutcomeLaws.{granted-is, reply-finds}
+use Rattle.machine.proofs.AnswerLaws.{reply-framed}
+use Rattle.machine.proofs.SpelledLaws.{party-spelled}
+use Rattle.machine.proofs.CachedLaws.{Stocked}
 use Rattle.machine.proofs.Histories.{product}
 
 -- a frame that is not refused and answers, under a party's id
@@ -60,13 +66,6 @@ partys w p f e a =
 
 -- A REPLY
 
-reply-framed : (m : Machine) (t : ℕ) (f o l : List ℕ) → refusal m (reply t f o l) ≡ 0 → misframed f ≡ false
-unfolding rows
-reply-framed m t f o l h =
-    let a = none-applies _ 1 _ (λ z. omega arith) h in
-    let b = none-applies _ 3 _ (λ z. omega arith) (a .1) in
-    none-applies (misframed f) 4 _ (λ z. omega arith) (b .1) .0
-
 -- A reply that is not refused hands each party of its entry its frame.
 pub reply-frame : (m : Machine) (t : ℕ) (f o l : List ℕ) → refusal m (reply t f o l) ≡ 0 → (a : Answers m f o l (outcome m (reply t f o l)))
     → (numbers (outcome m (reply t f o l) .says) .id ≡ a .entry .id) × ((p : Party) → PartysFrame (a .entry .what) p (frameFor p (seenOf (outcome m (reply t f o l)))))
@@ -81,6 +80,19 @@ reply-frame m t f o l h a =
           rw (a .says, a .frame, take-at (laid 0 r) (drop (length (laid 0 r)) o) (length f) n)
           (partys w p r (returned-framed (settings m .tags) f w ∙ e) (returned-answers (settings m .tags) f w ∙ a .matches)),
     )
+
+-- A HIT
+
+-- A hit is its caller's frame.
+pub hit-frame : (m : Machine) (c t : ℕ) (f o : List ℕ) (d : Outcome) → Stocked (m .cache) → Hits m c t f o d
+    → PartysFrame (asking f) (asker c f) (take (numbers (d .says) .length) (d .written))
+hit-frame m c t f o d s h =
+    let e = h .cached in
+    let w = s .frames (h .place) e (h .there) in
+    let n : length (laid (idOf f) (e .bytes)) ≡ length (e .bytes) = length-laid (idOf f) (e .bytes) (let y = framed (e .bytes) (w .0) .least in omega arith) in
+    let own : idOf f ≡ asker c f .original = ap (λ (p : Party). p .original) (party-spelled c f) in
+    rw (h .report, h .frame, take-at (laid (idOf f) (e .bytes)) (drop (length (laid (idOf f) (e .bytes))) o) (length (e .bytes)) n, own)
+    (partys (asking f) (asker c f) (e .bytes) (w .0) (rw (h .same) at (w .1)))
 
 -- A TIMEOUT
 
@@ -101,9 +113,9 @@ placed-known ps j x n = known-set ps j (some x) (λ e z. rw (Option·some-inject
 ended-known : (ps : List (Option (Live What Note))) (j : ℕ) → AllKnown ps → AllKnown (set ps j none)
 ended-known ps j = known-set ps j none (λ e z. absurd (Option·none-ne-some e z))
 
-served-known : (m : Machine) (c : ℕ) (f o : List ℕ) → Known (functionOf f) → AllKnown (m .book .places) → AllKnown (served m c f o .after .book .places)
-unfolding served joinedTo issuedTo excepted
-served-known m c f o n a =
+missed-known : (m : Machine) (c : ℕ) (f o : List ℕ) → Known (functionOf f) → AllKnown (m .book .places) → AllKnown (missed m c f o .after .book .places)
+unfolding missed joinedTo issuedTo excepted
+missed-known m c f o n a =
     ⊎-elim
     (λ (t : canJoin m f ≡ true). rw t (into (at (m .book) (joiningPlace m f)) refl))
     (λ (t : canJoin m f ≡ false). rw t
@@ -119,6 +131,15 @@ served-known m c f o n a =
     into : (q : Option (Live What Note)) → at (m .book) (joiningPlace m f) ≡ q → AllKnown (joinedTo m (joiningPlace m f) c f o q .after .book .places)
     into none e = a
     into (some x) e = placed-known (m .book .places) _ _ (a (joiningPlace m f) x e) a
+
+served-known : (m : Machine) (c : ℕ) (f o : List ℕ) → Known (functionOf f) → AllKnown (m .book .places) → AllKnown (served m c f o .after .book .places)
+unfolding served hitOn excepted
+served-known m c f o n a =
+    ⊎-elim (λ (t : hits m f ≡ true). rw t (shown (inCache (m .cache) (hittingPlace m f)))) (λ (t : hits m f ≡ false). rw t (missed-known m c f o n a)) (true-or (hits m f))
+  where
+    shown : (q : Option Cached) → AllKnown (hitOn m f o q .after .book .places)
+    shown none = a
+    shown (some e) = a
 
 request-known : (m : Machine) (c t : ℕ) (f o : List ℕ) → refusal m (request c t f o) ≡ 0 → Known (functionOf f)
 unfolding rows

@@ -6,6 +6,7 @@ pub mod RefusalLaws
 pub mod OutcomeLaws
 pub mod NumberLaws
 pub mod RequestLaws
+pub mod CachedLaws
 pub mod AskLaws
 pub mod Follows
 pub mod PartyLaws
@@ -19,4 +20,5 @@ pub mod WaitingLaws
 pub mod SizeLaws
 pub mod FrameOfParty
 pub mod ClosedLaws
+pub mod Freshness
 pub mod Claims

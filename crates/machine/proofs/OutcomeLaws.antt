@@ -9,18 +9,20 @@ use mathlib.Core.List.{List}
 use native.Mathlib.Omega.{arith}
 use native.Mathlib.Nat.{max-eq-right}
 use lib.Dec.{eqb, ltb}
-use borrow.Author.Tests.{eq-eqb, ltb-false}
+use borrow.Author.Tests.{eq-eqb, ltb-true, ltb-false}
 use Rattle.numbers.specs.Numbers.{latestTime, deviceFailure}
 use Rattle.laws.proofs.Choice.{true-or, eq-or, or-right}
 use Rattle.pdu.specs.Requests.{faultOf}
 use Rattle.pdu.specs.Replies.{What}
+use Rattle.cache.specs.Cache.{Cached}
+use Rattle.cache.proofs.CacheLaws.{hit-found}
 use Rattle.book.specs.Book.{Live, Good, at}
 use Rattle.book.specs.Desk.{duePlace}
 use Rattle.machine.specs.Machine.{Machine, Note, rules, clocked}
 use Rattle.machine.specs.Calls.{Call, Outcome, done, outOf, listOf, timeOf}
 use Rattle.machine.specs.Calls.Call.{attach, detach, request, reply, tick, linkLost}
 use Rattle.machine.specs.Refusals.{rows, refusal, entryFor, isUntimely, isDead}
-use Rattle.machine.specs.Requests.{excepted, joinedTo, issuedTo, served, admitted, canJoin, exhausted, joiningPlace}
+use Rattle.machine.specs.Requests.{wanted, excepted, hits, hitOn, joinedTo, issuedTo, missed, served, admitted, canJoin, exhausted, joiningPlace}
 use Rattle.machine.specs.Replies.{answeredTo, answered, expiredTo, ticked}
 use Rattle.machine.specs.Outcomes.{granted, outcome}
 use Rattle.machine.specs.declared.Answer.{Answer}
@@ -29,11 +31,11 @@ use Rattle.machine.specs.RefusalTable.{Applies, table}
 use Rattle.machine.proofs.LowestLaws.{none-applies}
 use Rattle.machine.proofs.RefusalLaws.{refused-exactly, refusal-changes-nothing}
 
--- every outcome of a request that is not refused, as one of three cases
-pub served-cases : (P : Outcome → Type 0) (m : Machine) (c : ℕ) (f o : List ℕ)
-    → P (excepted m deviceFailure f o) → ((k : ℕ) (e : Live What Note) → P (joinedTo m k c f o (some e))) → P (issuedTo m c f o) → P (served m c f o)
-unfolding served joinedTo
-served-cases P m c f o x j i =
+-- every outcome of a legal request that hits nothing, as one of three cases
+missed-cases : (P : Outcome → Type 0) (m : Machine) (c : ℕ) (f o : List ℕ)
+    → P (excepted m deviceFailure f o) → ((k : ℕ) (e : Live What Note) → P (joinedTo m k c f o (some e))) → P (issuedTo m c f o) → P (missed m c f o)
+unfolding missed joinedTo
+missed-cases P m c f o x j i =
     ⊎-elim
     (λ (t : canJoin m f ≡ true). rw t (into (at (m .book) (joiningPlace m f))))
     (λ (t : canJoin m f ≡ false). rw t (⊎-elim (λ (u : exhausted m c ≡ true). rw u x) (λ (u : exhausted m c ≡ false). rw u i) (true-or (exhausted m c))))
@@ -42,6 +44,17 @@ served-cases P m c f o x j i =
     into : (q : Option (Live What Note)) → P (joinedTo m (joiningPlace m f) c f o q)
     into none = x
     into (some e) = j (joiningPlace m f) e
+
+-- every outcome of a legal request, as one of four cases
+pub served-cases : (P : Outcome → Type 0) (m : Machine) (c : ℕ) (f o : List ℕ)
+    → P (excepted m deviceFailure f o) → ((k : ℕ) (e : Live What Note) → P (joinedTo m k c f o (some e))) → P (issuedTo m c f o) → ((e : Cached) → P (hitOn m f o (some e)))
+    → P (served m c f o)
+unfolding served
+served-cases P m c f o x j i h =
+    ⊎-elim
+    (λ (t : hits m f ≡ true). let w = hit-found (m .cache) (m .book .clock) (wanted f) (ltb-true _ _ t) in rw t (rw (w .1) (h (w .0))))
+    (λ (t : hits m f ≡ false). rw t (missed-cases P m c f o x j i))
+    (true-or (hits m f))
 
 -- and those of a tick, as one of two
 pub expired-cases : (P : Outcome → Type 0) (m : Machine) (o l : List ℕ) → ((k : ℕ) → P (expiredTo m k o l none)) → ((k : ℕ) (e : Live What Note) → P (expiredTo m k o l (some e)))
@@ -60,6 +73,7 @@ isRefusal (answer.Answered i n k p v) = false
 isRefusal (answer.TimedOut i k) = false
 isRefusal answer.NothingDue = false
 isRefusal (answer.Lost s) = false
+isRefusal (answer.Hit n p v) = false
 
 -- a reply that is not refused finds its entry
 pub reply-finds : (m : Machine) (t : ℕ) (f o l : List ℕ) → refusal m (reply t f o l) ≡ 0 → (e : Live What Note) × (entryFor m f ≡ some e)
@@ -77,12 +91,12 @@ reply-finds m t f o l h =
 
 -- what is granted is no refusal
 pub granted-no-refusal : (m : Machine) (x : Call) → refusal m x ≡ 0 → isRefusal (granted m x .says) ≡ false
-unfolding granted admitted excepted answered answeredTo ticked expiredTo joinedTo issuedTo
+unfolding granted admitted excepted answered answeredTo ticked expiredTo joinedTo issuedTo hitOn
 granted-no-refusal m (attach c) h = refl
 granted-no-refusal m (detach c) h = refl
 granted-no-refusal m (request c t f o) h =
     ⊎-elim
-    (λ (z : eqb (faultOf f) 0 ≡ true). rw z (served-cases (λ d. isRefusal (d .says) ≡ false) (clocked m t) c f o refl (λ k e. refl) refl))
+    (λ (z : eqb (faultOf f) 0 ≡ true). rw z (served-cases (λ d. isRefusal (d .says) ≡ false) (clocked m t) c f o refl (λ k e. refl) refl (λ e. refl)))
     (λ (z : eqb (faultOf f) 0 ≡ false). rw z refl)
     (true-or (eqb (faultOf f) 0))
 granted-no-refusal m (reply t f o l) h = let e = reply-finds m t f o l h in rw (e .1) refl
@@ -124,8 +138,8 @@ timely : (m : Machine) (t : ℕ) → isUntimely m t ≡ false → max (m .book .
 timely m t e = max-eq-right (ltb-false t (m .book .clock) (or-right (ltb latestTime t) (ltb t (m .book .clock)) e))
 
 served-clock : (m : Machine) (c t : ℕ) (f o : List ℕ) → served (clocked m t) c f o .after .book .clock ≡ max (m .book .clock) t
-unfolding excepted joinedTo issuedTo
-served-clock m c t f o = served-cases (λ d. d .after .book .clock ≡ max (m .book .clock) t) (clocked m t) c f o refl (λ k e. refl) refl
+unfolding excepted joinedTo issuedTo hitOn
+served-clock m c t f o = served-cases (λ d. d .after .book .clock ≡ max (m .book .clock) t) (clocked m t) c f o refl (λ k e. refl) refl (λ e. refl)
 
 same-time : {a b : ℕ} → some a ≡ some b → a ≡ b
 same-time e = cc

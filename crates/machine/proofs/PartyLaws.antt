@@ -26,27 +26,30 @@ use Rattle.machine.specs.Spelled.{asker, asking}
 use Rattle.machine.specs.Replies.{expiredTo, ticked}
 use Rattle.machine.specs.Outcomes.{granted, outcome}
 use Rattle.machine.specs.declared.Answer.the-variants as answer
-use Rattle.machine.specs.Requested.{Issues, Joins, Excepts, Stands, Accepts}
+use Rattle.machine.specs.Requested.{Hits, Issues, Joins, Excepts, Stands, Accepts}
 use Rattle.machine.specs.Answered.{Ended}
 use Rattle.machine.proofs.RefusalLaws.{refusal-changes-nothing}
 use Rattle.machine.proofs.OutcomeLaws.{granted-is, clocked-at}
 use Rattle.machine.proofs.Follows.{same-entry}
 use Rattle.machine.proofs.AskLaws.{request-comes-to}
+use Rattle.machine.proofs.CachedLaws.{Stocked}
 
 -- A request that is joined or issued stands in the party places afterwards, as the latest party of a live entry that asks what it asks.
-pub accepted-stands : (m : Machine) (c t : ℕ) (f o : List ℕ) → Good rules (m .book) → (id : ℕ)
+pub accepted-stands : (m : Machine) (c t : ℕ) (f o : List ℕ) → Good rules (m .book) → Stocked (m .cache) → (id : ℕ)
     → Accepts (outcome m (request c t f o) .says) id → Stands (outcome m (request c t f o) .after .book) id (asking f) (asker c f)
 unfolding Accepts
-accepted-stands m c t f o g id a =
+accepted-stands m c t f o g s id a =
     ⊎-elim
     (λ (h : refusal m (request c t f o) ≡ 0). ⊎-elim
+    (λ (x : Hits m c t f o (outcome m (request c t f o))). absurd (rw (x .says) at a))
+    (⊎-elim
     (λ (x : Issues m c t f o (outcome m (request c t f o))).
     record { place = x .place; entry = _; before = []; there = x .entered; same = rw (x .says) at a; asks = refl; latest = refl })
     (⊎-elim
     (λ (x : Joins m c t f o (outcome m (request c t f o))).
     record { place = x .place; entry = _; before = x .entry .parties; there = x .added; same = rw (x .says) at a; asks = x .may .same; latest = refl })
-    (λ (x : Excepts m t f o (outcome m (request c t f o))). absurd (rw (x .says) at a)))
-    (request-comes-to m c t f o g h))
+    (λ (x : Excepts m t f o (outcome m (request c t f o))). absurd (rw (x .says) at a))))
+    (request-comes-to m c t f o g s h))
     (λ (h : refusal m (request c t f o) ≡ 0 → ⊥). absurd (rw (ap (λ (d : Outcome). d .says) (refusal-changes-nothing m (request c t f o) h)) at a))
     (eq-or (refusal m (request c t f o)) 0)
 

@@ -26,7 +26,7 @@ use Rattle.machine.specs.Machine.{Machine, made, rules, clocked}
 use Rattle.machine.specs.Calls.{Call, Outcome, timeOf}
 use Rattle.machine.specs.Calls.Call.{attach, detach, request, reply, tick, linkLost}
 use Rattle.machine.specs.Refusals.{refusal}
-use Rattle.machine.specs.Requests.{excepted, joinedTo, issuedTo, admitted}
+use Rattle.machine.specs.Requests.{excepted, hitOn, joinedTo, issuedTo, admitted}
 use Rattle.machine.specs.Replies.{answeredTo, answered, expiredTo, ticked}
 use Rattle.machine.specs.Outcomes.{granted, outcome}
 use Rattle.machine.specs.Granted.{grantedFrom, grantedCalls, concerns}
@@ -53,12 +53,12 @@ by-calls P step v m gs (x ∷ xs) h =
 
 -- requests, replies and ticks leave the set
 stays : (m : Machine) (x : Call) → refusal m x ≡ 0 → (timeOf x ≡ none → ⊥) → granted m x .after .attached ≡ m .attached
-unfolding granted admitted excepted joinedTo issuedTo answered answeredTo ticked expiredTo
+unfolding granted admitted excepted joinedTo issuedTo hitOn answered answeredTo ticked expiredTo
 stays m (attach c) h t = absurd (t refl)
 stays m (detach c) h t = absurd (t refl)
 stays m (request c u f o) h t =
     ⊎-elim
-    (λ (z : eqb (faultOf f) 0 ≡ true). rw z (served-cases (λ d. d .after .attached ≡ m .attached) (clocked m u) c f o refl (λ k e. refl) refl))
+    (λ (z : eqb (faultOf f) 0 ≡ true). rw z (served-cases (λ d. d .after .attached ≡ m .attached) (clocked m u) c f o refl (λ k e. refl) refl (λ e. refl)))
     (λ (z : eqb (faultOf f) 0 ≡ false). rw z refl)
     (true-or (eqb (faultOf f) 0))
 stays m (reply u f o l) h t = let e = reply-finds m u f o l h in rw (e .1) refl

@@ -31,14 +31,14 @@ use Rattle.machine.proofs.LowestLaws.{passes, none-left}
 use Rattle.machine.proofs.AnswerLaws.{ticked-is, idle-found}
 use Rattle.machine.proofs.Histories.{product}
 
-expired-after : (m : Machine) (k : ℕ) (o l : List ℕ) (q : Option (Live What Note)) → expiredTo m k o l q .after ≡ machine (apply rules (m .book) (expireAt k q)) (m .attached)
+expired-after : (m : Machine) (k : ℕ) (o l : List ℕ) (q : Option (Live What Note)) → expiredTo m k o l q .after ≡ machine (apply rules (m .book) (expireAt k q)) (m .attached) (m .cache)
 unfolding expiredTo
 expired-after m k o l none = refl
 expired-after m k o l (some e) = refl
 
 -- the state after a tick is what the book's own tick makes of it once the clock is set
 tick-leaves : (m : Machine) (t : ℕ) (o l : List ℕ) → refusal m (tick t o l) ≡ 0
-    → outcome m (tick t o l) .after ≡ machine (apply rules (clocked m t .book) (choose rules (clocked m t .book) ticking)) (m .attached)
+    → outcome m (tick t o l) .after ≡ machine (apply rules (clocked m t .book) (choose rules (clocked m t .book) ticking)) (m .attached) (m .cache)
 tick-leaves m t o l h = let b = clocked m t .book in ap (λ (d : Outcome). d .after) (ticked-is m t o l h) ∙ expired-after (clocked m t) (duePlace rules b) o l (at b (duePlace rules b))
 
 -- What the buffers hold has no part in the state after a tick.

@@ -52,7 +52,7 @@ pub record Expires (m : Machine) (t : ℕ) (o l : List ℕ) (d : Outcome) : Type
 
 -- m, with its clock at t
 abbrev pub showing : Machine → ℕ → Machine
-showing m t = machine (book (settings m) (m .book .places) (m .book .cursor) t) (m .attached)
+showing m t = machine (book (settings m) (m .book .places) (m .book .cursor) t) (m .attached) (m .cache)
 
 -- a table with at most one entry ended, and that one due at t
 pub record Ended (t : ℕ) (ps qs : List (Option (Live What Note))) : Type 0 where

@@ -10,6 +10,7 @@ pub mod Numbers
 pub mod Spelled
 pub mod Histories
 pub mod Closed
+pub mod Cached
 pub mod RefusalTable
 pub mod Requested
 pub mod Answered

@@ -9,7 +9,7 @@ use Rattle.pdu.specs.declared.ProxyId.{ProxyId}
 use Rattle.machine.specs.Machine.{Machine}
 use Rattle.machine.specs.Calls.{Outcome}
 use Rattle.machine.specs.declared.Answer.{Answer}
-use Rattle.machine.specs.declared.Answer.the-variants.{Refused, Done, Issued, Joined, Excepted, Answered, TimedOut, NothingDue, Lost}
+use Rattle.machine.specs.declared.Answer.the-variants.{Refused, Done, Issued, Joined, Excepted, Answered, TimedOut, NothingDue, Lost, Hit}
 use Rattle.machine.specs.declared.Report.{Report}
 
 -- the outcomes' numbers: ZB_DONE and so on
@@ -34,6 +34,9 @@ isTimedOut = 6
 abbrev pub isNothingDue : ℕ
 isNothingDue = 7
 
+abbrev pub isHit : ℕ
+isHit = 10
+
 abbrev pub report : (refusal outcome length parties partial value set id code : ℕ) → Report
 report r o n k p v s i c =
     record { refusal = r; line = 0; outcome = o; length = n; parties = k; partial = p; value = v; set = s; id = i; code = c }
@@ -53,6 +56,7 @@ numbers (Answered i n k p v) = report 0 isAnswered n k p v 0 (i .0) 0
 numbers (TimedOut i k) = report 0 isTimedOut exceptionFrame k 0 0 0 (i .0) 0
 numbers NothingDue = report 0 isNothingDue 0 0 0 0 0 0 0
 numbers (Lost s) = report 0 isDone 0 0 0 0 s 0 0
+numbers (Hit n p v) = report 0 isHit n 0 p v 0 0 0
 
 -- what a C host sees of a call: the report's numbers, the machine afterwards, and every byte and number of the lent buffers
 pub record Reported : Type 0 where
@@ -79,6 +83,7 @@ pub record Plainly : Type 0 where
   pub timed-out : (i : ProxyId) (k : ℕ) → numbers (TimedOut i k) ≡ ten 0 0 6 9 k 0 0 0 (i .0) 0
   pub nothing-due : numbers NothingDue ≡ ten 0 0 7 0 0 0 0 0 0 0
   pub lost : (s : ℕ) → numbers (Lost s) ≡ ten 0 0 1 0 0 0 0 s 0 0
+  pub hit : (n p v : ℕ) → numbers (Hit n p v) ≡ ten 0 0 10 n 0 p v 0 0 0
 
 -- what a report says of the answer
 pub record Tells (r : Report) (a : Answer) : Type 0 where
@@ -90,3 +95,4 @@ pub record Tells (r : Report) (a : Answer) : Type 0 where
   pub answered : r .outcome ≡ isAnswered → a ≡ Answered (record { 0 = r .id }) (r .length) (r .parties) (r .partial) (r .value)
   pub timed-out : r .outcome ≡ isTimedOut → a ≡ TimedOut (record { 0 = r .id }) (r .parties)
   pub nothing-due : r .outcome ≡ isNothingDue → a ≡ NothingDue
+  pub hit : r .outcome ≡ isHit → a ≡ Hit (r .length) (r .partial) (r .value)

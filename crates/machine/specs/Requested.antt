@@ -1,8 +1,8 @@
--- What a request that is not refused comes to, in plain numbers and bytes: what it may join, and that it is issued, joins, or gets an exception; and where one that is accepted stands.
+-- What a request that is not refused comes to, in plain numbers and bytes: what it may join, and that it is a hit, is issued, joins, or gets an exception; and where one that is accepted stands.
 -- Assumes nothing.
-use Prim.Native.Nat.{ℕ, _<_, _+_, _/_, _%_, _≤_}
+use Prim.Native.Nat.{ℕ, _<_, _+_, _-_, _/_, _%_, _≤_}
 use mathlib.Core.Path.{_≡_}
-use mathlib.Core.Logic.{_⊎_}
+use mathlib.Core.Logic.{_⊎_, _↔_}
 use mathlib.Core.Bool.{false, true}
 use mathlib.Core.Option.{some, none, Option·map}
 use mathlib.Core.List.{List, [], _∷_, _++_}
@@ -10,9 +10,10 @@ use lib.ListN.{length, getD, drop}
 use Rattle.numbers.specs.Numbers.{ids, room}
 use Rattle.laws.specs.Circle.{turn}
 use Rattle.laws.specs.Bytes.{over}
-use Rattle.wire.specs.Frame.{laid}
+use Rattle.wire.specs.Frame.{idOf, laid}
 use Rattle.pdu.specs.Requests.{checkedOf, legal}
 use Rattle.pdu.specs.Replies.{What}
+use Rattle.pdu.specs.Spoiling.{spoils}
 use Rattle.pdu.specs.declared.Table.the-variants.{Registers}
 use Rattle.pdu.specs.declared.Asked.{Asked}
 use Rattle.pdu.specs.declared.Asked.the-variants.{SingleWrite, MultipleWrite}
@@ -20,11 +21,15 @@ use Rattle.pdu.specs.declared.Checked.the-variants as check
 use Rattle.rewrite.specs.Plain.{Rewrites}
 use Rattle.rewrite.specs.Frames.{forwarded}
 use Rattle.rewrite.specs.declared.Way.the-variants.{ToBcd}
+use Rattle.cache.specs.Cache.{Cached, inCache}
 use Rattle.book.specs.Book.{Live, at, Next, marked, Party}
 use Rattle.machine.specs.Machine.{Machine, Note, settings, opened, rules, Live-book}
 use Rattle.machine.specs.Calls.{Outcome}
 use Rattle.machine.specs.Requests.{closing}
+use Rattle.machine.specs.Numbers.{ten, numbers}
 use Rattle.machine.specs.Spelled.{asking, asker}
+use Rattle.machine.specs.Cached.{NoHit}
+use Rattle.machine.specs.Answered.{showing}
 use Rattle.machine.specs.declared.Answer.the-variants as answer
 use Rattle.machine.specs.declared.Answer.{Answer}
 
@@ -47,9 +52,33 @@ pub data Carries : Asked → (base start quantity : ℕ) → Type 0 where
   single : {a v : ℕ} → Carries (SingleWrite Registers a v) 10 a 1
   multiple : {s q : ℕ} → Carries (MultipleWrite Registers s q) 13 s q
 
--- A request that goes out. It is legal, and nothing is there that it may join.
+-- A request that hits. It is legal, and the cache has a reply to what it asks that is younger than its life.
+pub record Hits (m : Machine) (c t : ℕ) (f o : List ℕ) (d : Outcome) : Type 0 where
+  pub is-legal : legal (settings m) f ≡ true
+  pub place : ℕ
+  pub cached : Cached
+  pub there : inCache (m .cache) place ≡ some cached
+  pub same : cached .what ≡ asking f
+  pub young : t - cached .filled < cached .life
+  -- the answer: the cached frame's length and the counts of the reply that filled the place; and all ten numbers of its report
+  pub says : d .says ≡ answer.Hit (length (cached .bytes)) (cached .partial) (cached .value)
+  pub report : numbers (d .says) ≡ ten 0 0 10 (length (cached .bytes)) 0 (cached .partial) (cached .value) 0 0 0
+  -- the buffer: the caller's own id, the cached frame behind it, and behind that what was there
+  pub high : ((k : ℕ) → getD f k 0 < 256) → getD (d .written) 0 0 ≡ getD f 0 0
+  pub low : ((k : ℕ) → getD f k 0 < 256) → getD (d .written) 1 0 ≡ getD f 1 0
+  pub bytes : (k : ℕ) → 2 ≤ k → k < length (cached .bytes) → getD (d .written) k 0 ≡ getD (cached .bytes) k 0
+  pub behind : (k : ℕ) → length (cached .bytes) ≤ k → getD (d .written) k 0 ≡ getD o k 0
+  pub size : length (d .written) ≡ length o
+  -- all of it at once
+  pub frame : d .written ≡ over (laid (idOf f) (cached .bytes)) o
+  pub listed : d .listed ≡ []
+  -- the machine: only the clock is set
+  pub after : d .after ≡ showing m t
+
+-- A request that goes out. It is legal, hits nothing, and nothing is there that it may join.
 pub record Issues (m : Machine) (c t : ℕ) (f o : List ℕ) (d : Outcome) : Type 0 where
   pub is-legal : legal (settings m) f ≡ true
+  pub no-hit : NoHit m t f
   pub alone : NoneToJoin m t f
   -- the answer: the first id from the cursor on that is not live, the frame's length, and how many tags stay raw for partial cover and for value
   pub id : ℕ
@@ -68,20 +97,22 @@ pub record Issues (m : Machine) (c t : ℕ) (f o : List ℕ) (d : Outcome) : Typ
   -- all of it at once, by the definition of what is forwarded
   pub frame : d .written ≡ over (laid id (forwarded (settings m .tags) (asking f .asked) f .bytes)) o
   pub listed : d .listed ≡ []
-  -- the machine: a place that was free holds the request, which is open, every other place has what it had, but that a read which the request spoils is closed, and the cursor stands
-  -- behind the id
+  -- the machine: a place that was free holds the request, which is open, every other place has what it had, but that a read which the request spoils is closed, the cursor stands
+  -- behind the id, and what is cached stays there unless the request spoils it
   pub place : ℕ
   pub free : at (m .book) place ≡ none
   pub entered : at (d .after .book) place ≡ some (record { id = id; what = asking f; by = c; note = opened; deadline = t + settings m .timeout; parties = asker c f ∷ [] })
   pub others : (k : ℕ) → (k ≡ place → ⊥) → at (d .after .book) k ≡ Option·map (marked (closing (asking f))) (at (m .book) k)
+  pub cached : (k : ℕ) (e : Cached) → (inCache (d .after .cache) k ≡ some e) ↔ ((inCache (m .cache) k ≡ some e) × (spoils (asking f) (e .what) ≡ false))
   pub cursor : d .after .book .cursor ≡ turn ids (id + 1)
   pub clock : d .after .book .clock ≡ t
   pub attached : d .after .attached ≡ m .attached
   pub rule : settings (d .after) ≡ settings m
 
--- A request that joins. It is legal, and the entry has the smallest id of those that it may join.
+-- A request that joins. It is legal, hits nothing, and the entry has the smallest id of those that it may join.
 pub record Joins (m : Machine) (c t : ℕ) (f o : List ℕ) (d : Outcome) : Type 0 where
   pub is-legal : legal (settings m) f ≡ true
+  pub no-hit : NoHit m t f
   pub place : ℕ
   pub entry : Live What Note
   pub there : at (m .book) place ≡ some entry
@@ -95,6 +126,7 @@ pub record Joins (m : Machine) (c t : ℕ) (f o : List ℕ) (d : Outcome) : Type
   pub added : at (d .after .book) place
       ≡ some (record { id = entry .id; what = entry .what; by = entry .by; note = entry .note; deadline = entry .deadline; parties = entry .parties ++ (asker c f ∷ []) })
   pub others : (k : ℕ) → (k ≡ place → ⊥) → at (d .after .book) k ≡ at (m .book) k
+  pub cache : d .after .cache ≡ m .cache
   pub cursor : d .after .book .cursor ≡ m .book .cursor
   pub clock : d .after .book .clock ≡ t
   pub attached : d .after .attached ≡ m .attached
@@ -112,6 +144,7 @@ pub record Excepts (m : Machine) (t : ℕ) (f o : List ℕ) (d : Outcome) : Type
   pub listed : d .listed ≡ []
   -- the machine: only the clock is set
   pub places : d .after .book .places ≡ m .book .places
+  pub cache : d .after .cache ≡ m .cache
   pub cursor : d .after .book .cursor ≡ m .book .cursor
   pub clock : d .after .book .clock ≡ t
   pub attached : d .after .attached ≡ m .attached
@@ -138,3 +171,4 @@ Accepts (answer.Answered i n k p v) id = ⊥
 Accepts (answer.TimedOut i k) id = ⊥
 Accepts answer.NothingDue id = ⊥
 Accepts (answer.Lost s) id = ⊥
+Accepts (answer.Hit n p v) id = ⊥

@@ -34,6 +34,11 @@ pub enum Answer {
     Lost {
         set: u32,
     },
+    Hit {
+        length: u32,
+        partial: u32,
+        value: u32,
+    },
 }
 
 // The C host's answer: a field that a call does not speak of is 0.

@@ -21,6 +21,9 @@ the-numbers-of-the-documents =
       party-places-are = refl;
       list-is-at-least = refl;
       others-between-are = refl;
+      cache-places-are = refl;
+      cache-numbers-are = refl;
+      cache-bytes-are = refl;
       ids-are = refl;
       addresses-are = refl;
       bytes-not-counted-are = refl;
@@ -56,6 +59,7 @@ the-numbers-of-the-documents =
       digits-are = refl;
       signed-digits-are = refl;
       minus-is = refl;
+      ttl-is-at-most = refl;
       version-written-is = refl;
       text-is-at-most = refl;
     }

@@ -1,7 +1,7 @@
 -- The sizes, bounds and codes of the documents, number by number.
 -- Assumes nothing.
 use mathlib.Core.Path.{_≡_}
-use Rattle.numbers.specs.Numbers.{clients, places, room, partyPlaces, mostTags, leastTimeout, mostTimeout, usualTimeout, latestTime, leastFrame, mostFrame, frameBuffer, listBuffer, ids, addresses, distance, uncounted, unitAt, headerSize, leastLength, mostLength, readCoils, readDiscrete, readHolding, readInput, writeCoil, writeSingle, writeCoils, writeMultiple, lastFunction, mostRead, mostWritten, mostBitsRead, mostBitsWritten, coilOff, coilOn, shortPdu, multiplePdu, exceptionPdu, exceptionBit, illegalAddress, illegalValue, deviceFailure, noResponse, exceptionLength, exceptionFrame, digitsPerRegister, signedDigits, minus, newestVersion, mostText}
+use Rattle.numbers.specs.Numbers.{clients, places, room, partyPlaces, mostTags, leastTimeout, mostTimeout, usualTimeout, latestTime, leastFrame, mostFrame, frameBuffer, listBuffer, cachePlaces, cacheNumbers, cacheBytes, ids, addresses, distance, uncounted, unitAt, headerSize, leastLength, mostLength, readCoils, readDiscrete, readHolding, readInput, writeCoil, writeSingle, writeCoils, writeMultiple, lastFunction, mostRead, mostWritten, mostBitsRead, mostBitsWritten, coilOff, coilOn, shortPdu, multiplePdu, exceptionPdu, exceptionBit, illegalAddress, illegalValue, deviceFailure, noResponse, exceptionLength, exceptionFrame, digitsPerRegister, signedDigits, minus, mostTtl, newestVersion, mostText}
 
 -- the numbers, in the documents' order
 pub record Documents : Type 0 where
@@ -21,6 +21,10 @@ pub record Documents : Type 0 where
   pub party-places-are : partyPlaces ≡ 8192
   pub list-is-at-least : listBuffer ≡ 64
   pub others-between-are : distance ≡ 65280
+  -- #107: 64 places, and what is kept of them: 193 numbers, 16,384 bytes
+  pub cache-places-are : cachePlaces ≡ 64
+  pub cache-numbers-are : cacheNumbers ≡ 193
+  pub cache-bytes-are : cacheBytes ≡ 16384
   -- ids and addresses of 16 bits
   pub ids-are : ids ≡ 65536
   pub addresses-are : addresses ≡ 65536
@@ -62,6 +66,7 @@ pub record Documents : Type 0 where
   pub digits-are : digitsPerRegister ≡ 4
   pub signed-digits-are : signedDigits ≡ 3
   pub minus-is : minus ≡ 0xf
-  -- "Settings text", and #105: version 2 is written, in at most 6,952 bytes
-  pub version-written-is : newestVersion ≡ 2
-  pub text-is-at-most : mostText ≡ 6952
+  -- "Settings text", and #107: a ttl of 0 to 60,000 ms; version 3 is written, in at most 9,512 bytes
+  pub ttl-is-at-most : mostTtl ≡ 60000
+  pub version-written-is : newestVersion ≡ 3
+  pub text-is-at-most : mostText ≡ 9512

@@ -3,7 +3,7 @@
 -- are given. Refusals: the rows of machine/specs/Refusals.antt, proxy/specs/Gates.antt for those told before a frame is looked into and for a fresh state, and the reports of the
 -- calls that need no device.
 -- Assumes nothing.
-use Prim.Native.Nat.{ℕ, _*_, _-_, _^_}
+use Prim.Native.Nat.{ℕ, _+_, _*_, _-_, _^_}
 
 -- "Numbers"
 abbrev pub clients : ℕ
@@ -45,6 +45,16 @@ frameBuffer = mostFrame
 
 abbrev pub listBuffer : ℕ
 listBuffer = 2 * room
+
+-- request #107's cache: its places; the numbers that are kept of them, three a place and a bound, and the bytes, 256 a place
+abbrev pub cachePlaces : ℕ
+cachePlaces = 64
+
+abbrev pub cacheNumbers : ℕ
+cacheNumbers = 3 * cachePlaces + 1
+
+abbrev pub cacheBytes : ℕ
+cacheBytes = 256 * cachePlaces
 
 -- ids of 16 bits, and register addresses
 abbrev pub ids : ℕ
@@ -162,9 +172,12 @@ signedDigits = 3
 abbrev pub minus : ℕ
 minus = 15
 
--- "Settings text": the version that is written, and the most bytes that a right text has
+-- "Settings text": the largest ttl of request #107, in milliseconds; the version that is written, and the most bytes that a right text has
+abbrev pub mostTtl : ℕ
+mostTtl = 60000
+
 abbrev pub newestVersion : ℕ
-newestVersion = 2
+newestVersion = 3
 
 abbrev pub mostText : ℕ
-mostText = 6952
+mostText = 9512

@@ -25,6 +25,12 @@ pub const FRAME_BUFFER: usize = MOST_FRAME;
 
 pub const LIST_BUFFER: usize = 2 * ROOM;
 
+pub const CACHE_PLACES: usize = 64;
+
+pub const CACHE_NUMBERS: usize = 3 * CACHE_PLACES + 1;
+
+pub const CACHE_BYTES: usize = 256 * CACHE_PLACES;
+
 pub const LAST_ID: u16 = 65535;
 
 pub const ADDRESSES: u32 = 65536;
@@ -89,6 +95,8 @@ pub const EXCEPTION_LENGTH: u8 = 3;
 
 pub const EXCEPTION_FRAME: usize = 9;
 
-pub const NEWEST_VERSION: u32 = 2;
+pub const MOST_TTL: u16 = 60000;
 
-pub const MOST_TEXT: usize = 6952;
+pub const NEWEST_VERSION: u32 = 3;
+
+pub const MOST_TEXT: usize = 9512;

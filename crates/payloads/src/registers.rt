@@ -25,7 +25,7 @@ use values::tagwords::tag_kind;
 const WORDS: u32 = 65536;
 
 // The first tag that does not end before start.
-fn first_tag(words: &[u64; numbers::MOST_TAGS], count: usize, start: usize) -> usize
+pub fn first_tag(words: &[u64; numbers::MOST_TAGS], count: usize, start: usize) -> usize
     requires { ⌜ TagWords count (now words) ⌝ }
     ensures { λ r. ⌜ r ≡ first (reaches (now (words .entry)) start) count ⌝ }
 {

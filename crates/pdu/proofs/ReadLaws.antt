@@ -1,15 +1,20 @@
--- Equal reads ask the same, a read is equal to itself, and what is no read is equal to nothing.
+-- Equal reads ask the same and have the same fault, a read is equal to itself, and what is no read is equal to nothing.
 -- Assumes nothing.
 use Prim.Native.Nat.{ℕ}
-use mathlib.Core.Path.{_≡_, refl}
+use mathlib.Core.Path.{_≡_, refl, ap, sym, _∙_}
 use mathlib.Core.Bool.{true, false, _&&_, false≢true, and-false}
+use mathlib.Core.List.{List}
 use lib.Dec.{eqb}
 use borrow.Author.Tests.{eq-eqb, eqb-true}
-use Rattle.laws.proofs.Choice.{and-left, and-right}
+use Rattle.laws.proofs.Choice.{and-left, and-right, never}
 use Rattle.laws.proofs.TestLaws.{holds-eq, holds-and}
+use Rattle.wire.specs.Frame.{functionOf}
+use Rattle.pdu.specs.Requests.{classOf, startOf, quantityOf, badValue, badAddress, askedBy, askedOf, faultBy, faultOf}
 use Rattle.pdu.specs.Replies.{What, what}
 use Rattle.pdu.specs.Spoiling.{sameTable}
 use Rattle.pdu.specs.Reads.{sameRead, equalReads}
+use Rattle.pdu.specs.declared.Class.{Class}
+use Rattle.pdu.specs.declared.Class.the-variants.{Reads, WritesOne, WritesMany, Others}
 use Rattle.pdu.specs.declared.Table.{Table}
 use Rattle.pdu.specs.declared.Asked.{Asked}
 use Rattle.pdu.specs.declared.Asked.the-variants.{Read, SingleWrite, MultipleWrite, Other}
@@ -59,3 +64,16 @@ reads-other Other b other = refl
 pub equal-other : (w u : What) → ((t : Table) (s q : ℕ) → w .asked ≡ Read t s q → ⊥) → equalReads w u ≡ false
 unfolding equalReads
 equal-other w u other = simp (reads-other (w .asked) (u .asked) other, and-false)
+
+-- Equal reads have the same fault.
+fault-by : (c : Class) (f g : List ℕ) (t : Table) (s q : ℕ) → askedBy c f ≡ Read t s q → askedBy c f ≡ askedBy c g → faultBy c f ≡ faultBy c g
+unfolding askedBy badValue badAddress
+fault-by (Reads r) f g t s q a e = let x : startOf f ≡ startOf g = cc in let y : quantityOf f ≡ quantityOf g = cc in rw (x, y)
+fault-by (WritesOne r) f g t s q a e = never (cc)
+fault-by (WritesMany r) f g t s q a e = never (cc)
+fault-by Others f g t s q a e = never (cc)
+
+pub equal-fault : (f g : List ℕ) (t : Table) (s q : ℕ) → functionOf f ≡ functionOf g → askedOf f ≡ askedOf g → askedOf f ≡ Read t s q → faultOf f ≡ faultOf g
+unfolding faultOf
+equal-fault f g t s q n e a =
+    fault-by (classOf (functionOf f)) f g t s q a (e ∙ ap (λ (k : ℕ). askedBy (classOf k) g) (sym n)) ∙ ap (λ (k : ℕ). faultBy (classOf k) g) n

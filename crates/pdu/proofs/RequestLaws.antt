@@ -10,10 +10,10 @@ use native.Mathlib.Omega.{arith}
 use lib.Arith.{digits-div, digits-mod}
 use lib.ListN.{length, getD}
 use lib.Dec.{eqb, ltb}
-use borrow.Author.Tests.{ne-eqb}
+use borrow.Author.Tests.{eqb-true, ne-eqb}
 use Rattle.numbers.specs.Numbers.{lastFunction, coilOff, coilOn, shortPdu, multiplePdu, addresses, illegalAddress, illegalValue}
 use Rattle.laws.specs.Bytes.{pairAt}
-use Rattle.laws.proofs.Choice.{eq-or, lt-or}
+use Rattle.laws.proofs.Choice.{true-or, eq-or, lt-or, or-either, never}
 use Rattle.wire.specs.Frame.{unitOf, functionOf, pduSize, misframed}
 use Rattle.settings.specs.Grammar.{Value}
 use Rattle.pdu.specs.Requests.{classOf, startOf, quantityOf, valueOf, byteCountOf, bytesFor, mostReadOf, mostWrittenOf, badFunction, badLength, badValue, badAddress, askedBy, askedOf, faultBy, faultOf, checkedBy, checkedOf, legal}
@@ -122,6 +122,25 @@ class-read-bits n w = ⊎-elim (λ e. rw e) (λ e. rw e) w
 pub class-read : (n : ℕ) → (n ≡ 3) ⊎ (n ≡ 4) → classOf n ≡ Reads Registers
 unfolding classOf
 class-read n w = ⊎-elim (λ e. rw e) (λ e. rw e) w
+
+-- and no other function reads registers.
+pub read-class : (n : ℕ) → classOf n ≡ Reads Registers → (n ≡ 3) ⊎ (n ≡ 4)
+unfolding classOf
+read-class n e =
+    ⊎-elim
+    (λ (t : (eqb n 1 || eqb n 2) ≡ true). never (cc (rw t at e)))
+    (λ (t : (eqb n 1 || eqb n 2) ≡ false). ⊎-elim
+    (λ (u : (eqb n 3 || eqb n 4) ≡ true). ⊎-elim (λ a. inl (eqb-true n 3 a)) (λ b. inr (eqb-true n 4 b)) (or-either (eqb n 3) (eqb n 4) u))
+    (λ (u : (eqb n 3 || eqb n 4) ≡ false). absurd (writes (eqb n 5) (eqb n 6) (eqb n 15) (eqb n 16) (rw u at (rw t at e))))
+    (true-or (eqb n 3 || eqb n 4)))
+    (true-or (eqb n 1 || eqb n 2))
+  where
+    writes : (a b c d : Bool) → cond a (WritesOne Bits) (cond b (WritesOne Registers) (cond c (WritesMany Bits) (cond d (WritesMany Registers) Others))) ≡ Reads Registers → ⊥
+    writes true b c d e = never (cc)
+    writes false true c d e = never (cc)
+    writes false false true d e = never (cc)
+    writes false false false true e = never (cc)
+    writes false false false false e = never (cc)
 
 -- 05 and 06 are the single writes.
 pub class-single : (classOf 5 ≡ WritesOne Bits) × (classOf 6 ≡ WritesOne Registers)

@@ -25,11 +25,13 @@ use Rattle.machine.specs.Numbers.{numbers}
 use Rattle.machine.specs.Outcomes.{granted, outcome}
 use Rattle.machine.specs.declared.Answer.the-variants.{Refused, Done as Finished, Lost}
 use Rattle.machine.proofs.OutcomeLaws.{granted-is, refused-is}
+use Rattle.cache.specs.Cache.{Cache, emptied as nothingCached}
+use Rattle.caching.specs.Kept.{cacheOf, SoundCache}
 use Rattle.table.specs.Columns.{Columns, columns, entryAt, tableOf, bookOf, SoundTable}
 use Rattle.table.specs.inner.Changes.{Struck}
 use Rattle.table.proofs.EntryLaws.{withParties}
 use Rattle.table.proofs.ChangeLaws.{strike-is, strike-sound}
-use Rattle.proxy.specs.State.{State, seated, lentSet, machineOf, valueIn, SoundState}
+use Rattle.proxy.specs.State.{State, state, seated, lentSet, machineOf, valueIn, SoundState}
 use Rattle.proxy.specs.Calls.{Does}
 use Rattle.proxy.proofs.StateLaws.{still-sound}
 
@@ -68,7 +70,7 @@ module _ (s : State) (sounds : SoundState s) where
       → Does s (detach client) Finished (seated s (withParties (s .table) ns cs os) (without (s .attached) client) (s .clock)) [] []
   unfolding rows lowest granted numbers
   detach-known client ns cs os t d = (
-    ap (λ b. done Finished (machine b (without (s .attached) client)) [] [])
+    ap (λ b. done Finished (machine b (without (s .attached) client) (cacheOf (s .cache) (s .shown))) [] [])
         (strike-is (valueIn (s .settings)) (s .cursor) (s .clock) (s .table) (sounds .table) client ns cs os d)
         ∙ sym (granted-is (machineOf s) (detach client) (rw t)),
     still-sound s sounds (strike-sound (valueIn (s .settings)) (s .cursor) (s .clock) (s .table) (sounds .table) client ns cs os d) (without-low clients (s .attached) client (sounds .attached)),
@@ -104,12 +106,14 @@ emptied-sound c s = record {
 pub emptied-is : (v : Value) (x t : ℕ) (c : Columns) → bookOf v (emptied c) x t ≡ apply rules (bookOf v c x t) wipe
 emptied-is v x t c = ap (λ l. book v l x t) (emptied-table c)
 
--- Link lost removes every entry and everyone, and tells the former set.
-pub lost : (s : State) → SoundState s → Does s linkLost (Lost (s .attached)) (seated s (emptied (s .table)) 0 (s .clock)) [] []
+-- Link lost removes every entry, everyone and all that is cached, and tells the former set.
+pub lost : (s : State) → SoundState s → (cache : List ℕ) → (cacheOf cache (s .shown) ≡ nothingCached) × SoundCache cache (s .shown)
+    → Does s linkLost (Lost (s .attached)) (state (emptied (s .table)) (s .cursor) 0 (s .clock) (s .settings) cache (s .shown)) [] []
 unfolding rows lowest granted numbers
-lost s sounds = (
-  ap (λ b. done (Lost (s .attached)) (machine b 0) [] []) (emptied-is (valueIn (s .settings)) (s .cursor) (s .clock) (s .table))
+lost s sounds cache gone = (
+  ap (λ b. done (Lost (s .attached)) (machine b 0 (cacheOf cache (s .shown))) [] []) (emptied-is (valueIn (s .settings)) (s .cursor) (s .clock) (s .table))
+      ∙ ap (λ (h : Cache). done (Lost (s .attached)) (machine (apply rules (machineOf s .book) wipe) 0 h) [] []) (gone .0)
       ∙ sym (granted-is (machineOf s) linkLost refl),
-  still-sound s sounds (emptied-sound (s .table) (sounds .table)) (pow-pos clients),
+  record { table = emptied-sound (s .table) (sounds .table); cursor = sounds .cursor; attached = pow-pos clients; settings = sounds .settings; cache = gone .1 },
   λ h. absurd (h refl),
 )

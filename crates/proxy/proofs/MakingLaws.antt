@@ -10,7 +10,7 @@ use native.Mathlib.Nat.{zero-div}
 use native.Mathlib.Omega.{arith}
 use lib.ListN.{length, take, replicate, length-replicate, length-append, length-map}
 use lib.Pow.{pow-pos}
-use Rattle.numbers.specs.Numbers.{clients, places, partyPlaces, mostTags, usualTimeout}
+use Rattle.numbers.specs.Numbers.{clients, places, partyPlaces, mostTags, usualTimeout, cachePlaces, cacheNumbers, cacheBytes}
 use Rattle.laws.specs.Lists.{tab}
 use Rattle.laws.specs.Bits.{has}
 use Rattle.laws.proofs.Choice.{true-or}
@@ -25,6 +25,9 @@ use Rattle.book.specs.Book.{book, at}
 use Rattle.machine.specs.Machine.{machine, made}
 use Rattle.machine.specs.declared.Answer.{Answer}
 use Rattle.machine.specs.declared.Answer.the-variants.{Refused, Done}
+use Rattle.cache.specs.Cache.{Cache, emptied, inCache}
+use Rattle.caching.specs.Kept.{cacheOf, Bytes, SoundCache}
+use Rattle.caching.proofs.DropLaws.{zeros-emptied as no-numbers, zeros-sound as none-sound}
 use Rattle.table.specs.Columns.{Columns, columns, tableOf}
 use Rattle.table.specs.inner.Changes.{blank}
 use Rattle.table.proofs.EntryLaws.{blank-table}
@@ -78,29 +81,38 @@ kept-value v n words right listed e =
     )
 
 -- So do the boundary's struct's numbers with the words of the tags that it lists.
-pub kept-settings : (s : Settings) (words : List ℕ) → valid (valueOf s) ≡ true → words ≡ padded (map tagWord (listed (s .tags) (s .addr) (s .width) (s .sign))) → Keeps (keptSettings (s .timeout) (s .join) (s .tags) words) (valueOf s)
+pub kept-settings : (s : Settings) (words : List ℕ) → valid (valueOf s) ≡ true → words ≡ padded (map tagWord (listed (s .tags) (s .addr) (s .width) (s .sign) (s .ttl))) → Keeps (keptSettings (s .timeout) (s .join) (s .tags) words) (valueOf s)
 unfolding valueOf
 kept-settings s words right e = kept-value (valueOf s) (s .tags) words right (length-tab (s .tags) _) e
 
 -- Where no tag is listed, the columns do not matter.
-pub usual-settings : (addr width sign : List ℕ) → valueOf (settings usualTimeout 1 0 addr width sign) ≡ usual
+pub usual-settings : (addr width sign ttl : List ℕ) → valueOf (settings usualTimeout 1 0 addr width sign ttl) ≡ usual
 unfolding valueOf tab
-usual-settings addr width sign = refl
+usual-settings addr width sign ttl = refl
+
+-- the columns of the cache hold nothing, and are sound
+abbrev pub Empties : (cache shown : List ℕ) → Type 0
+Empties h b = (cacheOf h b ≡ emptied) × SoundCache h b
 
 -- a state with columns of zeros and all else 0 is sound, whatever settings are in it
-zeroed-sound : (c : Columns) (k : KeptSettings) → c ≡ blank → Settled k → SoundState (state c 0 0 0 k)
-zeroed-sound c k e q = record { table = clear-sound c e; cursor = omega arith; attached = pow-pos clients; settings = q }
+zeroed-sound : (c : Columns) (k : KeptSettings) (h b : List ℕ) → c ≡ blank → Settled k → Empties h b → SoundState (state c 0 0 0 k h b)
+zeroed-sound c k h b e q n = record { table = clear-sound c e; cursor = omega arith; attached = pow-pos clients; settings = q; cache = n .1 }
+
+-- bytes that are 0 may stand beside the cache's numbers
+pub blank-bytes : Bytes (replicate cacheBytes 0)
+blank-bytes = record { long = length-replicate {A = ℕ} cacheBytes 0; low = λ k. rw (getD-repeat {A = ℕ} cacheBytes k 0) (omega arith) }
 
 -- What keeps the value that is adopted adopts it, beside the answer.
 pub takes : (from : Settings) {w : Value} {answer : Answer} {k : KeptSettings} → (makingAnswer (valueOf from) ≡ answer) × (adopted (valueOf from) ≡ w) → Keeps k w → Adopts from answer k
 takes from a q = (sym (a .0), q .0 ∙ sym (a .1), q .1)
 
 -- Columns of zeros with what was adopted are the fresh state, beside the answer.
-pub made-fresh : (from : Settings) (answer : Answer) (c : Columns) (k : KeptSettings) → c ≡ blank → Adopts from answer k → Freshened from answer (state c 0 0 0 k)
-made-fresh from answer c k e a = (
+pub made-fresh : (from : Settings) (answer : Answer) (c : Columns) (k : KeptSettings) (h b : List ℕ) → c ≡ blank → Adopts from answer k → Empties h b → Freshened from answer (state c 0 0 0 k h b)
+made-fresh from answer c k h b e a n = (
   a .0,
-  ap (λ v. machine (book v (tableOf c) 0 0) 0) (a .1) ∙ ap (λ l. machine (book (adopted (valueOf from)) l 0 0) 0) (ap tableOf e ∙ blank-table),
-  zeroed-sound c k e (a .2),
+  ap (λ v. machine (book v (tableOf c) 0 0) 0 (cacheOf h b)) (a .1) ∙ ap (λ l. machine (book (adopted (valueOf from)) l 0 0) 0 (cacheOf h b)) (ap tableOf e ∙ blank-table)
+      ∙ ap (λ (x : Cache). machine (book (adopted (valueOf from)) (replicate places none) 0 0) 0 x) (n .0),
+  zeroed-sound c k h b e (a .2) n,
 )
 
 -- the state that is all zeros
@@ -109,17 +121,19 @@ zeros =
     state
     (columns (replicate places 0) (replicate places 0) (replicate places 0) (replicate places 0) (replicate places 0) (replicate partyPlaces 0)
     (replicate partyPlaces 0) 0)
-    0 0 0 (keptSettings 0 0 0 (replicate mostTags 0))
+    0 0 0 (keptSettings 0 0 0 (replicate mostTags 0)) (replicate cacheNumbers 0) (replicate cacheBytes 0)
 
 -- A state of zeros is sound, and nobody is attached.
 pub zeros-sound : SoundState zeros × ((client : ℕ) → has (zeros .attached) client ≡ false)
 unfolding blank Ascending
 zeros-sound = (
-  zeroed-sound (zeros .table) (zeros .settings) refl
-      (record { timeout = omega arith; few = omega arith; long = length-replicate {A = ℕ} mostTags 0; ascending = tt }),
+  zeroed-sound (zeros .table) (zeros .settings) (zeros .cache) (zeros .shown) refl
+      (record { timeout = omega arith; few = omega arith; long = length-replicate {A = ℕ} mostTags 0; ascending = tt })
+      (no-numbers (zeros .shown), none-sound (zeros .shown) blank-bytes),
   λ client. rw (zero-div (2 ^ client)),
 )
 
--- In a fresh machine cursor and clock are 0, nobody is attached and nothing is live.
+-- In a fresh machine cursor and clock are 0, nobody is attached, nothing is live and nothing is cached.
 pub fresh-is : (v : Value) → (made v .book .cursor ≡ 0) × (made v .book .clock ≡ 0) × ((client : ℕ) → has (made v .attached) client ≡ false) × ((k : ℕ) → at (made v .book) k ≡ none)
-fresh-is v = (refl, refl, zeros-sound .1, λ k. getD-repeat places k none)
+    × ((k : ℕ) → inCache (made v .cache) k ≡ none)
+fresh-is v = (refl, refl, zeros-sound .1, λ k. getD-repeat places k none, λ k. getD-repeat cachePlaces k none)

@@ -11,7 +11,7 @@ use Rattle.proxy.specs.State.{KeptSettings, State, seated, machineOf, Se
 
 -- A sound table and a set of clients keep the state sound, at any time.
 pub still-sound : (s : State) → SoundState s → {c : Columns} {a t : ℕ} → SoundTable c → a < 2 ^ clients → SoundState (seated s c a t)
-still-sound s sounds c h = record { table = c; cursor = sounds .cursor; attached = h; settings = sounds .settings }
+still-sound s sounds c h = record { table = c; cursor = sounds .cursor; attached = h; settings = sounds .settings; cache = sounds .cache }
 
 -- the state at another time
 abbrev pub timed : State → ℕ → State

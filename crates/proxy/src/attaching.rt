@@ -65,17 +65,19 @@ pub fn detach<'a>(
     Answer::Done
 }
 
-// The link is lost: nothing is live, nobody is attached; the former set is told. Whatever the rest of the state is, it stays.
+// The link is lost: nothing is live, nobody is attached, nothing is cached; the former set is told. Whatever the rest of the state is, it stays.
 pub fn link_lost<'a>(
     ids: &'a mut [u32; numbers::PLACES],
     top: &'a mut u32,
     attached: &'a mut u32,
+    cache: &'a mut [u64; numbers::CACHE_NUMBERS],
 ) -> Answer
-    ensures { λ r. ⌜ ((s : State) → SoundState (lentIds s (now (ids .entry)) (now (top .entry)) (now (attached .entry))) → Does (lentIds s (now (ids .entry)) (now (top .entry)) (now (attached .entry))) linkLost r (lentIds s (now (ids .exit)) (now (top .exit)) (now (attached .exit))) [] []) ⌝ }
+    ensures { λ r. ⌜ ((s : State) → SoundState (lentIds s (now (ids .entry)) (now (top .entry)) (now (attached .entry)) (now (cache .entry))) → Does (lentIds s (now (ids .entry)) (now (top .entry)) (now (attached .entry)) (now (cache .entry))) linkLost r (lentIds s (now (ids .exit)) (now (top .exit)) (now (attached .exit)) (now (cache .exit))) [] []) ⌝ }
 {
     let former = *attached;
     *ids = [0u32; numbers::PLACES];
     *top = 0;
     *attached = 0;
+    caching::empty(cache);
     Answer::Lost { set: former }
 }

@@ -19,15 +19,16 @@ fn adopt<'a, 'b>(
     addr: &'b [u16; numbers::MOST_TAGS],
     width: &'b [u16; numbers::MOST_TAGS],
     sign: &'b [u16; numbers::MOST_TAGS],
+    ttl: &'b [u16; numbers::MOST_TAGS],
 )
-    requires { ⌜ valid (valueOf (settings «from_timeout» «from_join» «from_tags» (now addr) (now width) (now sign))) ≡ true ⌝ }
-    ensures { λ r. ⌜ valueIn (keptSettings (now (timeout .exit)) (now (join .exit)) (now («tag_count» .exit)) (now («tag_words» .exit))) ≡ valueOf (settings «from_timeout» «from_join» «from_tags» (now (addr .entry)) (now (width .entry)) (now (sign .entry))) ⌝ }
+    requires { ⌜ valid (valueOf (settings «from_timeout» «from_join» «from_tags» (now addr) (now width) (now sign) (now ttl))) ≡ true ⌝ }
+    ensures { λ r. ⌜ valueIn (keptSettings (now (timeout .exit)) (now (join .exit)) (now («tag_count» .exit)) (now («tag_words» .exit))) ≡ valueOf (settings «from_timeout» «from_join» «from_tags» (now (addr .entry)) (now (width .entry)) (now (sign .entry)) (now (ttl .entry))) ⌝ }
     ensures { λ r. ⌜ Settled (keptSettings (now (timeout .exit)) (now (join .exit)) (now («tag_count» .exit)) (now («tag_words» .exit))) ⌝ }
 {
     *timeout = from_timeout;
     *join = from_join;
     *tag_count = from_tags;
-    values::tagwords::fill_words(from_tags, addr, width, sign, tag_words);
+    values::tagwords::fill_words(from_tags, addr, width, sign, ttl, tag_words);
 }
 
 // Puts a value whose fields are lent into the state's settings. An invalid value is refusal 10, and the settings are then the usual ones.
@@ -42,10 +43,19 @@ pub fn adopt_value<'a, 'b>(
     addr: &'b [u16; numbers::MOST_TAGS],
     width: &'b [u16; numbers::MOST_TAGS],
     sign: &'b [u16; numbers::MOST_TAGS],
+    ttl: &'b [u16; numbers::MOST_TAGS],
 ) -> Answer
-    ensures { λ r. ⌜ Adopts (settings (now («from_timeout» .entry)) (now («from_join» .entry)) (now («from_tags» .entry)) (now (addr .entry)) (now (width .entry)) (now (sign .entry))) r (keptSettings (now (timeout .exit)) (now (join .exit)) (now («tag_count» .exit)) (now («tag_words» .exit))) ⌝ }
+    ensures { λ r. ⌜ Adopts (settings (now («from_timeout» .entry)) (now («from_join» .entry)) (now («from_tags» .entry)) (now (addr .entry)) (now (width .entry)) (now (sign .entry)) (now (ttl .entry))) r (keptSettings (now (timeout .exit)) (now (join .exit)) (now («tag_count» .exit)) (now («tag_words» .exit))) ⌝ }
 {
-    if values::is_valid(*from_timeout, *from_join, *from_tags, addr, width, sign) {
+    if values::is_valid(
+        *from_timeout,
+        *from_join,
+        *from_tags,
+        addr,
+        width,
+        sign,
+        ttl,
+    ) {
         adopt(
             timeout,
             join,
@@ -57,6 +67,7 @@ pub fn adopt_value<'a, 'b>(
             addr,
             width,
             sign,
+            ttl,
         );
         return Answer::Done;
     }
@@ -72,6 +83,7 @@ pub fn adopt_value<'a, 'b>(
         addr,
         width,
         sign,
+        ttl,
     );
     Answer::Refused { number: 10 }
 }
@@ -93,14 +105,17 @@ pub fn fresh<'a, 'b>(
     join: &'a mut u32,
     tag_count: &'a mut u32,
     tag_words: &'a mut [u64; numbers::MOST_TAGS],
+    cache: &'a mut [u64; numbers::CACHE_NUMBERS],
+    shown: &'a mut [u8; numbers::CACHE_BYTES],
     from_timeout: &'b u32,
     from_join: &'b u32,
     from_tags: &'b u32,
     addr: &'b [u16; numbers::MOST_TAGS],
     width: &'b [u16; numbers::MOST_TAGS],
     sign: &'b [u16; numbers::MOST_TAGS],
+    ttl: &'b [u16; numbers::MOST_TAGS],
 ) -> Answer
-    ensures { λ r. ⌜ Freshened (settings (now («from_timeout» .entry)) (now («from_join» .entry)) (now («from_tags» .entry)) (now (addr .entry)) (now (width .entry)) (now (sign .entry))) r (lent (now (ids .exit)) (now (asked .exit)) (now (callers .exit)) (now (deadlines .exit)) (now (counts .exit)) (now (clients .exit)) (now (originals .exit)) (now (top .exit)) (now (cursor .exit)) (now (attached .exit)) (now (clock .exit)) (now (timeout .exit)) (now (join .exit)) (now («tag_count» .exit)) (now («tag_words» .exit))) ⌝ }
+    ensures { λ r. ⌜ Freshened (settings (now («from_timeout» .entry)) (now («from_join» .entry)) (now («from_tags» .entry)) (now (addr .entry)) (now (width .entry)) (now (sign .entry)) (now (ttl .entry))) r (lent (now (ids .exit)) (now (asked .exit)) (now (callers .exit)) (now (deadlines .exit)) (now (counts .exit)) (now (clients .exit)) (now (originals .exit)) (now (top .exit)) (now (cursor .exit)) (now (attached .exit)) (now (clock .exit)) (now (timeout .exit)) (now (join .exit)) (now («tag_count» .exit)) (now («tag_words» .exit)) (now (cache .exit)) (now (shown .exit))) ⌝ }
 {
     moves::changing::clear(
         ids,
@@ -115,6 +130,8 @@ pub fn fresh<'a, 'b>(
     *cursor = 0;
     *attached = 0;
     *clock = 0;
+    *shown = [0u8; numbers::CACHE_BYTES];
+    caching::empty(cache);
     adopt_value(
         timeout,
         join,
@@ -126,5 +143,6 @@ pub fn fresh<'a, 'b>(
         addr,
         width,
         sign,
+        ttl,
     )
 }

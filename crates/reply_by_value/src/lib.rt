@@ -28,6 +28,8 @@ fn replied(c: Columns, time: u64, frame: &[u8], out: &mut [u8], list: &mut [u16]
     let mut join = c.join;
     let mut tag_count = c.tag_count;
     let mut tag_words = c.tag_words;
+    let mut cache = c.cache;
+    let mut shown = c.shown;
     let answer = answering::reply(
         &mut ids,
         &mut asked,
@@ -42,6 +44,8 @@ fn replied(c: Columns, time: u64, frame: &[u8], out: &mut [u8], list: &mut [u16]
         &mut join,
         &mut tag_count,
         &mut tag_words,
+        &mut cache,
+        &mut shown,
         time,
         frame,
         out,
@@ -61,6 +65,8 @@ fn replied(c: Columns, time: u64, frame: &[u8], out: &mut [u8], list: &mut [u16]
     after.join = join;
     after.tag_count = tag_count;
     after.tag_words = tag_words;
+    after.cache = cache;
+    after.shown = shown;
     Called {
         columns: after,
         answer,

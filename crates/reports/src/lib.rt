@@ -7,10 +7,10 @@ use settingstext::writing::Wrote;
 use wire::splitting::Split;
 ghost use mathlib.Core.Path.{_≡_};
 ghost use Rattle.settings.specs.Values.{settings};
-ghost use Rattle.machine.specs.Numbers.{report, numbers};
+ghost use Rattle.machine.specs.Numbers.{report, isHit, numbers};
 ghost use Rattle.reports.specs.Reports.{shortReport, lineTold, SplitPromised, ReadPromised, WritePromised};
 
-// The outcomes' numbers: ZB_DONE to ZB_MORE. Reading and writing settings are done too.
+// The outcomes' numbers: ZB_DONE to ZB_HIT. Reading and writing settings are done too.
 const DONE: u32 = 1;
 
 const ISSUED: u32 = 2;
@@ -28,6 +28,8 @@ const NOTHING_DUE: u32 = 7;
 const FRAME: u32 = 8;
 
 const MORE: u32 = 9;
+
+const HIT: u32 = 10;
 
 // A report of an answer that names no entry.
 fn plain(refusal: u32, outcome: u32, length: u32, set: u32, code: u32) -> Report
@@ -72,6 +74,24 @@ fn of_entry(
     }
 }
 
+// A report of a hit, which names no entry.
+fn of_hit(length: u32, partial: u32, value: u32) -> Report
+    ensures { λ r. ⌜ r ≡ report 0 isHit length 0 partial value 0 0 0 ⌝ }
+{
+    Report {
+        refusal: 0,
+        line: 0,
+        outcome: HIT,
+        length,
+        parties: 0,
+        partial,
+        value,
+        set: 0,
+        id: 0,
+        code: 0,
+    }
+}
+
 // The numbers of an answer.
 pub fn report_of(a: Answer) -> Report
     ensures { λ r. ⌜ r ≡ numbers a ⌝ }
@@ -98,6 +118,11 @@ pub fn report_of(a: Answer) -> Report
         Answer::TimedOut { id, parties } => of_entry(TIMED_OUT, id, exception, parties, 0, 0),
         Answer::NothingDue => plain(0, NOTHING_DUE, 0, 0, 0),
         Answer::Lost { set } => plain(0, DONE, 0, set, 0),
+        Answer::Hit {
+            length,
+            partial,
+            value,
+        } => of_hit(length, partial, value),
     }
 }
 
@@ -169,11 +194,12 @@ pub fn write<'a>(
     addr: &'a [u16; numbers::MOST_TAGS],
     width: &'a [u16; numbers::MOST_TAGS],
     sign: &'a [u16; numbers::MOST_TAGS],
+    ttl: &'a [u16; numbers::MOST_TAGS],
     text: &mut [u8],
 ) -> Report
-    ensures { λ r. ⌜ WritePromised (settings (now (timeout .entry)) (now (join .entry)) (now (tags .entry)) (now (addr .entry)) (now (width .entry)) (now (sign .entry))) (now (text .entry)) r (now (text .exit)) ⌝ }
+    ensures { λ r. ⌜ WritePromised (settings (now (timeout .entry)) (now (join .entry)) (now (tags .entry)) (now (addr .entry)) (now (width .entry)) (now (sign .entry)) (now (ttl .entry))) (now (text .entry)) r (now (text .exit)) ⌝ }
 {
-    match settingstext::writing::write_text(*timeout, *join, *tags, addr, width, sign, text) {
+    match settingstext::writing::write_text(*timeout, *join, *tags, addr, width, sign, ttl, text) {
         Wrote::Text(size) => said(0, 0, DONE, size as u32),
         Wrote::TooShort => said(1, 0, 0, 0),
         Wrote::Invalid => said(10, 0, 0, 0),

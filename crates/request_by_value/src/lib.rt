@@ -31,6 +31,8 @@ fn requested(c: Columns, client: u32, time: u64, frame: &[u8], out: &mut [u8]) -
     let mut join = c.join;
     let mut tag_count = c.tag_count;
     let mut tag_words = c.tag_words;
+    let mut cache = c.cache;
+    let mut shown = c.shown;
     let answer = requesting::request(
         &mut ids,
         &mut asked,
@@ -47,6 +49,8 @@ fn requested(c: Columns, client: u32, time: u64, frame: &[u8], out: &mut [u8]) -
         &mut join,
         &mut tag_count,
         &mut tag_words,
+        &mut cache,
+        &mut shown,
         client,
         time,
         frame,
@@ -68,6 +72,8 @@ fn requested(c: Columns, client: u32, time: u64, frame: &[u8], out: &mut [u8]) -
         join,
         tag_count,
         tag_words,
+        cache,
+        shown,
     };
     Called { columns, answer }
 }

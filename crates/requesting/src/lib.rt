@@ -5,10 +5,11 @@ use pdu::Checked;
 use pdu::ProxyId;
 ghost use mathlib.Core.Path.{_≡_};
 ghost use mathlib.Core.Bool.{false};
-ghost use mathlib.Core.List.{[]};
+ghost use mathlib.Core.Option.{none};
+ghost use mathlib.Core.List.{List, []};
 ghost use Prim.Native.Nat.{ℕ, _-_, _≤_, _<_};
 ghost use lib.ListN.{length, getD};
-ghost use Rattle.numbers.specs.Numbers.{ids as idCount, places, room, exceptionFrame, leastFrame};
+ghost use Rattle.numbers.specs.Numbers.{ids as idCount, places, room, exceptionFrame, leastFrame, frameBuffer};
 ghost use Rattle.laws.specs.Search.{best};
 ghost use Rattle.wire.specs.Frame.{idOf};
 ghost use Rattle.settings.specs.Grammar.{Value};
@@ -18,7 +19,9 @@ ghost use Rattle.rewrite.specs.inner.Lent.{TagWords};
 ghost use Rattle.machine.specs.Machine.{Machine};
 ghost use Rattle.machine.specs.Calls.{done};
 ghost use Rattle.machine.specs.Calls.Call.{request as asks};
-ghost use Rattle.machine.specs.Requests.{alike, excepted, issuedTo, served};
+ghost use Rattle.machine.specs.Requests.{alike, excepted, hitOn, issuedTo, missed, served};
+ghost use Rattle.cache.specs.Cache.{inCache};
+ghost use Rattle.caching.specs.Kept.{cacheOf, Bounded, SoundCache};
 ghost use Rattle.table.specs.Columns.{columns, party, SoundTable};
 ghost use Rattle.table.specs.inner.Changes.{Runs, Joined};
 ghost use Rattle.table.specs.inner.Places.{isFree};
@@ -114,7 +117,7 @@ fn join_request<'a>(
     Answer::Joined { id }
 }
 
-// Issues a legal request into the lowest free place, closes the reads that it spoils, and sends its frame on.
+// Issues a legal request into the lowest free place, closes the reads that it spoils, drops what is cached of such, and sends its frame on.
 fn issue_request<'a>(
     ids: &'a mut [u32; numbers::PLACES],
     asked: &'a mut [u64; numbers::PLACES],
@@ -125,6 +128,7 @@ fn issue_request<'a>(
     originals: &'a mut [u16; numbers::PARTY_PLACES],
     top: &'a mut u32,
     cursor: &'a mut u16,
+    cache: &'a mut [u64; numbers::CACHE_NUMBERS],
     timeout: u32,
     tag_count: u32,
     tag_words: &[u64; numbers::MOST_TAGS],
@@ -140,10 +144,10 @@ fn issue_request<'a>(
     requires { ⌜ TagWords «tag_count» (now «tag_words») ⌝ }
     requires { ⌜ Admitted client time (now frame) (now out) what ⌝ }
     requires { ⌜ Asks (now frame) word ⌝ }
-    requires { ⌜ (place ≡ best (isFree (now ids)) (λ j k. false) places places) × (place < places) ⌝ }
-    ensures { λ r. ⌜ ((join : ℕ) → Came r (keptSettings timeout join «tag_count» (now («tag_words» .entry))) time (columns (now (ids .exit)) (now (asked .exit)) (now (callers .exit)) (now (deadlines .exit)) (now (counts .exit)) (now (clients .exit)) (now (originals .exit)) (now (top .exit))) (now (cursor .exit)) (now (out .exit))
+    requires { ⌜ (place ≡ best (isFree (now ids)) (λ j k. false) places places) × (place < places) × Bounded (now cache) ⌝ }
+    ensures { λ r. ⌜ ((join : ℕ) (shown : List ℕ) → SoundCache (now (cache .entry)) shown → Came r (keptSettings timeout join «tag_count» (now («tag_words» .entry))) time shown (columns (now (ids .exit)) (now (asked .exit)) (now (callers .exit)) (now (deadlines .exit)) (now (counts .exit)) (now (clients .exit)) (now (originals .exit)) (now (top .exit))) (now (cursor .exit)) (now (cache .exit)) (now (out .exit))
         (λ m. issuedTo m client (now (frame .entry)) (now (out .entry)))
-        (columns (now (ids .entry)) (now (asked .entry)) (now (callers .entry)) (now (deadlines .entry)) (now (counts .entry)) (now (clients .entry)) (now (originals .entry)) (now (top .entry))) (now (cursor .entry))) ⌝ }
+        (columns (now (ids .entry)) (now (asked .entry)) (now (callers .entry)) (now (deadlines .entry)) (now (counts .entry)) (now (clients .entry)) (now (originals .entry)) (now (top .entry))) (now (cursor .entry)) (now (cache .entry))) ⌝ }
 {
     let id = finding::free_id(ids, *top as usize, ProxyId(*cursor));
     let deadline = time + timeout as u64;
@@ -166,6 +170,7 @@ fn issue_request<'a>(
     );
     let unit = wire::unit_of(frame);
     moves::closing::close(ids, asked, *top as usize, unit, what);
+    caching::drop_met(cache, unit, what);
     let next = id.next();
     *cursor = next.0;
     let raw = payloads::forward(out, frame, id, what, tag_words, tag_count as usize);
@@ -178,8 +183,8 @@ fn issue_request<'a>(
     }
 }
 
-// A legal request: it joins, else is issued, else gets exception 04.
-fn serve<'a>(
+// A legal request that hits nothing: it joins, else is issued, else gets exception 04.
+fn miss<'a>(
     ids: &'a mut [u32; numbers::PLACES],
     asked: &'a mut [u64; numbers::PLACES],
     callers: &'a mut [u8; numbers::PLACES],
@@ -189,6 +194,7 @@ fn serve<'a>(
     originals: &'a mut [u16; numbers::PARTY_PLACES],
     top: &'a mut u32,
     cursor: &'a mut u16,
+    cache: &'a mut [u64; numbers::CACHE_NUMBERS],
     timeout: u32,
     join: u32,
     tag_count: u32,
@@ -198,15 +204,16 @@ fn serve<'a>(
     frame: &[u8],
     out: &mut [u8],
     what: Asked,
+    word: u64,
 ) -> Answer
     requires { ⌜ SoundTable (columns (now ids) (now asked) (now callers) (now deadlines) (now counts) (now clients) (now originals) (now top)) ⌝ }
     requires { ⌜ Settled (keptSettings timeout join «tag_count» (now «tag_words»)) ⌝ }
     requires { ⌜ Admitted client time (now frame) (now out) what ⌝ }
-    ensures { λ r. ⌜ Came r (keptSettings timeout join «tag_count» (now («tag_words» .entry))) time (columns (now (ids .exit)) (now (asked .exit)) (now (callers .exit)) (now (deadlines .exit)) (now (counts .exit)) (now (clients .exit)) (now (originals .exit)) (now (top .exit))) (now (cursor .exit)) (now (out .exit))
-        (λ m. served m client (now (frame .entry)) (now (out .entry)))
-        (columns (now (ids .entry)) (now (asked .entry)) (now (callers .entry)) (now (deadlines .entry)) (now (counts .entry)) (now (clients .entry)) (now (originals .entry)) (now (top .entry))) (now (cursor .entry)) ⌝ }
+    requires { ⌜ Asks (now frame) word × Bounded (now cache) ⌝ }
+    ensures { λ r. ⌜ ((shown : List ℕ) → SoundCache (now (cache .entry)) shown → Came r (keptSettings timeout join «tag_count» (now («tag_words» .entry))) time shown (columns (now (ids .exit)) (now (asked .exit)) (now (callers .exit)) (now (deadlines .exit)) (now (counts .exit)) (now (clients .exit)) (now (originals .exit)) (now (top .exit))) (now (cursor .exit)) (now (cache .exit)) (now (out .exit))
+        (λ m. missed m client (now (frame .entry)) (now (out .entry)))
+        (columns (now (ids .entry)) (now (asked .entry)) (now (callers .entry)) (now (deadlines .entry)) (now (counts .entry)) (now (clients .entry)) (now (originals .entry)) (now (top .entry))) (now (cursor .entry)) (now (cache .entry))) ⌝ }
 {
-    let word = word_asked(frame, what);
     let seats = finding::find_seats(
         ids,
         asked,
@@ -231,6 +238,7 @@ fn serve<'a>(
             originals,
             top,
             cursor,
+            cache,
             timeout,
             tag_count,
             tag_words,
@@ -244,6 +252,86 @@ fn serve<'a>(
         );
     }
     except_caller(out, frame, numbers::DEVICE_FAILURE)
+}
+
+// A hit: what is cached at the place goes out under the caller's id, with the count of the reply that filled it; of partial cover none is raw.
+fn show_cached<'a>(
+    cache: &'a [u64; numbers::CACHE_NUMBERS],
+    shown: &'a [u8; numbers::CACHE_BYTES],
+    place: usize,
+    frame: &[u8],
+    out: &mut [u8],
+) -> Answer
+    requires { ⌜ SoundCache (now cache) (now shown) × (place < 64) × (inCache (cacheOf (now cache) (now shown)) place ≡ none → ⊥) ⌝ }
+    requires { ⌜ (frameBuffer ≤ length (now out)) × (leastFrame ≤ length (now frame)) ⌝ }
+    ensures { λ r. ⌜ ((m : Machine) → done r m (now (out .exit)) [] ≡ hitOn m (now (frame .entry)) (now (out .entry)) (inCache (cacheOf (now (cache .entry)) (now (shown .entry))) place)) ⌝ }
+{
+    let length = caching::show(cache, shown, place, frame[0], frame[1], out);
+    let value = caching::value_at(cache, place);
+    Answer::Hit {
+        length,
+        partial: 0,
+        value,
+    }
+}
+
+// A legal request: a hit, or what it comes to without one.
+fn serve<'a>(
+    ids: &'a mut [u32; numbers::PLACES],
+    asked: &'a mut [u64; numbers::PLACES],
+    callers: &'a mut [u8; numbers::PLACES],
+    deadlines: &'a mut [u64; numbers::PLACES],
+    counts: &'a mut [u8; numbers::PLACES],
+    clients: &'a mut [u8; numbers::PARTY_PLACES],
+    originals: &'a mut [u16; numbers::PARTY_PLACES],
+    top: &'a mut u32,
+    cursor: &'a mut u16,
+    cache: &'a mut [u64; numbers::CACHE_NUMBERS],
+    shown: &'a [u8; numbers::CACHE_BYTES],
+    timeout: u32,
+    join: u32,
+    tag_count: u32,
+    tag_words: &[u64; numbers::MOST_TAGS],
+    client: u8,
+    time: u64,
+    frame: &[u8],
+    out: &mut [u8],
+    what: Asked,
+) -> Answer
+    requires { ⌜ SoundTable (columns (now ids) (now asked) (now callers) (now deadlines) (now counts) (now clients) (now originals) (now top)) ⌝ }
+    requires { ⌜ Settled (keptSettings timeout join «tag_count» (now «tag_words»)) × SoundCache (now cache) (now shown) ⌝ }
+    requires { ⌜ Admitted client time (now frame) (now out) what ⌝ }
+    ensures { λ r. ⌜ Came r (keptSettings timeout join «tag_count» (now («tag_words» .entry))) time (now (shown .entry)) (columns (now (ids .exit)) (now (asked .exit)) (now (callers .exit)) (now (deadlines .exit)) (now (counts .exit)) (now (clients .exit)) (now (originals .exit)) (now (top .exit))) (now (cursor .exit)) (now (cache .exit)) (now (out .exit))
+        (λ m. served m client (now (frame .entry)) (now (out .entry)))
+        (columns (now (ids .entry)) (now (asked .entry)) (now (callers .entry)) (now (deadlines .entry)) (now (counts .entry)) (now (clients .entry)) (now (originals .entry)) (now (top .entry))) (now (cursor .entry)) (now (cache .entry)) ⌝ }
+{
+    let word = word_asked(frame, what);
+    let place = caching::hit_place(cache, word, time);
+    if place < numbers::CACHE_PLACES {
+        return show_cached(cache, shown, place, frame, out);
+    }
+    miss(
+        ids,
+        asked,
+        callers,
+        deadlines,
+        counts,
+        clients,
+        originals,
+        top,
+        cursor,
+        cache,
+        timeout,
+        join,
+        tag_count,
+        tag_words,
+        client,
+        time,
+        frame,
+        out,
+        what,
+        word,
+    )
 }
 
 // A request of any client, at any time, of any bytes, over a buffer of any length.
@@ -263,14 +351,16 @@ pub fn request<'a>(
     join: &'a mut u32,
     tag_count: &'a mut u32,
     tag_words: &'a mut [u64; numbers::MOST_TAGS],
+    cache: &'a mut [u64; numbers::CACHE_NUMBERS],
+    shown: &'a mut [u8; numbers::CACHE_BYTES],
     client: u32,
     time: u64,
     frame: &[u8],
     out: &mut [u8],
 ) -> Answer
-    requires { ⌜ SoundState (lent (now ids) (now asked) (now callers) (now deadlines) (now counts) (now clients) (now originals) (now top) (now cursor) (now attached) (now clock) (now timeout) (now join) (now «tag_count») (now «tag_words»)) ⌝ }
-    ensures { λ r. ⌜ Does (lent (now (ids .entry)) (now (asked .entry)) (now (callers .entry)) (now (deadlines .entry)) (now (counts .entry)) (now (clients .entry)) (now (originals .entry)) (now (top .entry)) (now (cursor .entry)) (now (attached .entry)) (now (clock .entry)) (now (timeout .entry)) (now (join .entry)) (now («tag_count» .entry)) (now («tag_words» .entry))) (asks client time (now (frame .entry)) (now (out .entry))) r
-        (lent (now (ids .exit)) (now (asked .exit)) (now (callers .exit)) (now (deadlines .exit)) (now (counts .exit)) (now (clients .exit)) (now (originals .exit)) (now (top .exit)) (now (cursor .exit)) (now (attached .exit)) (now (clock .exit)) (now (timeout .exit)) (now (join .exit)) (now («tag_count» .exit)) (now («tag_words» .exit))) (now (out .exit)) [] ⌝ }
+    requires { ⌜ SoundState (lent (now ids) (now asked) (now callers) (now deadlines) (now counts) (now clients) (now originals) (now top) (now cursor) (now attached) (now clock) (now timeout) (now join) (now «tag_count») (now «tag_words») (now cache) (now shown)) ⌝ }
+    ensures { λ r. ⌜ Does (lent (now (ids .entry)) (now (asked .entry)) (now (callers .entry)) (now (deadlines .entry)) (now (counts .entry)) (now (clients .entry)) (now (originals .entry)) (now (top .entry)) (now (cursor .entry)) (now (attached .entry)) (now (clock .entry)) (now (timeout .entry)) (now (join .entry)) (now («tag_count» .entry)) (now («tag_words» .entry)) (now (cache .entry)) (now (shown .entry))) (asks client time (now (frame .entry)) (now (out .entry))) r
+        (lent (now (ids .exit)) (now (asked .exit)) (now (callers .exit)) (now (deadlines .exit)) (now (counts .exit)) (now (clients .exit)) (now (originals .exit)) (now (top .exit)) (now (cursor .exit)) (now (attached .exit)) (now (clock .exit)) (now (timeout .exit)) (now (join .exit)) (now («tag_count» .exit)) (now («tag_words» .exit)) (now (cache .exit)) (now (shown .exit))) (now (out .exit)) [] ⌝ }
 {
     let refused = gate(out.len(), client, *attached, time, *clock, frame);
     if refused != 0 {
@@ -295,6 +385,8 @@ pub fn request<'a>(
                 originals,
                 top,
                 cursor,
+                cache,
+                shown,
                 *timeout,
                 *join,
                 *tag_count,

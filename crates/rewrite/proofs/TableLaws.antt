@@ -144,7 +144,7 @@ tags-split : (words : List ℕ) (i m : ℕ) → tagsOf (i + m) words ≡ tagsOf 
 tags-split words i m = rw (take-add i m words) (map-append tagOf (take i words) (take m (drop i words)))
 
 -- the tag at a place, and the place of a tag
-tag-at : (words : List ℕ) (n i : ℕ) → i < n → getD (tagsOf n words) i (tagOf 0) ≡ tagOf (getD words i 0)
+pub tag-at : (words : List ℕ) (n i : ℕ) → i < n → getD (tagsOf n words) i (tagOf 0) ≡ tagOf (getD words i 0)
 tag-at words n i h = List·getD-map tagOf (take n words) i 0 ∙ ap tagOf (getD-take n words i 0 h)
 
 pub tag-place : (words : List ℕ) (i m : ℕ) (t : Tag) → List·Memᴰ t (map tagOf (take m (drop i words))) → (k : ℕ) × (k < m) × (t ≡ tagOf (getD words (i + k) 0))
@@ -155,7 +155,7 @@ tag-place words i m t e =
     (k, l, s .2 ∙ List·getD-map tagOf (take m (drop i words)) k 0 ∙ ap tagOf (getD-take m (drop i words) k 0 l ∙ getD-drop i words k 0))
 
 module _ (n : ℕ) (words : List ℕ) (w : TagWords n words) where
-  length-tags : (i : ℕ) → i ≤ n → length (tagsOf i words) ≡ i
+  pub length-tags : (i : ℕ) → i ≤ n → length (tagsOf i words) ≡ i
   length-tags i h = length-map (take i words) tagOf ∙ length-take-le i words (omega (arith, w .places, w .few))
 
   -- a tag ends before every tag at a later place

@@ -14,7 +14,7 @@ use Rattle.parts.specs.Said.{said}
 use Rattle.parts.specs.Texts.{hexOf}
 use Rattle.parts.proofs.SaidLaws.{said-said}
 use Rattle.machine.specs.declared.Answer.{Answer}
-use Rattle.machine.specs.declared.Answer.the-variants.{Refused, Done, Issued, Joined, Excepted, Answered, TimedOut, NothingDue, Lost}
+use Rattle.machine.specs.declared.Answer.the-variants.{Refused, Done, Issued, Joined, Excepted, Answered, TimedOut, NothingDue, Lost, Hit}
 use Rattle.machine.specs.declared.Report.{Report}
 use Rattle.machine.specs.Numbers.{numbers}
 use Rattle.machine.proofs.Answer.{the-type}
@@ -58,7 +58,7 @@ unfolding touched
 touched-changed kept e = rw e
 
 -- every answer but a lost link is named by its report
-pub name-other : (a : Answer) → OneOf (0 ∷ 1 ∷ 2 ∷ 3 ∷ 4 ∷ 5 ∷ 6 ∷ 7 ∷ []) (tagOf the-type a) → nameText a ≡ outcomeText (numbers a)
+pub name-other : (a : Answer) → OneOf (0 ∷ 1 ∷ 2 ∷ 3 ∷ 4 ∷ 5 ∷ 6 ∷ 7 ∷ 9 ∷ []) (tagOf the-type a) → nameText a ≡ outcomeText (numbers a)
 unfolding nameText
 name-other (Refused n) h = refl
 name-other Done h = refl
@@ -68,7 +68,8 @@ name-other (Excepted c) h = refl
 name-other (Answered i n k p v) h = refl
 name-other (TimedOut i k) h = refl
 name-other NothingDue h = refl
-name-other (Lost s) h = absurd (miss (0 ∷ 1 ∷ 2 ∷ 3 ∷ 4 ∷ 5 ∷ 6 ∷ 7 ∷ []) 8 tt h)
+name-other (Lost s) h = absurd (miss (0 ∷ 1 ∷ 2 ∷ 3 ∷ 4 ∷ 5 ∷ 6 ∷ 7 ∷ 9 ∷ []) 8 tt h)
+name-other (Hit n p v) h = refl
 
 -- all that is said of an answer, piece by piece
 pub answer-said : (right out list : List ℕ) (a : Answer) (r : Report) (named framed fanned kept last : ℕ)

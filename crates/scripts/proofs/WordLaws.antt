@@ -9,7 +9,7 @@ use borrow.Author.Tests.{eq-eqb, ne-eqb}
 use Rattle.settings.specs.declared.Settings.{Settings}
 use Rattle.settings.specs.Values.{settingsOf}
 use Rattle.parts.specs.Texts.{restOf, fieldOf, numberOf}
-use Rattle.scripts.specs.Words.{letterOf, document, shortNumber, signIn, settingsIn, lengthIn}
+use Rattle.scripts.specs.Words.{letterOf, document, shortNumber, tagNumber, settingsIn, lengthIn}
 
 -- the letter of a call that begins with 'r', and of any other
 pub letter-third : (call : List ℕ) → getD call 0 0 ≡ 114 → letterOf call ≡ getD call 2 0 % 32 + 64
@@ -29,13 +29,15 @@ module _ (call : List ℕ) (letter usual most given : ℕ) (e : given ≡ number
   length-most h = rw (← e) (omega arith)
 
 -- the numbers of a call over document 01's settings
-pub settings-made : (call : List ℕ) (s : Settings) (timeout join tags first second : ℕ)
+pub settings-made : (call : List ℕ) (s : Settings) (timeout join tags first second third fourth : ℕ)
     → s ≡ settingsOf document
     → timeout ≡ shortNumber call 2 (s .timeout)
     → join ≡ shortNumber call 4 (s .join)
     → tags ≡ shortNumber call 6 (s .tags)
-    → first ≡ signIn call 8
-    → second ≡ signIn call 9
-    → _≡_ {A = Settings} (record { timeout = timeout; join = join; tags = tags; addr = s .addr; width = s .width; sign = set (set (s .sign) 0 first) 1 second }) (settingsIn call)
+    → first ≡ tagNumber call 8
+    → second ≡ tagNumber call 9
+    → third ≡ tagNumber call 11
+    → fourth ≡ tagNumber call 12
+    → _≡_ {A = Settings} (record { timeout = timeout; join = join; tags = tags; addr = s .addr; width = s .width; sign = set (set (s .sign) 0 first) 1 second; ttl = set (set (s .ttl) 0 third) 1 fourth }) (settingsIn call)
 unfolding settingsIn settingsOf
-settings-made call s timeout join tags first second e a b d x y = rw (a, b, d, x, y, e)
+settings-made call s timeout join tags first second third fourth e a b d x y z w = rw (a, b, d, x, y, z, w, e)

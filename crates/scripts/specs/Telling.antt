@@ -8,15 +8,15 @@ use lib.Dec.{eqb}
 use Rattle.parts.specs.Texts.{fieldOf}
 use Rattle.parts.specs.Said.{formed}
 use Rattle.machine.specs.declared.Answer.{Answer}
-use Rattle.machine.specs.declared.Answer.the-variants.{Refused, Done, Issued, Joined, Excepted, Answered, TimedOut, NothingDue, Lost}
+use Rattle.machine.specs.declared.Answer.the-variants.{Refused, Done, Issued, Joined, Excepted, Answered, TimedOut, NothingDue, Lost, Hit}
 use Rattle.machine.specs.declared.Report.{Report}
 use Rattle.machine.specs.Numbers.{numbers, isException}
 use Rattle.scripts.specs.Pieces.{frameText, keptByte, keptPlace, allAre, touched}
 
--- "refusal D|done|issued 0xX D,D|joined 0xX D,D|exception B D,D|answered 0xX D,D|timed out 0xX D,D|nothing due|", in the order of the outcomes' numbers
+-- "refusal D|done|issued 0xX D,D|joined 0xX D,D|exception B D,D|answered 0xX D,D|timed out 0xX D,D|nothing due|||hit 0xX D,D|", in the order of the outcomes' numbers; 8 and 9 are no answer's
 abbrev pub names : List ℕ
 names =
-    114 ∷ 101 ∷ 102 ∷ 117 ∷ 115 ∷ 97 ∷ 108 ∷ 32 ∷ 68 ∷ 124 ∷ 100 ∷ 111 ∷ 110 ∷ 101 ∷ 124 ∷ 105 ∷ 115 ∷ 115 ∷ 117 ∷ 101 ∷ 100 ∷ 32 ∷ 48 ∷ 120 ∷ 88 ∷ 32 ∷ 68 ∷ 44 ∷ 68 ∷ 124 ∷ 106 ∷ 111 ∷ 105 ∷ 110 ∷ 101 ∷ 100 ∷ 32 ∷ 48 ∷ 120 ∷ 88 ∷ 32 ∷ 68 ∷ 44 ∷ 68 ∷ 124 ∷ 101 ∷ 120 ∷ 99 ∷ 101 ∷ 112 ∷ 116 ∷ 105 ∷ 111 ∷ 110 ∷ 32 ∷ 66 ∷ 32 ∷ 68 ∷ 44 ∷ 68 ∷ 124 ∷ 97 ∷ 110 ∷ 115 ∷ 119 ∷ 101 ∷ 114 ∷ 101 ∷ 100 ∷ 32 ∷ 48 ∷ 120 ∷ 88 ∷ 32 ∷ 68 ∷ 44 ∷ 68 ∷ 124 ∷ 116 ∷ 105 ∷ 109 ∷ 101 ∷ 100 ∷ 32 ∷ 111 ∷ 117 ∷ 116 ∷ 32 ∷ 48 ∷ 120 ∷ 88 ∷ 32 ∷ 68 ∷ 44 ∷ 68 ∷ 124 ∷ 110 ∷ 111 ∷ 116 ∷ 104 ∷ 105 ∷ 110 ∷ 103 ∷ 32 ∷ 100 ∷ 117 ∷ 101 ∷ 124 ∷ []
+    114 ∷ 101 ∷ 102 ∷ 117 ∷ 115 ∷ 97 ∷ 108 ∷ 32 ∷ 68 ∷ 124 ∷ 100 ∷ 111 ∷ 110 ∷ 101 ∷ 124 ∷ 105 ∷ 115 ∷ 115 ∷ 117 ∷ 101 ∷ 100 ∷ 32 ∷ 48 ∷ 120 ∷ 88 ∷ 32 ∷ 68 ∷ 44 ∷ 68 ∷ 124 ∷ 106 ∷ 111 ∷ 105 ∷ 110 ∷ 101 ∷ 100 ∷ 32 ∷ 48 ∷ 120 ∷ 88 ∷ 32 ∷ 68 ∷ 44 ∷ 68 ∷ 124 ∷ 101 ∷ 120 ∷ 99 ∷ 101 ∷ 112 ∷ 116 ∷ 105 ∷ 111 ∷ 110 ∷ 32 ∷ 66 ∷ 32 ∷ 68 ∷ 44 ∷ 68 ∷ 124 ∷ 97 ∷ 110 ∷ 115 ∷ 119 ∷ 101 ∷ 114 ∷ 101 ∷ 100 ∷ 32 ∷ 48 ∷ 120 ∷ 88 ∷ 32 ∷ 68 ∷ 44 ∷ 68 ∷ 124 ∷ 116 ∷ 105 ∷ 109 ∷ 101 ∷ 100 ∷ 32 ∷ 111 ∷ 117 ∷ 116 ∷ 32 ∷ 48 ∷ 120 ∷ 88 ∷ 32 ∷ 68 ∷ 44 ∷ 68 ∷ 124 ∷ 110 ∷ 111 ∷ 116 ∷ 104 ∷ 105 ∷ 110 ∷ 103 ∷ 32 ∷ 100 ∷ 117 ∷ 101 ∷ 124 ∷ 124 ∷ 124 ∷ 104 ∷ 105 ∷ 116 ∷ 32 ∷ 48 ∷ 120 ∷ 88 ∷ 32 ∷ 68 ∷ 44 ∷ 68 ∷ 124 ∷ []
 
 -- the number that a name begins with: a refusal's, an exception's code, or the proxy id
 abbrev pub firstNumber : Report → ℕ
@@ -36,6 +36,7 @@ nameText (Answered i n k p v) = outcomeText (numbers (Answered i n k p v))
 nameText (TimedOut i k) = outcomeText (numbers (TimedOut i k))
 nameText NothingDue = outcomeText (numbers NothingDue)
 nameText (Lost s) = formed (108 ∷ 111 ∷ 115 ∷ 116 ∷ 32 ∷ 48 ∷ 120 ∷ 76 ∷ []) s 0 0
+nameText (Hit n p v) = outcomeText (numbers (Hit n p v))
 
 -- the k-th party of a list, its client and its id: " to D,0xX", and without the "to" from the second on
 abbrev pub skipped : ℕ → ℕ

@@ -21,17 +21,17 @@ leavesState call = eqb (letterOf call) 99 || (eqb (letterOf call) 115 || (eqb (l
 
 -- document 01's settings
 abbrev pub document : Value
-document = record { timeout = usualTimeout; join = 1; tags = record { address = 1024; width = 16; sign = 0 } ∷ record { address = 1026; width = 32; sign = 0 } ∷ [] }
+document = record { timeout = usualTimeout; join = 1; tags = record { address = 1024; width = 16; sign = 0; ttl = 0 } ∷ record { address = 1026; width = 32; sign = 0; ttl = 0 } ∷ [] }
 
 -- the k-th word of a call as a number of 32 bits, the other one where there is none
 abbrev pub shortNumber : List ℕ → ℕ → ℕ → ℕ
 shortNumber call k other = numberOf (fieldOf 32 k call) other % 2 ^ 32
 
--- and as a tag's sign, of 16 bits, 0 where there is none
-abbrev pub signIn : List ℕ → ℕ → ℕ
-signIn call k = shortNumber call k 0 % 2 ^ 16
+-- and as a tag's sign or ttl, of 16 bits, 0 where there is none
+abbrev pub tagNumber : List ℕ → ℕ → ℕ
+tagNumber call k = shortNumber call k 0 % 2 ^ 16
 
--- the same with the numbers of a call: timeout, join and tags are its words 2, 4 and 6, and the signs of the two tags its words 8 and 9
+-- the same with the numbers of a call: timeout, join and tags are its words 2, 4 and 6, the signs of the two tags its words 8 and 9, and their ttls its words 11 and 12
 unfoldable pub settingsIn : List ℕ → Settings
 settingsIn call =
     record {
@@ -40,7 +40,8 @@ settingsIn call =
       tags = shortNumber call 6 2;
       addr = settingsOf document .addr;
       width = settingsOf document .width;
-      sign = set (set (settingsOf document .sign) 0 (signIn call 8)) 1 (signIn call 9);
+      sign = set (set (settingsOf document .sign) 0 (tagNumber call 8)) 1 (tagNumber call 9);
+      ttl = set (set (settingsOf document .ttl) 0 (tagNumber call 11)) 1 (tagNumber call 12);
     }
 
 -- a length behind the comma, by a letter that no other word there has

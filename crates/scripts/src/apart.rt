@@ -99,6 +99,7 @@ fn written(right: &[u8], from: Settings, lent: usize) -> usize
         &from.addr,
         &from.width,
         &from.sign,
+        &from.ttl,
         &mut buffer[0..lent],
     );
     told(right, wrote, &buffer)

@@ -1,19 +1,19 @@
 // The calls that a row can name, and the numbers in them.
 //   fresh                           a fresh state with document 01's settings
-//   fresh timeout 99 join 1 tags 2 sign 1 0
-//                                   the same with these numbers; the tags are document 01's with these signs, 0 where none is given, and nothing behind the second
+//   fresh timeout 99 join 1 tags 2 sign 1 0 ttl 500 0
+//                                   the same with these numbers; the tags are document 01's with these signs and ttls, 0 where none is given, and nothing behind the second
 //   attach 3, detach 3, request 3 at 0: 12 34 .., reply at 0: 00 00 .., tick at 0, link lost
 //   cursor                          the cursor, the clock and the attached clients
 //   split: 12 34 ..                 the first frame of a run
 //   read: version=1/..              a settings text, with '/' for LF
-//   write timeout 99 join 1 tags 2 sign 1 0
+//   write timeout 99 join 1 tags 2 sign 1 0 ttl 500 0
 //                                   a settings text from a value as of fresh
 // Behind a comma may stand lengths other than the usual ones: "out 259" and "list 15" for the lent buffers, "size 261" for the frame, which
 // is filled up with zeros.
 ghost use Prim.Native.Nat.{_≤_};
 ghost use mathlib.Core.Path.{_≡_};
 ghost use Rattle.settings.specs.Values.{settingsOf};
-ghost use Rattle.scripts.specs.Words.{letterOf, document, shortNumber, signIn, settingsIn, lengthIn};
+ghost use Rattle.scripts.specs.Words.{letterOf, document, shortNumber, tagNumber, settingsIn, lengthIn};
 use parts::field;
 use parts::number;
 use parts::rest;
@@ -48,6 +48,7 @@ fn document_value() -> Settings
         addr,
         width,
         sign: [0u16; numbers::MOST_TAGS],
+        ttl: [0u16; numbers::MOST_TAGS],
     }
 }
 
@@ -58,9 +59,9 @@ fn short_number(call: &[u8], k: usize, other: u32) -> u32
     (number(field(call, b' ', k), other as u64) % 4294967296) as u32
 }
 
-// The k-th word of a call as a tag's sign; 0 where there is none.
-fn sign_in(call: &[u8], k: usize) -> u16
-    ensures { λ r. ⌜ r ≡ signIn (now (call .entry)) k ⌝ }
+// The k-th word of a call as a tag's sign or ttl; 0 where there is none.
+fn tag_number(call: &[u8], k: usize) -> u16
+    ensures { λ r. ⌜ r ≡ tagNumber (now (call .entry)) k ⌝ }
 {
     (short_number(call, k, 0) % 65536) as u16
 }
@@ -73,8 +74,10 @@ pub fn value_in(call: &[u8]) -> Settings
     s.timeout = short_number(call, 2, s.timeout);
     s.join = short_number(call, 4, s.join);
     s.tags = short_number(call, 6, s.tags);
-    s.sign[0] = sign_in(call, 8);
-    s.sign[1] = sign_in(call, 9);
+    s.sign[0] = tag_number(call, 8);
+    s.sign[1] = tag_number(call, 9);
+    s.ttl[0] = tag_number(call, 11);
+    s.ttl[1] = tag_number(call, 12);
     s
 }
 

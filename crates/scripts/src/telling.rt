@@ -36,12 +36,12 @@ fn first_number(r: Report) -> u32
     }
 }
 
-// The form of each outcome, in the order of the outcomes' numbers in a report.
+// The form of each outcome, in the order of the outcomes' numbers in a report; 8 and 9 are no answer's.
 fn say_outcome(right: &[u8], r: Report) -> usize
     ensures { λ n. ⌜ n ≡ said (now (right .entry)) 0 (outcomeText r) ⌝ }
 {
     let forms =
-        b"refusal D|done|issued 0xX D,D|joined 0xX D,D|exception B D,D|answered 0xX D,D|timed out 0xX D,D|nothing due|";
+        b"refusal D|done|issued 0xX D,D|joined 0xX D,D|exception B D,D|answered 0xX D,D|timed out 0xX D,D|nothing due|||hit 0xX D,D|";
     let form = field(forms, b'|', r.outcome as usize);
     say_form(
         right,

@@ -1,4 +1,4 @@
--- Document 01's settings text of 75 bytes is the text of its value in version 1 and reads to it, one of version 2 likewise, and each rule refuses a text at its line: shown by computing.
+-- Document 01's settings text of 75 bytes is the text of its value in version 1 and reads to it, texts of versions 2 and 3 likewise, and each rule refuses a text at its line: shown by computing.
 -- Assumes nothing.
 use mathlib.Core.Path.{_≡_, refl}
 use mathlib.Core.List.{[], map, flatMap}
@@ -6,7 +6,7 @@ use lib.ListN.{length}
 use Rattle.settings.specs.Lines.{lineIn, lineOf, behind, numberIn, leading, trailing, plain, numberFrom, decimalOf}
 use Rattle.settings.specs.Grammar.{versionOf, newest, textIn, readText, readIn, readBehind, readLines, readTags, versionIn, ascends, textOfLines}
 use Rattle.settings.specs.Grammar.Read.{got, wrong}
-use Rattle.settings.specs.Examples.{shown, meant, signedTag, shown2, joined, Damage, damages}
+use Rattle.settings.specs.Examples.{shown, meant, signedTag, shown2, cachedTags, shown3, joined, Damage, damages}
 
 pub shown-size : length shown ≡ 75
 shown-size = refl
@@ -23,9 +23,17 @@ pub shown2-read : readText shown2 ≡ got signedTag []
 unfolding readText readIn readBehind readLines readTags versionIn ascends lineIn behind numberIn leading trailing plain numberFrom
 shown2-read = refl
 
-pub shown2-written : textIn newest signedTag ≡ shown2
+pub shown2-written : textIn (versionOf 2) signedTag ≡ shown2
 unfolding textIn textOfLines lineOf decimalOf flatMap
 shown2-written = refl
+
+pub shown3-read : readText shown3 ≡ got cachedTags []
+unfolding readText readIn readBehind readLines readTags versionIn ascends lineIn behind numberIn leading trailing plain numberFrom
+shown3-read = refl
+
+pub shown3-written : textIn newest cachedTags ≡ shown3
+unfolding textIn textOfLines lineOf decimalOf flatMap
+shown3-written = refl
 
 pub damaged : map (λ (d : Damage). readText (joined (d .lines))) damages ≡ map (λ (d : Damage). wrong (d .wrongLine)) damages
 unfolding readText readIn readBehind readLines readTags versionIn ascends lineIn behind numberIn leading trailing plain numberFrom lineOf decimalOf

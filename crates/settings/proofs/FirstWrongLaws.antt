@@ -14,9 +14,9 @@ use Rattle.settings.specs.Grammar.{Tag, Value, Line, Version, Read, tagF
 use Rattle.settings.specs.Grammar.Read.{got, wrong}
 use Rattle.settings.specs.Plain.{Right, Next, Lines, AllLines, Reads, FirstWrong, numbered, Versioned}
 use Rattle.settings.proofs.RowLaws.{ruled-follows, ruled-some, line-wrong, line-right, onto, tag-wrong, tag-right}
-use Rattle.settings.proofs.VersionLaws.{one-of, tagsIn, Went, went}
+use Rattle.settings.proofs.VersionLaws.{Listed, by-number, version-listed, tagsIn, Went, went}
 use Rattle.settings.proofs.VersionLaws.Went.{unversioned, inHead, inTags, extra, whole}
-use Rattle.settings.proofs.PlainLines.{line-exactly, keyAt, follows, Listed, listed-bounds, first-line, none-known, all-known, one-more, next-read, one-end, nothing-follows}
+use Rattle.settings.proofs.PlainLines.{line-exactly, keyAt, follows, listed-bounds, first-line, none-known, all-known, one-more, next-read, one-end, nothing-follows}
 use Rattle.settings.proofs.ReadsLaws.{Tagged, tagged-long, reads, reads-one}
 use Rattle.settings.proofs.PlaceLaws.{Place, Row, Headed, head-row, all, Begun, Done, tag-lines}
 
@@ -94,9 +94,7 @@ module _ (text : List ℕ) (v t j m : ℕ) (least : 1 ≤ v) (most : v < length 
 
 -- a version is found in the list
 listed-found : {n : ℕ} → Listed n → versionIn versions n ≡ none → ⊥
-unfolding versionIn
-listed-found (inl e) h = Option·some-ne-none _ (rw e at h)
-listed-found (inr e) h = Option·some-ne-none _ (rw e at h)
+listed-found {n} l h = Option·some-ne-none _ (sym (version-listed n l) ∙ h)
 
 -- a text
 
@@ -117,13 +115,13 @@ module _ (text : List ℕ) where
   module _ (y : Numbered) (x : Version) (w : Versioned text y x) where
     listed-version : (x ≡ versionOf (y .number)) × Listed (y .number)
     listed-version =
-        let of = one-of (λ z. (z ≡ versionOf (z .number)) × Listed (z .number)) (refl, inl refl) (refl, inr refl) x (w .listed) in
+        let of = by-number (λ z. (z ≡ versionOf (z .number)) × Listed (z .number)) (λ n l. (refl, l)) x (w .listed) in
         (of .0 ∙ ap versionOf (w .number), rw (w .number) at (of .1))
 
     heads-told : (o : Read (List ℕ)) → readLines 2 (x .head) [] [] (y .rest) ≡ o → LinesTold text (Headed (y .number)) o
     heads-told o e =
         let line = line-exactly versionKey text (y .number) (y .rest) .0 (w .line) in
-        let first : Lines [] text (y .number ∷ []) (y .rest) = one-more Lines.none (line .1) (line .2) (Right.version (listed-version .1)) in
+        let first : Lines [] text (y .number ∷ []) (y .rest) = one-more Lines.none (line .1) (line .2) (Right.version (listed-version .1 .0) (listed-version .1 .1)) in
         subst (LinesTold text (Headed (y .number))) (ap (λ (z : Version). readLines 2 (z .head) [] [] (y .rest)) (sym (listed-version .0)) ∙ e)
         (lines-told text (Headed (y .number)) headLines 2 (y .number ∷ []) [] [] (y .rest) refl first (head-row (y .number)))
 

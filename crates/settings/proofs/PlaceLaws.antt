@@ -12,9 +12,9 @@ use lib.Seq.{getD-at, getD-append-add}
 use lib.Dec.{ltb}
 use borrow.Author.Tests.{lt-ltb, ltb-true}
 use Rattle.laws.proofs.TestLaws.{holds-and}
-use Rattle.settings.specs.Grammar.{Line, lastRegister, ascends, timeoutKey, joinKey, tagsKey, addrKey, widthKey, signKey, rightTimeout, rightJoin, rightTags, rightAddr, rightWidth, rightSign, headLines, tagLines}
+use Rattle.settings.specs.Grammar.{Line, lastRegister, ascends, timeoutKey, joinKey, tagsKey, addrKey, widthKey, signKey, ttlKey, rightTimeout, rightJoin, rightTags, rightAddr, rightWidth, rightSign, rightTtl, headLines, tagLines}
 use Rattle.settings.specs.Plain.{Above, FreeFrom, Right, AllLines}
-use Rattle.settings.proofs.ValidLaws.{timeout-exactly, join-exactly, tags-exactly, Widths, width-exactly, Signs, sign-exactly, above-exactly}
+use Rattle.settings.proofs.ValidLaws.{timeout-exactly, join-exactly, tags-exactly, Widths, width-exactly, Signs, sign-exactly, ttl-exactly, above-exactly}
 use Rattle.settings.proofs.PlainLines.{keys, keyAt, InTag, tag-follows}
 
 -- the line l is the next one below these numbers, and its rule is the plain one
@@ -160,19 +160,22 @@ module _ (v t j m : ℕ) where
   width-told : {ns : List ℕ} (own : List ℕ) {n : ℕ} → length own ≡ 1 → Right ns widthKey n → Told (own ++ (n ∷ []))
   width-told own c (Right.width {n = n} i l e r) = λ h. rw (getD-at own n [] 0 1 c) (⊎-elim (λ (w : n ≡ 16). inl w) (λ w. inr (w .0)) r)
 
-  sign-rule : v < length tagLines → {i : ℕ} {prior start own : List ℕ} → Inside i 2 prior start own → (n : ℕ) → (rightSign own n ≡ true) ↔ Right (all (start ++ own)) signKey n
-  sign-rule u {i} {prior} {start} {own} p n = (λ e. so (sign-exactly own n .0 e), λ g. sign-exactly own n .1 (said g))
+  sign-rule : {i : ℕ} {prior start own : List ℕ} → Inside i 2 prior start own → (n : ℕ) → (rightSign own n ≡ true) ↔ Right (all (start ++ own)) signKey n
+  sign-rule {i} {prior} {start} {own} p n = (λ e. so (sign-exactly own n .0 e), λ g. sign-exactly own n .1 (said g))
     where
-      two : v ≡ 2
-      two = omega (arith, p .line)
-
       so : Signs (getD own 1 0) n → Right (all (start ++ own)) signKey n
-      so (inl e) = Right.sign {ns = all (start ++ own)} i (p .within) two (inside p .long) (inl e)
-      so (inr w) = Right.sign {ns = all (start ++ own)} i (p .within) two (inside p .long) (inr (w .0, own-at start own (4 + i * (v + 1) + 1) 1 (omega (arith, p .begun .long)) ∙ w .1))
+      so (inl e) = Right.sign {ns = all (start ++ own)} i (p .within) (p .line) (inside p .long) (inl e)
+      so (inr w) = Right.sign {ns = all (start ++ own)} i (p .within) (p .line) (inside p .long) (inr (w .0, own-at start own (4 + i * (v + 1) + 1) 1 (omega (arith, p .begun .long)) ∙ w .1))
 
       said : Right (all (start ++ own)) signKey n → Signs (getD own 1 0) n
       said (Right.sign h l q e (inl w)) = inl w
       said (Right.sign h l q e (inr w)) = inr (w .0, sym (own-at start own (4 + h * (v + 1) + 1) 1 (omega (arith, length-append start own, p .count))) ∙ w .1)
+
+  ttl-rule : {i : ℕ} {prior start own : List ℕ} → Inside i 3 prior start own → (n : ℕ) → (rightTtl n ≡ true) ↔ Right (all (start ++ own)) ttlKey n
+  ttl-rule {i} {prior} {start} {own} p n = (λ e. Right.ttl {ns = all (start ++ own)} i (p .within) (p .line) (inside p .long) (ttl-exactly n .0 e), λ g. ttl-exactly n .1 (said g))
+    where
+      said : Right (all (start ++ own)) ttlKey n → n ≤ 60000
+      said (Right.ttl h l q e w) = w
 
   -- the line s of a tag: its key, its rule, and a width that stays one
   record Step (s : ℕ) (l : Line) : Type 0 where
@@ -184,12 +187,15 @@ module _ (v t j m : ℕ) where
   Steps s [] = Unit {0}
   Steps s (l ∷ ls) = Step s l × Steps (suc s) ls
 
-  tag-steps : v < length tagLines → Steps 0 tagLines
-  tag-steps u = (
+  tag-steps : Steps 0 tagLines
+  tag-steps = (
     record { key = refl; rule = addr-rule; told = λ {own = own} p n g h. absurd (omega (arith, length-append own (n ∷ []), p .count)) },
     (
       record { key = refl; rule = width-rule; told = λ {own = own} p n g. width-told own (p .count) g },
-      (record { key = refl; rule = sign-rule u; told = λ {own = own} p n g. told-on own n (omega (arith, p .count)) (p .told) }, tt),
+      (
+        record { key = refl; rule = sign-rule; told = λ {own = own} p n g. told-on own n (omega (arith, p .count)) (p .told) },
+        (record { key = refl; rule = ttl-rule; told = λ {own = own} p n g. told-on own n (omega (arith, p .count)) (p .told) }, tt),
+      ),
     ),
   )
 
@@ -224,4 +230,4 @@ module _ (v t j m : ℕ) where
   pub tag-lines : (i : ℕ) (prior start : List ℕ) → 1 ≤ v → v < length tagLines → i < m → Begun i prior start → Row (Done i start) (take (suc v) tagLines) (all start) prior []
   tag-lines i prior start u most l b =
       subst (λ ms. Row (Done i start) (take (suc v) tagLines) (all ms) prior []) (append-nil start)
-      (tag-row u (suc v) 0 i tagLines prior start [] (tag-steps most) (omega arith) (omega arith) l b refl (λ z. absurd (omega arith)))
+      (tag-row u (suc v) 0 i tagLines prior start [] tag-steps (omega arith) (omega arith) l b refl (λ z. absurd (omega arith)))

@@ -2,7 +2,7 @@
 -- Assumes nothing.
 use Prim.Native.Nat.{ℕ, _+_, _*_, _-_, _%_, _≤_, _<_}
 use mathlib.Core.Path.{_≡_, refl, ap, sym, subst, _∙_}
-use mathlib.Core.Logic.{_↔_, _⊎_, inl, inr}
+use mathlib.Core.Logic.{_↔_}
 use mathlib.Core.Bool.{true, cond, false≢true}
 use mathlib.Core.Option.{some, Option·some-injective}
 use mathlib.Core.List.{List, [], _∷_, _++_, append-assoc, append-nil}
@@ -12,8 +12,9 @@ use lib.ListN.{length, getD}
 use lib.Dec.{eqb, ltb}
 use borrow.Author.Tests.{le-ltb, ne-eqb, eqb-false, not-true}
 use Rattle.settings.specs.Lines.{Numbered, isDigit, trailing, plain, numberFrom, lineIn}
-use Rattle.settings.specs.Grammar.{versionKey, timeoutKey, joinKey, tagsKey, addrKey, widthKey, signKey, tagLines}
+use Rattle.settings.specs.Grammar.{versionKey, timeoutKey, joinKey, tagsKey, addrKey, widthKey, signKey, ttlKey, tagLines}
 use Rattle.settings.specs.Plain.{Decimal, IsLine, linesOfTag, Right, Next, Lines, AllLines, numbered}
+use Rattle.settings.proofs.VersionLaws.{Listed}
 use Rattle.settings.proofs.LineLaws.{digit-of, digit-range, digit-first, digits-then, number-then, number-read, line-read, line-parts, digits-back}
 
 -- a decimal without leading zeros: digits that are plain and read as the number
@@ -84,7 +85,7 @@ line-exactly key t n r = (there, λ w. here (w .0) (w .1) (w .2))
 -- which line comes next, by the numbers above: the place among the lines before the tags, or behind them that among the lines of a tag
 
 abbrev pub keys : List (List ℕ)
-keys = versionKey ∷ timeoutKey ∷ joinKey ∷ tagsKey ∷ addrKey ∷ widthKey ∷ signKey ∷ []
+keys = versionKey ∷ timeoutKey ∷ joinKey ∷ tagsKey ∷ addrKey ∷ widthKey ∷ signKey ∷ ttlKey ∷ []
 
 unfoldable pub keyAt : List ℕ → List ℕ
 keyAt ns = getD keys (cond (ltb (length ns) 4) (length ns) (4 + (length ns - 4) % linesOfTag ns)) []
@@ -113,27 +114,25 @@ tag-follows ns i s p =
 
 pub follows : {ns key : List ℕ} {n : ℕ} → Known ns → Right ns key n → Follows ns key
 unfolding keyAt
-follows k (Right.version r) = (refl, λ a. omega (arith, a .0))
+follows k (Right.version l u) = (refl, λ a. omega (arith, a .0))
 follows k (Right.timeout l m) = (refl, λ a. omega (arith, a .0))
 follows k (Right.join r) = (refl, λ a. omega (arith, a .0))
 follows k (Right.tags l) = (refl, λ a. omega (arith, a .0))
 follows k (Right.addr {ns} i l e s f) = tag-follows ns i 0 (record { within = l; line = omega arith; long = omega arith })
 follows k (Right.width {ns} i l e r) = tag-follows ns i 1 (record { within = l; line = k (omega arith); long = e })
 follows k (Right.sign {ns} i l v e r) = tag-follows ns i 2 (record { within = l; line = omega arith; long = e })
+follows k (Right.ttl {ns} i l v e r) = tag-follows ns i 3 (record { within = l; line = omega arith; long = e })
 
 -- the first line's number is a version, and a version is known below it
-abbrev pub Listed : ℕ → Type 0
-Listed n = (n ≡ 1) ⊎ (n ≡ 2)
-
 pub listed-bounds : {n : ℕ} → Listed n → (1 ≤ n) × (n < length tagLines)
-listed-bounds (inl e) = omega arith
-listed-bounds (inr e) = omega arith
+listed-bounds l = (l .0, omega (arith, l .1))
 
 pub first-line : {key : List ℕ} {n : ℕ} → Right [] key n → Listed n
-first-line (Right.version e) = e
+first-line (Right.version l u) = (l, u)
 first-line (Right.addr i l e s f) = absurd (omega arith)
 first-line (Right.width i l e r) = absurd (omega arith)
 first-line (Right.sign i l v e r) = absurd (omega arith)
+first-line (Right.ttl i l v e r) = absurd (omega arith)
 
 next-known : (ns : List ℕ) {key : List ℕ} {n : ℕ} → Known ns → Right ns key n → Known (ns ++ (n ∷ []))
 next-known [] k g = λ h. omega (arith, listed-bounds (first-line g) .0)

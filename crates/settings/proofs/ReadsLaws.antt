@@ -66,6 +66,8 @@ reads v t j m heads ms ts least most e g a =
       width = λ i d l. line i 1 (4 + i * (v + 1) + 1) d l (omega arith) (omega arith);
       unsigned = λ z i d l. at i d l .none 2 (omega arith);
       signed = λ z i d l. line i 2 (4 + i * (v + 1) + 2) d l (omega arith) (omega arith);
+      uncached = λ z i d l. at i d l .none 3 (omega arith);
+      cached = λ z i d l. line i 3 (4 + i * (v + 1) + 3) d l (omega arith) (omega arith);
     }
   where
     many : length ts ≡ m
@@ -89,8 +91,15 @@ reads-one {ns} {v} {w} least a b =
         (λ (h : 2 ≤ getD ns 0 0). a .signed h i blank l ∙ sym (b .signed h i blank l))
         (lt-or (getD ns 0 0) 2)
 
+    ttls : (i : ℕ) → i < getD ns 3 0 → getD (v .tags) i blank .ttl ≡ getD (w .tags) i blank .ttl
+    ttls i l =
+        ⊎-elim
+        (λ (h : getD ns 0 0 < 3). a .uncached h i blank l ∙ sym (b .uncached h i blank l))
+        (λ (h : 3 ≤ getD ns 0 0). a .cached h i blank l ∙ sym (b .cached h i blank l))
+        (lt-or (getD ns 0 0) 3)
+
     same : (i : ℕ) → i < getD ns 3 0 → getD (v .tags) i blank ≡ getD (w .tags) i blank
-    same i l = tag-ext _ _ (a .address i blank l ∙ sym (b .address i blank l)) (a .width i blank l ∙ sym (b .width i blank l)) (signs i l)
+    same i l = tag-ext _ _ (a .address i blank l ∙ sym (b .address i blank l)) (a .width i blank l ∙ sym (b .width i blank l)) (signs i l) (ttls i l)
 
 -- The boundary's struct of that value has them place by place, and 0 in the places that no tag uses.
 pub reads-to : {ns : List ℕ} {v : Value} → length (v .tags) ≤ 256 → Reads ns v → ReadsTo ns (settingsOf v)
@@ -104,8 +113,19 @@ reads-to {ns} {v} few a =
       width = λ i l. column-at (λ t. t .width) (v .tags) i (omega (arith, a .many)) ∙ a .width i blank l;
       unsigned = λ z i l. column-at (λ t. t .sign) (v .tags) i (omega (arith, a .many)) ∙ a .unsigned z i blank l;
       signed = λ z i l. column-at (λ t. t .sign) (v .tags) i (omega (arith, a .many)) ∙ a .signed z i blank l;
+      uncached = λ z i l. column-at (λ t. t .ttl) (v .tags) i (omega (arith, a .many)) ∙ a .uncached z i blank l;
+      cached = λ z i l. column-at (λ t. t .ttl) (v .tags) i (omega (arith, a .many)) ∙ a .cached z i blank l;
       unused = λ i l.
-          let beyond : length (v .tags) ≤ i = omega (arith, a .many) in
-          (column-unused (λ t. t .address) (v .tags) i beyond, column-unused (λ t. t .width) (v .tags) i beyond, column-unused (λ t. t .sign) (v .tags) i beyond);
-      places = (column-places (λ t. t .address) (v .tags) few, column-places (λ t. t .width) (v .tags) few, column-places (λ t. t .sign) (v .tags) few);
+          let beyond : length (v .tags) ≤ i = omega (arith, a .many) in (
+            column-unused (λ t. t .address) (v .tags) i beyond,
+            column-unused (λ t. t .width) (v .tags) i beyond,
+            column-unused (λ t. t .sign) (v .tags) i beyond,
+            column-unused (λ t. t .ttl) (v .tags) i beyond,
+          );
+      places = (
+        column-places (λ t. t .address) (v .tags) few,
+        column-places (λ t. t .width) (v .tags) few,
+        column-places (λ t. t .sign) (v .tags) few,
+        column-places (λ t. t .ttl) (v .tags) few,
+      );
     }

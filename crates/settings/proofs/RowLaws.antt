@@ -12,7 +12,7 @@ use lib.Seq.{length-take-le}
 use Rattle.numbers.specs.Numbers.{addresses}
 use Rattle.laws.proofs.Choice.{true-or, and-left, and-right, never}
 use Rattle.settings.specs.Lines.{Numbered, lineOf, lineIn}
-use Rattle.settings.specs.Grammar.{Tag, Line, Read, tagNumbers, tagFrom, numbersIn, textOfLines, allRight, tagsRight, readLines, readTags, ruled}
+use Rattle.settings.specs.Grammar.{Tag, Line, Read, tagNumbers, tagFrom, tagLines, numbersIn, textOfLines, allRight, tagsRight, readLines, readTags, ruled}
 use Rattle.settings.specs.Grammar.Read.{got, wrong}
 use Rattle.settings.specs.Plain.{numbered}
 use Rattle.settings.proofs.LineLaws.{line-back, line-only}
@@ -163,17 +163,18 @@ told ls t = tagFrom (numbersIn ls t)
 
 -- there is a number for each line
 abbrev pub Few : List Line → Type 0
-Few ls = length ls ≤ 3
+Few ls = length ls ≤ length tagLines
 
 numbers-count : (ls : List Line) (t : Tag) → Few ls → length (numbersIn ls t) ≡ length ls
 numbers-count ls t c = length-take-le (length ls) (tagNumbers t) c
 
-numbers-back : (own : List ℕ) → length own ≤ 3 → take (length own) (tagNumbers (tagFrom own)) ≡ own
+numbers-back : (own : List ℕ) → length own ≤ length tagLines → take (length own) (tagNumbers (tagFrom own)) ≡ own
 numbers-back [] c = refl
 numbers-back (a ∷ []) c = refl
 numbers-back (a ∷ b ∷ []) c = refl
 numbers-back (a ∷ b ∷ d ∷ []) c = refl
-numbers-back (a ∷ b ∷ d ∷ e ∷ ns) c = absurd (omega arith)
+numbers-back (a ∷ b ∷ d ∷ e ∷ []) c = refl
+numbers-back (a ∷ b ∷ d ∷ e ∷ f ∷ ns) c = absurd (omega arith)
 
 pub tags-back : (at : ℕ) (ls : List Line) (prior : List ℕ) (ts : List Tag) (rest : List ℕ) → Bounded ls → Few ls → tagsRight ls prior ts ≡ true → readTags (length ts) at ls prior (tagsText ls ts ++ rest) ≡ got (map (told ls) ts) rest
 unfolding readTags tagsRight flatMap onto

@@ -1,6 +1,6 @@
 -- Tag words: a word gives its tag back, the tags of a valid value ascend, and what a valid value's numbers are bounded by.
 -- Assumes nothing.
-use Prim.Native.Nat.{ℕ, zero, suc, _+_, _*_, _/_, _%_, _≤_, _<_}
+use Prim.Native.Nat.{ℕ, zero, suc, _+_, _/_, _%_, _≤_, _<_}
 use mathlib.Core.Path.{_≡_, refl, sym, _∙_}
 use mathlib.Core.Logic.{⊎-elim, inl, inr}
 use mathlib.Core.Bool.{true, cond, _&&_}
@@ -39,33 +39,38 @@ kind-low Width16 = omega arith
 kind-low Width32 = omega arith
 kind-low Signed16 = omega arith
 
--- a tag is the one of its address and its kind
-tag-back : (t : Tag) → Wide t → tagOfKind (t .address) (kindOf t) ≡ t
+-- a tag is the one of its address, its kind and its ttl
+tag-back : (t : Tag) → Wide t → tagOfKind (t .address) (kindOf t) (t .ttl) ≡ t
 unfolding widthOf signOf kindOf
-tag-back t (inl e) = tag-ext (tagOfKind (t .address) (kindOf t)) t refl (rw (e .0, e .1)) (rw (e .0, e .1))
-tag-back t (inr (inl e)) = tag-ext (tagOfKind (t .address) (kindOf t)) t refl (rw (e .0)) (rw (e .0) (sym (e .1)))
-tag-back t (inr (inr e)) = tag-ext (tagOfKind (t .address) (kindOf t)) t refl (rw (e .0, e .1)) (rw (e .0, e .1))
+tag-back t (inl e) = tag-ext (tagOfKind (t .address) (kindOf t) (t .ttl)) t refl (rw (e .0, e .1)) (rw (e .0, e .1)) refl
+tag-back t (inr (inl e)) = tag-ext (tagOfKind (t .address) (kindOf t) (t .ttl)) t refl (rw (e .0)) (rw (e .0) (sym (e .1))) refl
+tag-back t (inr (inr e)) = tag-ext (tagOfKind (t .address) (kindOf t) (t .ttl)) t refl (rw (e .0, e .1)) (rw (e .0, e .1)) refl
 
 -- a tag of a kind's width and sign has that kind
-pub kind-of-tag : (kind : Kind) (address : ℕ) → kindOf (tagOfKind address kind) ≡ kind
+pub kind-of-tag : (kind : Kind) (address ttl : ℕ) → kindOf (tagOfKind address kind ttl) ≡ kind
 unfolding widthOf signOf kindOf
-kind-of-tag Width16 address = refl
-kind-of-tag Width32 address = refl
-kind-of-tag Signed16 address = refl
+kind-of-tag Width16 address ttl = refl
+kind-of-tag Width32 address ttl = refl
+kind-of-tag Signed16 address ttl = refl
+
+-- what a tag's word is made of: the address, above it in 16 bits the kind's number, of which 8 bits are enough, and above these the ttl
+pub word-parts : (t : Tag) → t .address < addresses → (tagWord t % 65536 ≡ t .address) × (tagWord t / 65536 % 65536 ≡ kindNumber (kindOf t)) × (tagWord t / 4294967296 ≡ t .ttl)
+unfolding tagWord
+word-parts t l = let n = kind-low (kindOf t) in (omega arith, omega arith, omega arith)
 
 -- a tag's word gives the tag back
-pub word-back : (t : Tag) → t .address < addresses → Wide t → tagOf (tagWord t) ≡ t
-unfolding tagWord tagOf
-word-back t l w =
+pub word-back : (t : Tag) → t .address < addresses → t .ttl < 65536 → Wide t → tagOf (tagWord t) ≡ t
+unfolding tagOf
+word-back t l u w =
     let n = kind-low (kindOf t) in
-    let a : (t .address + addresses * kindNumber (kindOf t)) % addresses ≡ t .address = omega arith in
-    let k : (t .address + addresses * kindNumber (kindOf t)) / addresses ≡ kindNumber (kindOf t) = omega arith in
-    rw (a, k, mod-eq-of-lt n, kind-back (kindOf t)) (tag-back t w)
+    let p = word-parts t l in
+    let k : tagWord t / addresses % 256 ≡ kindNumber (kindOf t) = omega (arith, p .1) in
+    rw (p .0, k, kind-back (kindOf t), p .2, mod-eq-of-lt u) (tag-back t w)
 
 -- the kind of a word's tag is that of the number above the address
 pub kind-of-word : (word : ℕ) → kindOf (tagOf word) ≡ kindFrom (word / addresses % 256)
 unfolding tagOf
-kind-of-word word = kind-of-tag (kindFrom (word / addresses % 256)) (word % addresses)
+kind-of-word word = kind-of-tag (kindFrom (word / addresses % 256)) (word % addresses) (word / 4294967296 % 65536)
 
 -- how many registers a tag has, by its width
 registers-wide : (t : Tag) → registers (kindOf t) ≡ cond (eqb (t .width) 32) 2 1
@@ -89,6 +94,10 @@ right-wide t (inr r) = inr (inl (r .0, r .1))
 right-ends : (t : Tag) → RightTag t → lastOf t < addresses
 right-ends t (inl r) = rw (registers-wide t, r .0) (omega arith)
 right-ends t (inr r) = rw (registers-wide t, r .0) (omega arith)
+
+right-lasts : (t : Tag) → RightTag t → t .ttl < 65536
+right-lasts t (inl r) = omega (arith, r .3)
+right-lasts t (inr r) = omega (arith, r .3)
 
 right-low : (t : Tag) → RightTag t → t .address < addresses
 right-low t r = let l = right-ends t r in omega (arith, address-last t)
@@ -131,7 +140,7 @@ right-back : (prior : List ℕ) (ts : List Tag) → tagsRight (newest .tag) prio
 right-back prior [] r = refl
 right-back prior (t ∷ ts) r =
     let f = first-exactly prior t ts .0 r in
-    cc (word-back t (right-low t (f .0 .0)) (right-wide t (f .0 .0)), right-back (tagNumbers t) ts (f .1))
+    cc (word-back t (right-low t (f .0 .0)) (right-lasts t (f .0 .0)) (right-wide t (f .0 .0)), right-back (tagNumbers t) ts (f .1))
 
 -- the words of a valid value's tags give the tags back
 pub words-back : (v : Value) → valid v ≡ true → map tagOf (map tagWord (v .tags)) ≡ v .tags

@@ -10,12 +10,12 @@ use native.Mathlib.Omega.{arith}
 use lib.ListN.{length, getD}
 use lib.Dec.{eqb, ltb, leb}
 use borrow.Author.Tests.{ltb-true, leb-true, lt-ltb, le-leb}
-use Rattle.numbers.specs.Numbers.{mostTags, addresses, leastTimeout, mostTimeout}
+use Rattle.numbers.specs.Numbers.{mostTags, addresses, leastTimeout, mostTimeout, mostTtl}
 use Rattle.laws.proofs.Choice.{eq-or}
 use Rattle.laws.proofs.ListLaws.{length-tab, getD-tab}
 use Rattle.laws.proofs.TestLaws.{holds-eq, holds-and, holds-or, holds-always}
 use Rattle.settings.specs.declared.Settings.{Settings}
-use Rattle.settings.specs.Grammar.{Tag, Value, newest, tagNumbers, ascends, rightTimeout, rightJoin, rightTags, rightAddr, rightWidth, rightSign, allRight, tagsRight, valid}
+use Rattle.settings.specs.Grammar.{Tag, Value, newest, tagNumbers, ascends, rightTimeout, rightJoin, rightTags, rightAddr, rightWidth, rightSign, rightTtl, allRight, tagsRight, valid}
 use Rattle.settings.specs.Plain.{RightTag, Above, ValidPlainly, tagIn, ValidSettings}
 use Rattle.settings.specs.Values.{valueOf}
 use Rattle.settings.proofs.ValueLaws.{fromOf, ascends-from, valid-parts}
@@ -55,16 +55,19 @@ sign-exactly own n =
     let w = getD own 1 0 in
     holds-or (eqb n 0) (eqb n 1 && eqb w 16) (holds-eq n 0) (holds-and (eqb n 1) (eqb w 16) (holds-eq n 1) (holds-eq w 16))
 
--- a tag's lines together: a further line is one more argument here
-tag-plain : (t : Tag) → t .address < addresses → Widths (t .address) (t .width) → Signs (t .width) (t .sign) → RightTag t
-tag-plain t l (inl w) (inl s) = inl (w, omega arith, omega arith)
-tag-plain t l (inl w) (inr s) = inl (w, omega arith, omega arith)
-tag-plain t l (inr w) (inl s) = inr (w .0, s, omega arith)
-tag-plain t l (inr w) (inr s) = absurd (omega arith)
+pub ttl-exactly : (n : ℕ) → (rightTtl n ≡ true) ↔ (n ≤ 60000)
+ttl-exactly n = (leb-true n mostTtl, le-leb n mostTtl)
 
-plain-tag : (t : Tag) → RightTag t → (t .address < addresses) × Widths (t .address) (t .width) × Signs (t .width) (t .sign)
-plain-tag t (inl r) = (omega arith, inl (r .0), ⊎-elim inl (λ (z : t .sign ≡ 0 → ⊥). inr (omega arith, r .0)) (eq-or (t .sign) 0))
-plain-tag t (inr r) = (omega arith, inr (r .0, omega arith), inl (r .1))
+-- a tag's lines together: a further line is one more argument here
+tag-plain : (t : Tag) → t .address < addresses → Widths (t .address) (t .width) → Signs (t .width) (t .sign) → t .ttl ≤ 60000 → RightTag t
+tag-plain t l (inl w) (inl s) n = inl (w, omega arith, omega arith, n)
+tag-plain t l (inl w) (inr s) n = inl (w, omega arith, omega arith, n)
+tag-plain t l (inr w) (inl s) n = inr (w .0, s, omega arith, n)
+tag-plain t l (inr w) (inr s) n = absurd (omega arith)
+
+plain-tag : (t : Tag) → RightTag t → (t .address < addresses) × Widths (t .address) (t .width) × Signs (t .width) (t .sign) × (t .ttl ≤ 60000)
+plain-tag t (inl r) = (omega arith, inl (r .0), ⊎-elim inl (λ (z : t .sign ≡ 0 → ⊥). inr (omega arith, r .0)) (eq-or (t .sign) 0), r .3)
+plain-tag t (inr r) = (omega arith, inr (r .0, omega arith), inl (r .1), r .3)
 
 -- the rules of a tag's lines hold exactly if the tag is right and lies above the tag before
 pub tag-exactly : (prior : List ℕ) (t : Tag) → (allRight (newest .tag) prior [] (tagNumbers t) ≡ true) ↔ (RightTag t × (fromOf prior ≤ t .address))
@@ -73,8 +76,9 @@ tag-exactly prior t =
     Iff·trans
     (holds-and (rightAddr prior (t .address)) _ (addr-exactly prior (t .address))
     (holds-and (rightWidth (t .address ∷ []) (t .width)) _ (width-exactly (t .address ∷ []) (t .width))
-    (holds-and (rightSign (t .address ∷ t .width ∷ []) (t .sign)) true (sign-exactly (t .address ∷ t .width ∷ []) (t .sign)) holds-always)))
-    (λ x. (tag-plain t (x .0 .0) (x .1 .0) (x .1 .1 .0), x .0 .1), λ y. let p = plain-tag t (y .0) in ((p .0, y .1), (p .1, (p .2, tt))))
+    (holds-and (rightSign (t .address ∷ t .width ∷ []) (t .sign)) _ (sign-exactly (t .address ∷ t .width ∷ []) (t .sign))
+    (holds-and (rightTtl (t .ttl)) true (ttl-exactly (t .ttl)) holds-always))))
+    (λ x. (tag-plain t (x .0 .0) (x .1 .0) (x .1 .1 .0) (x .1 .1 .1 .0), x .0 .1), λ y. let p = plain-tag t (y .0) in ((p .0, y .1), (p .1, (p .2, (p .3, tt)))))
 
 -- the first of right tags, and the others behind it
 pub first-exactly : (prior : List ℕ) (t : Tag) (ts : List Tag)

@@ -11,10 +11,10 @@ use native.Mathlib.Omega.{arith}
 use lib.ListN.{length, getD, take, length-append, length-take}
 use lib.Dec.{eqb, ltb, leb}
 use borrow.Author.Tests.{leb-true, ltb-true, eqb-true, ne-eqb}
-use Rattle.numbers.specs.Numbers.{mostTags, leastTimeout, mostTimeout, addresses}
+use Rattle.numbers.specs.Numbers.{mostTags, leastTimeout, mostTimeout, addresses, mostTtl, newestVersion}
 use Rattle.laws.proofs.Choice.{true-or, and-left, and-right, or-second}
 use Rattle.settings.specs.Lines.{Numbered, lineOf, lineIn}
-use Rattle.settings.specs.Grammar.{Tag, Value, Line, Version, Read, headNumbers, valueFrom, numbersIn, addrKey, widthKey, signKey, rightSign, rightWidth, headLines, tagLines, versionOf, versions, timeoutKey, joinKey, tagsKey, versionKey, versionIn, textOfLines, textIn, allRight, tagsRight, validIn, toldByVersion, readLines, readTags, readIn, readText, readBehind}
+use Rattle.settings.specs.Grammar.{Tag, Value, Line, Version, Read, headNumbers, valueFrom, numbersIn, addrKey, widthKey, signKey, ttlKey, rightSign, rightWidth, headLines, tagLines, versionOf, versions, timeoutKey, joinKey, tagsKey, versionKey, versionIn, textOfLines, textIn, allRight, tagsRight, validIn, toldByVersion, readLines, readTags, readIn, readText, readBehind}
 use Rattle.settings.specs.Grammar.Read.{got, wrong}
 use Rattle.settings.specs.Plain.{numbered, Versioned}
 use Rattle.settings.proofs.LineLaws.{line-length, line-back}
@@ -56,7 +56,7 @@ few-tags (a ∷ b ∷ c ∷ ns) t = leb-true c mostTags (and-left (leb c mostTag
 pub tags-bounded : Bounded tagLines
 tags-bounded = (
   λ prior own n t. ltb-true n addresses (and-left (ltb n addresses) _ t),
-  (λ prior own n t. omega (arith, width-most own n t), (λ prior own n t. omega (arith, sign-most own n t), tt)),
+  (λ prior own n t. omega (arith, width-most own n t), (λ prior own n t. omega (arith, sign-most own n t), (λ prior own n t. omega (arith, leb-true n mostTtl t), tt))),
 )
 
 first-bounded : (n : ℕ) (ls : List Line) → Bounded ls → Bounded (take n ls)
@@ -79,20 +79,35 @@ fit n l =
       few = few-tags;
     }
 
--- a listed version is one of these
-pub one-of : (P : Version → Type 0) → P (versionOf 1) → P (versionOf 2) → (x : Version) → List·Memᴰ x versions → P x
-one-of P p q x m =
-    ⊎-elim
-    (λ (e : x ≡ versionOf 1). subst P (sym e) p)
-    (λ n. ⊎-elim (λ (e : x ≡ versionOf 2). subst P (sym e) q) (λ k. absurd (List·Memᴰ·not-nil k)) (List·Memᴰ·cases-cons n))
-    (List·Memᴰ·cases-cons m)
+-- what holds of each of some versions holds of one that is listed among them
+abbrev Each : (Version → Type 0) → List Version → Type 0
+Each P [] = Unit {0}
+Each P (x ∷ xs) = P x × Each P xs
+
+each : (P : Version → Type 0) (xs : List Version) → Each P xs → (x : Version) → List·Memᴰ x xs → P x
+each P [] ps x m = absurd (List·Memᴰ·not-nil m)
+each P (y ∷ ys) ps x m = ⊎-elim (λ (e : x ≡ y). subst P (sym e) (ps .0)) (λ n. each P ys (ps .1) x n) (List·Memᴰ·cases-cons m)
+
+-- the listed versions are a range of numbers
+abbrev pub Listed : ℕ → Type 0
+Listed n = (1 ≤ n) × (n ≤ newestVersion)
+
+pub by-number : (P : Version → Type 0) → ((n : ℕ) → Listed n → P (versionOf n)) → (x : Version) → List·Memᴰ x versions → P x
+by-number P f = each P versions (f 1 (omega arith, omega arith), (f 2 (omega arith, omega arith), (f 3 (omega arith, omega arith), tt)))
+
+pub version-listed : (n : ℕ) → Listed n → versionIn versions n ≡ some (versionOf n)
+unfolding versionIn
+version-listed zero l = absurd (omega (arith, l .0))
+version-listed (suc zero) l = refl
+version-listed (suc (suc zero)) l = refl
+version-listed (suc (suc (suc zero))) l = refl
+version-listed (suc (suc (suc (suc n)))) l = absurd (omega (arith, l .1))
 
 pub fits : (x : Version) → List·Memᴰ x versions → Fit x
-fits = one-of Fit (fit 1 (omega arith)) (fit 2 (omega arith))
+fits = by-number Fit (λ n l. fit n (omega (arith, l .1)))
 
 pub found : (x : Version) → List·Memᴰ x versions → versionIn versions (x .number) ≡ some x
-unfolding versionIn
-found = one-of (λ x. versionIn versions (x .number) ≡ some x) refl refl
+found = by-number (λ x. versionIn versions (x .number) ≡ some x) version-listed
 
 pub listed : (xs : List Version) (n : ℕ) (x : Version) → versionIn xs n ≡ some x → List·Memᴰ x xs × (x .number ≡ n)
 unfolding versionIn
@@ -104,6 +119,13 @@ listed (y ∷ ys) n x e =
     (List·Memᴰ·head (sym q), ap (λ (z : Version). z .number) (sym q) ∙ eqb-true (y .number) n t))
     (λ (t : eqb (y .number) n ≡ false). let i = listed ys n x (rw t at e) in (List·Memᴰ·tail (i .0), i .1))
     (true-or (eqb (y .number) n))
+
+pub version-unlisted : (n : ℕ) → (Listed n → ⊥) → versionIn versions n ≡ none
+version-unlisted n h = go (versionIn versions n) refl
+  where
+    go : (o : Option Version) → versionIn versions n ≡ o → versionIn versions n ≡ none
+    go none e = e
+    go (some x) e = let m = listed versions n x e in absurd (h (rw (m .1) at (by-number (λ y. Listed (y .number)) (λ k l. l) x (m .0))))
 
 -- the steps of reading a text: the version line, the lines before the tags, the tags
 pub text-version : (t : List ℕ) (y : Numbered) (x : Version) → lineIn versionKey t ≡ some y → versionIn versions (y .number) ≡ some x → readText t ≡ readIn x (y .rest)
@@ -201,8 +223,30 @@ head-long = (
   (λ prior own n t. line-length joinKey 0 n (omega (arith, leb-true n 1 t)), (λ prior own n t. line-length tagsKey 2 n (omega (arith, leb-true n mostTags t)), tt)),
 )
 
-pub tag-long : Long tagLines (11 ∷ 9 ∷ 7 ∷ [])
+abbrev pub tagBytes : List ℕ
+tagBytes = 11 ∷ 9 ∷ 7 ∷ 10 ∷ []
+
+tag-long : Long tagLines tagBytes
 tag-long = (
   λ prior own n t. line-length addrKey 4 n (omega (arith, tags-bounded .0 prior own n t)),
-  (λ prior own n t. line-length widthKey 1 n (omega (arith, width-most own n t)), (λ prior own n t. line-length signKey 0 n (omega (arith, sign-most own n t)), tt)),
+  (
+    λ prior own n t. line-length widthKey 1 n (omega (arith, width-most own n t)),
+    (λ prior own n t. line-length signKey 0 n (omega (arith, sign-most own n t)), (λ prior own n t. line-length ttlKey 4 n (omega (arith, leb-true n mostTtl t)), tt)),
+  ),
 )
+
+-- an older version has the first of a tag's lines
+first-long : (k : ℕ) (ls : List Line) (ms : List ℕ) → Long ls ms → Long (take k ls) (take k ms)
+first-long zero ls ms f = tt
+first-long (suc k) [] ms f = tt
+first-long (suc k) (l ∷ ls) [] f = f
+first-long (suc k) (l ∷ ls) (m ∷ ms) f = (f .0, first-long k ls ms (f .1))
+
+pub version-long : (n : ℕ) → Long (versionOf n .tag) (take (suc n) tagBytes)
+version-long n = first-long (suc n) tagLines tagBytes tag-long
+
+pub first-total : (k : ℕ) (ms : List ℕ) → total (take k ms) ≤ total ms
+unfolding total
+first-total zero ms = omega arith
+first-total (suc k) [] = omega arith
+first-total (suc k) (m ∷ ms) = omega (arith, first-total k ms)

@@ -6,7 +6,7 @@ use mathlib.Core.Option.{Option, some, none}
 use mathlib.Core.List.{List, [], _∷_, _++_, map, flatMap}
 use lib.ListN.{length, getD, take}
 use lib.Dec.{eqb, ltb, leb}
-use Rattle.numbers.specs.Numbers.{mostTags, leastTimeout, mostTimeout, addresses, newestVersion}
+use Rattle.numbers.specs.Numbers.{mostTags, leastTimeout, mostTimeout, addresses, mostTtl, newestVersion}
 use Rattle.settings.specs.Lines.{Numbered, lineOf, lineIn}
 
 -- a settings value: timeout, join, and its tags in their order
@@ -14,6 +14,7 @@ pub record Tag : Type 0 where
   pub address : ℕ
   pub width : ℕ
   pub sign : ℕ
+  pub ttl : ℕ
 
 pub record Value : Type 0 where
   pub timeout : ℕ
@@ -25,10 +26,10 @@ abbrev pub headNumbers : Value → List ℕ
 headNumbers v = v .timeout ∷ v .join ∷ length (v .tags) ∷ []
 
 abbrev pub tagNumbers : Tag → List ℕ
-tagNumbers t = t .address ∷ t .width ∷ t .sign ∷ []
+tagNumbers t = t .address ∷ t .width ∷ t .sign ∷ t .ttl ∷ []
 
 abbrev pub tagFrom : List ℕ → Tag
-tagFrom ns = record { address = getD ns 0 0; width = getD ns 1 0; sign = getD ns 2 0 }
+tagFrom ns = record { address = getD ns 0 0; width = getD ns 1 0; sign = getD ns 2 0; ttl = getD ns 3 0 }
 
 abbrev pub valueFrom : List ℕ → List Tag → Value
 valueFrom ns ts = record { timeout = getD ns 0 0; join = getD ns 1 0; tags = ts }
@@ -49,7 +50,7 @@ unfoldable pub ascends : List ℕ → ℕ → Bool
 ascends [] n = true
 ascends (a ∷ ns) n = ltb (lastRegister (a ∷ ns)) n
 
--- "version", "timeout", "join", "tags", "addr", "width", "sign"
+-- "version", "timeout", "join", "tags", "addr", "width", "sign", "ttl"
 abbrev pub versionKey : List ℕ
 versionKey = 118 ∷ 101 ∷ 114 ∷ 115 ∷ 105 ∷ 111 ∷ 110 ∷ []
 
@@ -71,6 +72,9 @@ widthKey = 119 ∷ 105 ∷ 100 ∷ 116 ∷ 104 ∷ []
 abbrev pub signKey : List ℕ
 signKey = 115 ∷ 105 ∷ 103 ∷ 110 ∷ []
 
+abbrev pub ttlKey : List ℕ
+ttlKey = 116 ∷ 116 ∷ 108 ∷ []
+
 -- the rule of each line
 abbrev pub rightTimeout : ℕ → Bool
 rightTimeout n = leb leastTimeout n && leb n mostTimeout
@@ -91,12 +95,20 @@ rightWidth own n = eqb n 16 || (eqb n 32 && ltb (getD own 0 0 + 1) addresses)
 abbrev pub rightSign : List ℕ → ℕ → Bool
 rightSign own n = eqb n 0 || (eqb n 1 && eqb (getD own 1 0) 16)
 
+abbrev pub rightTtl : ℕ → Bool
+rightTtl n = leb n mostTtl
+
 -- the lines before the tags, and the lines of a tag in the order in which the versions brought them: a later line of a tag is one more here
 abbrev pub headLines : List Line
 headLines = line timeoutKey (λ prior own n. rightTimeout n) ∷ line joinKey (λ prior own n. rightJoin n) ∷ line tagsKey (λ prior own n. rightTags n) ∷ []
 
 abbrev pub tagLines : List Line
-tagLines = line addrKey (λ prior own n. rightAddr prior n) ∷ line widthKey (λ prior own n. rightWidth own n) ∷ line signKey (λ prior own n. rightSign own n) ∷ []
+tagLines =
+    line addrKey (λ prior own n. rightAddr prior n)
+    ∷ line widthKey (λ prior own n. rightWidth own n)
+    ∷ line signKey (λ prior own n. rightSign own n)
+    ∷ line ttlKey (λ prior own n. rightTtl n)
+    ∷ []
 
 -- a version: its number, its lines behind the version line, and the lines of each tag
 pub record Version : Type 0 where
@@ -109,7 +121,7 @@ abbrev pub versionOf : ℕ → Version
 versionOf n = record { number = n; head = headLines; tag = take (suc n) tagLines }
 
 abbrev pub versions : List Version
-versions = versionOf 1 ∷ versionOf 2 ∷ []
+versions = versionOf 1 ∷ versionOf 2 ∷ versionOf 3 ∷ []
 
 abbrev pub newest : Version
 newest = versionOf newestVersion

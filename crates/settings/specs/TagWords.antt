@@ -1,4 +1,5 @@
--- The word that the state keeps of a tag: its address in the lowest 16 bits, its kind's number in the 8 above them; the rest is free.
+-- The word that the state keeps of a tag: its address in the lowest 16 bits, its kind's number in the 8 above them, its ttl in bits 32 to 47. The other bits are 0: those from 24 to 31 too, so that
+-- address and kind are the lowest 32 bits, which a loop over the tags can compare at once.
 -- Assumes nothing.
 use Prim.Native.Nat.{ℕ, _+_, _*_, _-_, _/_, _%_, _<_, _≤_}
 use mathlib.Core.Bool.{cond}
@@ -35,13 +36,13 @@ kindFrom n = cond (eqb n 1) Width32 (cond (eqb n 2) Signed16 Width16)
 
 -- a tag's word; and the tag of any word
 unfoldable pub tagWord : Tag → ℕ
-tagWord t = t .address + addresses * kindNumber (kindOf t)
+tagWord t = t .address + addresses * kindNumber (kindOf t) + 4294967296 * t .ttl
 
-abbrev pub tagOfKind : ℕ → Kind → Tag
-tagOfKind a k = record { address = a; width = widthOf k; sign = signOf k }
+abbrev pub tagOfKind : ℕ → Kind → ℕ → Tag
+tagOfKind a k l = record { address = a; width = widthOf k; sign = signOf k; ttl = l }
 
 unfoldable pub tagOf : ℕ → Tag
-tagOf word = tagOfKind (word % addresses) (kindFrom (word / addresses % 256))
+tagOf word = tagOfKind (word % addresses) (kindFrom (word / addresses % 256)) (word / 4294967296 % 65536)
 
 -- the last register of a tag
 abbrev pub lastOf : Tag → ℕ

@@ -4,7 +4,7 @@ ghost use Prim.Native.Nat.{ℕ};
 ghost use Rattle.settings.specs.TagWords.{kindOf};
 use bcd::Kind;
 
-// The boundary's settings: how many of the tag places count, and each tag's address, width and sign.
+// The boundary's settings: how many of the tag places count, and each tag's address, width, sign and ttl.
 #[repr(C)]
 pub struct Settings {
     pub timeout: u32,
@@ -13,11 +13,12 @@ pub struct Settings {
     pub addr: [u16; numbers::MOST_TAGS],
     pub width: [u16; numbers::MOST_TAGS],
     pub sign: [u16; numbers::MOST_TAGS],
+    pub ttl: [u16; numbers::MOST_TAGS],
 }
 
 // The kind of a tag, which its width and its sign decide.
 pub fn kind_of(width: u16, sign: u16) -> Kind
-    ensures { λ r. ⌜ ((address : ℕ) → r ≡ kindOf (record { address = address; width = width; sign = sign })) ⌝ }
+    ensures { λ r. ⌜ ((address ttl : ℕ) → r ≡ kindOf (record { address = address; width = width; sign = sign; ttl = ttl })) ⌝ }
 {
     if width == 32 {
         Kind::Width32

@@ -12,19 +12,19 @@ use lib.ListN.{length, getD, take, drop, length-append, length-drop}
 use lib.Seq.{take-nil, drop-drop, drop-append-seam}
 use lib.Dec.{eqb, ltb, leb}
 use borrow.Author.Tests.{le-leb, lt-leb, leb-true, lt-ltb, le-ltb, ltb-true, ne-eqb}
-use Rattle.numbers.specs.Numbers.{addresses}
+use Rattle.numbers.specs.Numbers.{addresses, mostTtl}
 use Rattle.laws.proofs.Choice.{true-or, eq-or, lt-or, and-left, and-right, same-test, never}
 use Rattle.settings.specs.Lines.{Numbered, equals, lineFeed, behind, numberIn, lineIn}
-use Rattle.settings.specs.Grammar.{Tag, Line, line, addrKey, widthKey, signKey, lastRegister, ascends, rightAddr, rightWidth, rightSign, tagLines, versionOf, tagFrom, textOfLines, allRight, Read, readLines, ruled}
+use Rattle.settings.specs.Grammar.{Line, line, addrKey, widthKey, signKey, ttlKey, lastRegister, ascends, rightAddr, rightWidth, rightSign, rightTtl, versionOf, tagFrom, textOfLines, allRight, Read, readLines, ruled}
 use Rattle.settings.specs.Grammar.Read.{got, wrong}
 use Rattle.settingstext.specs.declared.reading.LineRead.{LineRead}
 use Rattle.settingstext.specs.declared.reading.LineRead.the-variants.{Numbered as numberedAt, Wrong}
 use Rattle.settingstext.specs.declared.reading.TagRead.{TagRead}
 use Rattle.settingstext.specs.declared.reading.TagRead.the-variants.{Tagged, WrongAt}
-use Rattle.settingstext.specs.inner.Reading.{ceiling, capped, found, lineBehind, within, lowest, placed, placedTag, signRead}
+use Rattle.settingstext.specs.inner.Reading.{ceiling, capped, found, lineBehind, within, lowest, placed, placedTag, laterRead}
 use Rattle.settings.proofs.LineLaws.{behind-only, number-read, line-read}
 use Rattle.settings.proofs.RowLaws.{Bounded, ruled-follows, line-wrong, line-right, lines-only}
-use Rattle.settings.proofs.VersionLaws.{widths, Fit, fit}
+use Rattle.settings.proofs.VersionLaws.{widths, fit}
 
 -- what an answer says of what was read
 pub unplaced : (text : List ℕ) (o : Option Numbered) → Wrong ≡ placed text o → o ≡ none
@@ -219,12 +219,29 @@ sign-rule width n =
 pub sign-small : (width : ℕ) → cond (eqb width 16) 1 0 ≤ 1
 sign-small width = ⊎-elim (λ e. rw e (omega arith)) (λ e. rw e (omega arith)) (true-or (eqb width 16))
 
-pub sign-read : (text : List ℕ) (v width at : ℕ) → 2 ≤ v
-    → placed text (ruled (within 0 (cond (eqb width 16) 1 0)) (lineBehind (signKey ++ (equals ∷ [])) (drop at text))) ≡ signRead v width at text
-unfolding signRead
-sign-read text v width at l =
-    ap (placed text) (ruled-ext (within 0 (cond (eqb width 16) 1 0)) (rightSign (0 ∷ width ∷ [])) (sign-rule width) _ ∙ ap (ruled (rightSign (0 ∷ width ∷ []))) (key-line signKey (drop at text)))
-    ∙ rw (le-ltb v 2 l)
+-- a rule without a least number
+pub from-zero : (most n : ℕ) → within 0 most n ≡ leb n most
+from-zero most n = rw (le-leb 0 n (omega arith))
+
+-- a line that there is since a version: an older one has none, and the number is 0
+module _ (v since at : ℕ) (text key : List ℕ) (most : ℕ) where
+  pub later-older : v < since → laterRead v since at text key most ≡ numberedAt 0 at
+  unfolding laterRead
+  later-older l = rw (lt-ltb v since l)
+
+  pub later-asked : since ≤ v → laterRead v since at text key most ≡ placed text (ruled (within 0 most) (lineBehind key (drop at text)))
+  unfolding laterRead
+  later-asked l = rw (le-ltb v since l)
+
+  later-right : v < since → Wrong ≡ laterRead v since at text key most → ⊥
+  later-right l e = let q : Wrong ≡ numberedAt 0 at = e ∙ later-older l in never (cc)
+
+  module _ (n next : ℕ) (e : numberedAt n next ≡ laterRead v since at text key most) where
+    later-none : v < since → (n ≡ 0) × (next ≡ at)
+    later-none l = let q : numberedAt n next ≡ numberedAt 0 at = e ∙ later-older l in (cc, cc)
+
+    pub later-inside : at ≤ length text → next ≤ length text
+    later-inside h = ⊎-elim (λ (l : v < since). omega (arith, later-none l .1)) (λ (l : since ≤ v). placed-inside text n next _ (e ∙ later-asked l)) (lt-or v since)
 
 -- the outcomes of reading a tag's lines
 
@@ -237,9 +254,12 @@ widthLine = line widthKey (λ prior own n. rightWidth own n)
 abbrev signLine : Line
 signLine = line signKey (λ prior own n. rightSign own n)
 
+abbrev ttlLine : Line
+ttlLine = line ttlKey (λ prior own n. rightTtl n)
+
 -- the lines behind address and width, in the version behind this one
 abbrev laterLines : ℕ → List Line
-laterLines m = take m (signLine ∷ [])
+laterLines m = take m (signLine ∷ ttlLine ∷ [])
 
 module _ (text : List ℕ) (at number least : ℕ) (inside : at ≤ length text) (prior : List ℕ) (low : least ≡ lowest prior) where
   abbrev addressAnswer : LineRead
@@ -291,36 +311,63 @@ module _ (text : List ℕ) (at number least : ℕ) (inside : at ≤ length text)
             let e : numberedAt width third ≡ placed text (ruled fit-in (lineBehind (widthKey ++ (equals ∷ [])) (drop second text))) = rw narrowed at (ruled-in text fit-in width third _ last t) in
             addressed m ∙ read-step text second (suc number) widthLine (laterLines m) prior (address ∷ []) fit-in (λ n. refl) width third (placed-inside text address second _ first) e
 
-        -- from version 2 on the sign's line is asked for
-        sign-asked : (m : ℕ) → signRead (suc (suc m)) width third text ≡ placed text (ruled (rightSign (0 ∷ width ∷ [])) (lineBehind (signKey ++ (equals ∷ [])) (drop third text)))
-        unfolding signRead
-        sign-asked m = rw (le-ltb (suc (suc m)) 2 (omega arith), key-line signKey (drop third text))
+        abbrev signAnswer : ℕ → LineRead
+        signAnswer v = laterRead v 2 third text (signKey ++ (equals ∷ [])) (cond (eqb width 16) 1 0)
 
-        pub tag-unsigned : (v : ℕ) → 1 ≤ v → Wrong ≡ signRead v width third text → WrongAt (number + 2) ≡ tagAnswer v
-        unfolding placedTag signRead
+        pub tag-unsigned : (v : ℕ) → 1 ≤ v → Wrong ≡ signAnswer v → WrongAt (number + 2) ≡ tagAnswer v
+        unfolding placedTag
         tag-unsigned zero l e = absurd (omega arith)
-        tag-unsigned (suc zero) l e = let q : Wrong ≡ numberedAt 0 third = e in never (cc)
+        tag-unsigned (suc zero) l e = absurd (later-right 1 2 third text _ _ (omega arith) e)
         tag-unsigned (suc (suc m)) l e =
-            let two : suc (suc number) ≡ number + 2 = omega arith in
-            sym (ap (placedTag text) (widened (suc m) ∙ read-stop text third (suc (suc number)) signLine (take m []) prior (address ∷ width ∷ []) (rightSign (0 ∷ width ∷ [])) (λ n. refl) (e ∙ sign-asked m)) ∙ ap WrongAt two)
+            let line : suc (suc number) ≡ number + 2 = omega arith in
+            sym (ap (placedTag text) (widened (suc m)
+            ∙ read-stop text third (suc (suc number)) signLine (take m (ttlLine ∷ [])) prior (address ∷ width ∷ []) _ (sign-rule width) (e ∙ later-asked (suc (suc m)) 2 third text _ _ (omega arith))) ∙ ap WrongAt line)
 
-        pub tag-fit : (v sign next : ℕ) → 1 ≤ v → numberedAt sign next ≡ signRead v width third text → Tagged address width sign next ≡ tagAnswer v
-        unfolding placedTag readLines signRead
-        tag-fit zero sign next l e = absurd (omega arith)
-        tag-fit (suc zero) sign next l e =
-            let d : numberedAt sign next ≡ numberedAt 0 third = e in
-            let s : sign ≡ 0 = cc in
-            let n : next ≡ third = cc in
-            let q : length text - length (drop third text) ≡ third = omega (arith, length-drop third text, placed-inside text width third _ last) in
-            sym (ap (placedTag text) (widened 0) ∙ rw (q, s, n))
-        tag-fit (suc (suc m)) sign next l e =
-            let q : length text - length (drop next text) ≡ next = omega (arith, length-drop next text, placed-inside text sign next _ (e ∙ sign-asked m)) in
-            let none : _≡_ {A = List Line} (take m []) [] = take-nil m in
-            let all : readLines number (versionOf (suc (suc m)) .tag) prior [] (drop at text) ≡ got (address ∷ width ∷ sign ∷ []) (drop next text) =
-            widened (suc m)
-            ∙ read-step text third (suc (suc number)) signLine (take m []) prior (address ∷ width ∷ []) (rightSign (0 ∷ width ∷ [])) (λ n. refl) sign next (placed-inside text width third _ last) (e ∙ sign-asked m)
-            ∙ rw none in
-            sym (ap (placedTag text) all ∙ rw q)
+        module _ (sign fourth : ℕ) where
+          signed : (m : ℕ) → numberedAt sign fourth ≡ signAnswer (suc (suc m))
+              → readLines number (versionOf (suc (suc m)) .tag) prior [] (drop at text) ≡ readLines (suc (suc (suc number))) (take m (ttlLine ∷ [])) prior (address ∷ width ∷ sign ∷ []) (drop fourth text)
+          signed m e =
+              widened (suc m)
+              ∙ read-step text third (suc (suc number)) signLine (take m (ttlLine ∷ [])) prior (address ∷ width ∷ []) _ (sign-rule width) sign fourth (placed-inside text width third _ last) (e ∙ later-asked (suc (suc m)) 2 third text _ _ (omega arith))
+
+          abbrev ttlAnswer : ℕ → LineRead
+          ttlAnswer v = laterRead v 3 fourth text (ttlKey ++ (equals ∷ [])) mostTtl
+
+          pub tag-untimed : (v : ℕ) → 1 ≤ v → numberedAt sign fourth ≡ signAnswer v → Wrong ≡ ttlAnswer v → WrongAt (number + 3) ≡ tagAnswer v
+          unfolding placedTag
+          tag-untimed zero l s e = absurd (omega arith)
+          tag-untimed (suc zero) l s e = absurd (later-right 1 3 fourth text _ _ (omega arith) e)
+          tag-untimed (suc (suc zero)) l s e = absurd (later-right 2 3 fourth text _ _ (omega arith) e)
+          tag-untimed (suc (suc (suc m))) l s e =
+              let line : suc (suc (suc number)) ≡ number + 3 = omega arith in
+              sym (ap (placedTag text) (signed (suc m) s
+              ∙ read-stop text fourth (suc (suc (suc number))) ttlLine (take m []) prior (address ∷ width ∷ sign ∷ []) _ (from-zero mostTtl) (e ∙ later-asked (suc (suc (suc m))) 3 fourth text _ _ (omega arith))) ∙ ap WrongAt line)
+
+          module _ (ttl next : ℕ) where
+            -- the numbers of the lines that there are, and 0 for the others
+            told : (v : ℕ) (ns : List ℕ) (end : ℕ) → end ≤ length text → readLines number (versionOf v .tag) prior [] (drop at text) ≡ got ns (drop end text)
+                → Tagged (getD ns 0 0) (getD ns 1 0) (getD ns 2 0) (getD ns 3 0) end ≡ tagAnswer v
+            unfolding placedTag
+            told v ns end h e = let q : length text - length (drop end text) ≡ end = omega (arith, length-drop end text) in sym (ap (placedTag text) e ∙ rw q)
+
+            pub tag-fit : (v : ℕ) → 1 ≤ v → numberedAt sign fourth ≡ signAnswer v → numberedAt ttl next ≡ ttlAnswer v → Tagged address width sign ttl next ≡ tagAnswer v
+            unfolding readLines
+            tag-fit zero l s e = absurd (omega arith)
+            tag-fit (suc zero) l s e =
+                let x = later-none 1 2 third text _ _ sign fourth s (omega arith) in
+                let y = later-none 1 3 fourth text _ _ ttl next e (omega arith) in
+                rw (x .0, y .0, y .1, x .1) (told 1 (address ∷ width ∷ []) third (placed-inside text width third _ last) (widened 0))
+            tag-fit (suc (suc zero)) l s e =
+                let y = later-none 2 3 fourth text _ _ ttl next e (omega arith) in
+                rw (y .0, y .1) (told 2 (address ∷ width ∷ sign ∷ []) fourth (later-inside 2 2 third text _ _ sign fourth s (placed-inside text width third _ last)) (signed 0 s))
+            tag-fit (suc (suc (suc m))) l s e =
+                let asked = e ∙ later-asked (suc (suc (suc m))) 3 fourth text _ _ (omega arith) in
+                let none : _≡_ {A = List Line} (take m []) [] = take-nil m in
+                let inside′ = later-inside (suc (suc (suc m))) 2 third text _ _ sign fourth s (placed-inside text width third _ last) in
+                told (suc (suc (suc m))) (address ∷ width ∷ sign ∷ ttl ∷ []) next (placed-inside text ttl next _ asked)
+                (signed (suc m) s
+                ∙ read-step text fourth (suc (suc (suc number))) ttlLine (take m []) prior (address ∷ width ∷ sign ∷ []) _ (from-zero mostTtl) ttl next inside′ asked
+                ∙ rw none)
 
 -- what an answer of a tag's lines says
 
@@ -345,31 +392,32 @@ first-two ls prior (a ∷ []) c r = absurd (omega arith)
 first-two ls prior (a ∷ w ∷ ns) c r =
     ⊎-elim (λ (e : w ≡ 16). rw e) (λ (e : w ≡ 32). rw e (omega arith)) (widths (a ∷ []) w (and-left (rightWidth (a ∷ []) w) _ (and-right (rightAddr prior a) _ r)))
 
-pub record TagTold (text prior : List ℕ) (v at number address width sign next : ℕ) : Type 0 where
+pub record TagTold (text prior : List ℕ) (v at number address width sign ttl next : ℕ) : Type 0 where
   pub own : List ℕ
   pub read : readLines number (versionOf v .tag) prior [] (drop at text) ≡ got own (drop next text)
-  pub tag : tagFrom own ≡ record { address = address; width = width; sign = sign }
-  pub small : (address < addresses) × (width < addresses) × (sign < addresses)
+  pub tag : tagFrom own ≡ record { address = address; width = width; sign = sign; ttl = ttl }
+  pub small : (address < addresses) × (width < addresses) × (sign < addresses) × (ttl < addresses)
   pub low : lowest own ≡ address + width / 16
   pub inside : next ≤ length text
 
-pub tagged : (text prior : List ℕ) (v at number address width sign next : ℕ) → 1 ≤ v → v < addresses → at ≤ length text
-    → Tagged address width sign next ≡ placedTag text (readLines number (versionOf v .tag) prior [] (drop at text)) → TagTold text prior v at number address width sign next
+pub tagged : (text prior : List ℕ) (v at number address width sign ttl next : ℕ) → 1 ≤ v → v < addresses → at ≤ length text
+    → Tagged address width sign ttl next ≡ placedTag text (readLines number (versionOf v .tag) prior [] (drop at text)) → TagTold text prior v at number address width sign ttl next
 unfolding placedTag
-tagged text prior zero at number address width sign next o b h e = absurd (omega arith)
-tagged text prior (suc m) at number address width sign next o b h e = go (readLines number (versionOf (suc m) .tag) prior [] (drop at text)) refl
+tagged text prior zero at number address width sign ttl next o b h e = absurd (omega arith)
+tagged text prior (suc m) at number address width sign ttl next o b h e = go (readLines number (versionOf (suc m) .tag) prior [] (drop at text)) refl
   where
     -- the first two numbers
     behind-two : (ns : List ℕ) → length ns ≡ length (versionOf (suc m) .tag) → allRight (versionOf (suc m) .tag) prior [] ns ≡ true → lowest ns ≡ getD ns 0 0 + getD ns 1 0 / 16
     behind-two ns c r = first-two (laterLines m) prior ns c r
 
-    go : (o : Read (List ℕ)) → readLines number (versionOf (suc m) .tag) prior [] (drop at text) ≡ o → TagTold text prior (suc m) at number address width sign next
+    go : (o : Read (List ℕ)) → readLines number (versionOf (suc m) .tag) prior [] (drop at text) ≡ o → TagTold text prior (suc m) at number address width sign ttl next
     go (wrong j) q = never (cc (rw q at e))
     go (got own r) q =
-        let f : Tagged address width sign next ≡ Tagged (getD own 0 0) (getD own 1 0) (getD own 2 0) (length text - length r) = rw q at e in
+        let f : Tagged address width sign ttl next ≡ Tagged (getD own 0 0) (getD own 1 0) (getD own 2 0) (getD own 3 0) (length text - length r) = rw q at e in
         let a : address ≡ getD own 0 0 = cc in
         let w : width ≡ getD own 1 0 = cc in
         let s : sign ≡ getD own 2 0 = cc in
+        let d : ttl ≡ getD own 3 0 = cc in
         let n : next ≡ length text - length r = cc in
         let l = lines-only number (versionOf (suc m) .tag) prior [] (drop at text) own r (fit (suc m) b .tagBounded) q in
         let c : length own ≡ length (versionOf (suc m) .tag) = ap length (l .whole) ∙ l .all in
@@ -378,8 +426,8 @@ tagged text prior (suc m) at number address width sign next o b h e = go (readLi
         record {
           own = own;
           read = q ∙ ap (got own) (sym (rw n (rest-placed (textOfLines (versionOf (suc m) .tag) (l .numbers)) r text at h (l .text))));
-          tag = rw (a, w, s);
-          small = rw (a, w, s) (small 0, small 1, small 2);
+          tag = rw (a, w, s, d);
+          small = rw (a, w, s, d) (small 0, small 1, small 2, small 3);
           low = rw (a, w) (behind-two own c right);
           inside = omega arith;
         }

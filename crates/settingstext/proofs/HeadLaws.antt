@@ -2,26 +2,27 @@
 -- Assumes nothing.
 use Prim.Native.Nat.{ℕ, _-_, _≤_}
 use mathlib.Core.Path.{_≡_, refl, ap, sym, _∙_}
-use mathlib.Core.Logic.{⊎-elim}
+use mathlib.Core.Logic.{_↔_, ⊎-elim}
 use mathlib.Core.Bool.{true, false, true≢false}
 use mathlib.Core.Option.{Option, some, none, Option·some-ne-none}
 use mathlib.Core.List.{List, [], _∷_, _++_}
 use native.Mathlib.Omega.{arith}
 use lib.ListN.{length, drop}
 use lib.Dec.{leb}
-use borrow.Author.Tests.{le-leb, leb-true, ne-eqb}
+use borrow.Author.Tests.{le-leb, leb-true}
 use Rattle.numbers.specs.Numbers.{newestVersion, leastTimeout, mostTimeout, mostTags}
-use Rattle.laws.proofs.Choice.{true-or, eq-or, and-left, and-right}
+use Rattle.laws.proofs.Choice.{true-or}
+use Rattle.laws.proofs.TestLaws.{holds-and}
 use Rattle.settings.specs.Lines.{Numbered, equals, lineIn}
-use Rattle.settings.specs.Grammar.{Value, Read, Line, line, versionKey, timeoutKey, joinKey, tagsKey, rightTimeout, rightJoin, rightTags, headLines, versions, versionOf, versionIn, readLines, readIn, readText, readBehind, ruled}
+use Rattle.settings.specs.Grammar.{Value, Read, Line, line, versionKey, timeoutKey, joinKey, tagsKey, rightTimeout, rightJoin, rightTags, headLines, versionOf, readLines, readIn, readText, readBehind, ruled}
 use Rattle.settings.specs.Grammar.Read.{wrong}
 use Rattle.settingstext.specs.declared.reading.LineRead.{LineRead}
 use Rattle.settingstext.specs.declared.reading.LineRead.the-variants.{Numbered as numberedAt, Wrong}
 use Rattle.settingstext.specs.declared.reading.Head.{Head}
 use Rattle.settingstext.specs.inner.Reading.{lineBehind, within, placed, stoppedAt, Headed}
 use Rattle.settings.proofs.RowLaws.{ruled-follows}
-use Rattle.settings.proofs.VersionLaws.{text-version, text-head}
-use Rattle.settingstext.proofs.AnswerLaws.{unplaced, replaced, placed-inside, placed-least, placed-most, key-line, line-placed, read-stop, read-step}
+use Rattle.settings.proofs.VersionLaws.{Listed, version-listed, version-unlisted, text-version, text-head}
+use Rattle.settingstext.proofs.AnswerLaws.{unplaced, replaced, placed-inside, placed-least, placed-most, from-zero, key-line, line-placed, read-stop, read-step}
 
 -- the answer of the code's line reader
 abbrev pub asked : List ℕ → ℕ → List ℕ → ℕ → ℕ → LineRead
@@ -40,18 +41,9 @@ tagsLine = line tagsKey (λ prior own n. rightTags n)
 pub stop-headed : (whole : Read Value) (text : List ℕ) (k : ℕ) {h : Head} → 1 ≤ k → whole ≡ wrong k → h ≡ stoppedAt k → Headed whole text h
 stop-headed whole text k {h} l e q = rw q (record { right = λ z. absurd (omega arith); stop = λ z. (e, refl); inside = omega arith; few = omega arith; listed = (omega arith, omega arith) })
 
--- the listed versions are a range of numbers
-version-listed : (n : ℕ) → within 1 newestVersion n ≡ true → versionIn versions n ≡ some (versionOf n)
-unfolding versionIn
-version-listed n t =
-    ⊎-elim (λ (e : n ≡ 1). rw e) (λ (d : n ≡ 1 → ⊥). let e : n ≡ 2 = omega (arith, leb-true 1 n (and-left (leb 1 n) _ t), leb-true n 2 (and-right (leb 1 n) _ t), d) in rw e) (eq-or n 1)
-
-version-unlisted : (n : ℕ) → within 1 newestVersion n ≡ false → versionIn versions n ≡ none
-unfolding versionIn
-version-unlisted n f = rw (ne-eqb 1 n (λ e. true≢false (rw (← e) at f)), ne-eqb 2 n (λ e. true≢false (rw (← e) at f)))
-
-from-zero : (most n : ℕ) → within 0 most n ≡ leb n most
-from-zero most n = rw (le-leb 0 n (omega arith))
+-- the versions are a range of numbers
+in-range : (n : ℕ) → (within 1 newestVersion n ≡ true) ↔ Listed n
+in-range n = holds-and (leb 1 n) (leb n newestVersion) (leb-true 1 n, le-leb 1 n) (leb-true n newestVersion, le-leb n newestVersion)
 
 pub version-stop : (text : List ℕ) → Wrong ≡ asked text 0 versionKey 1 newestVersion → readText text ≡ wrong 1
 unfolding readText ruled
@@ -65,7 +57,7 @@ version-stop text e = go (lineIn versionKey text) refl
     go (some x) q =
         ⊎-elim
         (λ (t : within 1 newestVersion (x .number) ≡ true). absurd (Option·some-ne-none x (rw (q, t) at unruled)))
-        (λ (t : within 1 newestVersion (x .number) ≡ false). rw (q, readText) (rw (version-unlisted (x .number) t)))
+        (λ (t : within 1 newestVersion (x .number) ≡ false). rw (q, readText) (rw (version-unlisted (x .number) (λ l. true≢false (sym (in-range (x .number) .1 l) ∙ t)))))
         (true-or (within 1 newestVersion (x .number)))
 
 pub version-read : (text : List ℕ) (n second : ℕ) → numberedAt n second ≡ asked text 0 versionKey 1 newestVersion → readText text ≡ readIn (versionOf n) (drop second text)
@@ -75,7 +67,7 @@ version-read text n second e =
   where
     go : (x : Numbered) → (lineIn versionKey text ≡ some x) × (within 1 newestVersion (x .number) ≡ true) → n ≡ x .number → second ≡ length text - length (x .rest) → readText text ≡ readIn (versionOf n) (drop second text)
     go x k m p =
-        text-version text x (versionOf (x .number)) (k .0) (version-listed (x .number) (k .1))
+        text-version text x (versionOf (x .number)) (k .0) (version-listed (x .number) (in-range (x .number) .0 (k .1)))
         ∙ rw m (ap (readIn (versionOf (x .number))) (sym (rw p (line-placed versionKey text 0 x (omega arith) (k .0)))))
 
 -- the version that was read is a listed one

@@ -16,7 +16,7 @@ use Rattle.laws.specs.Bytes.{overAt, over}
 use Rattle.laws.proofs.Choice.{lt-or}
 use Rattle.laws.proofs.ListLaws.{length-tab, flatMap-more}
 use Rattle.settings.specs.Lines.{equals, lineFeed, digitZero, decimalOf, decimal, lineOf}
-use Rattle.settings.specs.Grammar.{Tag, Value, newest, versionKey, timeoutKey, joinKey, tagsKey, addrKey, widthKey, signKey, textOfLines, textIn, valid}
+use Rattle.settings.specs.Grammar.{Tag, Value, newest, versionKey, timeoutKey, joinKey, tagsKey, addrKey, widthKey, signKey, ttlKey, textOfLines, textIn, valid}
 use Rattle.settings.specs.declared.Settings.{Settings}
 use Rattle.settings.specs.Values.{valueOf}
 use Rattle.settingstext.specs.TextWritten.{writing, writtenTo}
@@ -126,9 +126,9 @@ pub head-lines : (timeout join tags : ℕ) → headText timeout join tags ≡ li
 unfolding headText textOfLines
 head-lines timeout join tags = rw append-nil
 
-pub tag-lines : (address width sign : ℕ) → tagText address width sign ≡ lineOf addrKey address ++ (lineOf widthKey width ++ lineOf signKey sign)
+pub tag-lines : (address width sign ttl : ℕ) → tagText address width sign ttl ≡ lineOf addrKey address ++ (lineOf widthKey width ++ (lineOf signKey sign ++ lineOf ttlKey ttl))
 unfolding tagText textOfLines
-tag-lines address width sign = rw append-nil
+tag-lines address width sign ttl = rw append-nil
 
 pub length-head : (timeout join tags : ℕ) → length (headText timeout join tags) ≡ length (lineOf versionKey (newest .number)) + length (lineOf timeoutKey timeout) + length (lineOf joinKey join) + length (lineOf tagsKey tags)
 length-head timeout join tags =
@@ -140,14 +140,19 @@ length-head timeout join tags =
       length-append (lineOf joinKey join) (lineOf tagsKey tags),
     ))
 
-pub length-tag : (address width sign : ℕ) → length (tagText address width sign) ≡ length (lineOf addrKey address) + length (lineOf widthKey width) + length (lineOf signKey sign)
-length-tag address width sign =
-    rw (tag-lines address width sign)
-    (omega (arith, length-append (lineOf addrKey address) (lineOf widthKey width ++ lineOf signKey sign), length-append (lineOf widthKey width) (lineOf signKey sign)))
+pub length-tag : (address width sign ttl : ℕ) → length (tagText address width sign ttl) ≡ length (lineOf addrKey address) + length (lineOf widthKey width) + length (lineOf signKey sign) + length (lineOf ttlKey ttl)
+length-tag address width sign ttl =
+    rw (tag-lines address width sign ttl)
+    (omega (
+      arith,
+      length-append (lineOf addrKey address) (lineOf widthKey width ++ (lineOf signKey sign ++ lineOf ttlKey ttl)),
+      length-append (lineOf widthKey width) (lineOf signKey sign ++ lineOf ttlKey ttl),
+      length-append (lineOf signKey sign) (lineOf ttlKey ttl),
+    ))
 
 -- the text of a place, and of the first k places
 abbrev pub placeText : Settings → ℕ → List ℕ
-placeText s k = tagText (tagAt s k .address) (tagAt s k .width) (tagAt s k .sign)
+placeText s k = tagText (tagAt s k .address) (tagAt s k .width) (tagAt s k .sign) (tagAt s k .ttl)
 
 abbrev pub tagsTo : Settings → ℕ → List ℕ
 tagsTo s k = tagsText (tab k (tagAt s))
@@ -168,7 +173,7 @@ tags-none s = refl
 
 tags-more : (s : Settings) (k : ℕ) → tagsTo s (k + 1) ≡ tagsTo s k ++ placeText s k
 unfolding tagsText
-tags-more s k = flatMap-more (λ (t : Tag). tagText (t .address) (t .width) (t .sign)) k (tagAt s)
+tags-more s k = flatMap-more (λ (t : Tag). tagText (t .address) (t .width) (t .sign) (t .ttl)) k (tagAt s)
 
 length-more : (s : Settings) (k : ℕ) → length (tagsTo s (k + 1)) ≡ length (tagsTo s k) + length (placeText s k)
 length-more s k = ap length (tags-more s k) ∙ length-append (tagsTo s k) (placeText s k)
@@ -237,7 +242,7 @@ module _ {n at : ℕ} {b a : List ℕ} {left place : ℕ} (w : Digits n at b a l
 pub record Measured (s : Settings) (size k : ℕ) : Type 0 where
   pub within : k ≤ s .tags
   pub all : size ≡ length (headText (s .timeout) (s .join) (s .tags)) + length (tagsTo s k)
-  pub most : size ≤ 110 + 79 * k
+  pub most : size ≤ 110 + 104 * k
 
 pub measured-none : (s : Settings) (size : ℕ) → size ≡ length (headText (s .timeout) (s .join) (s .tags)) → Measured s size 0
 measured-none s size e =
@@ -259,7 +264,16 @@ measured-more {s} {size} {size′} {k} h w e =
     record {
       within = omega arith;
       all = omega (arith, e, w .all, length-more s k);
-      most = omega (arith, e, w .most, length-tag (tagAt s k .address) (tagAt s k .width) (tagAt s k .sign), line-most addrKey (tagAt s k .address), line-most widthKey (tagAt s k .width), line-most signKey (tagAt s k .sign));
+      most = omega (
+        arith,
+        e,
+        w .most,
+        length-tag (tagAt s k .address) (tagAt s k .width) (tagAt s k .sign) (tagAt s k .ttl),
+        line-most addrKey (tagAt s k .address),
+        line-most widthKey (tagAt s k .width),
+        line-most signKey (tagAt s k .sign),
+        line-most ttlKey (tagAt s k .ttl),
+      );
     }
 
 pub measured-all : {s : Settings} {size k : ℕ} → s .tags ≤ k → Measured s size k → size ≡ length (textIn newest (valueOf s))
@@ -286,9 +300,10 @@ laid-head timeout join tags {b} x y z t =
     let h : 0 ≤ length b = omega arith in
     rw (head-lines timeout join tags) (simp append-assoc at (laid-then h (laid-then h (laid-then h x y) z) t))
 
-pub laid-tag : (address width sign : ℕ) {at : ℕ} {b m₁ m₂ a : List ℕ} {e₁ e₂ end : ℕ} → at ≤ length b
-    → Laid (lineOf addrKey address) at b m₁ e₁ → Laid (lineOf widthKey width) e₁ m₁ m₂ e₂ → Laid (lineOf signKey sign) e₂ m₂ a end → Laid (tagText address width sign) at b a end
-laid-tag address width sign h x y z = rw (tag-lines address width sign) (simp append-assoc at (laid-then h (laid-then h x y) z))
+pub laid-tag : (address width sign ttl : ℕ) {at : ℕ} {b m₁ m₂ m₃ a : List ℕ} {e₁ e₂ e₃ end : ℕ} → at ≤ length b
+    → Laid (lineOf addrKey address) at b m₁ e₁ → Laid (lineOf widthKey width) e₁ m₁ m₂ e₂ → Laid (lineOf signKey sign) e₂ m₂ m₃ e₃ → Laid (lineOf ttlKey ttl) e₃ m₃ a end
+    → Laid (tagText address width sign ttl) at b a end
+laid-tag address width sign ttl h x y z t = rw (tag-lines address width sign ttl) (simp append-assoc at (laid-then h (laid-then h (laid-then h x y) z) t))
 
 -- writing the tags: the first k stand
 pub record Written (s : Settings) (at : ℕ) (before after : List ℕ) (next k : ℕ) : Type 0 where

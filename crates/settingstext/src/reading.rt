@@ -11,7 +11,7 @@ ghost use Rattle.settings.specs.Grammar.{versionOf, readLines, readIn, readText
 ghost use Rattle.settings.specs.Values.{settings};
 ghost use Rattle.settingstext.specs.TextRead.{reported, answered};
 ghost use Rattle.settings.specs.Grammar.{ruled};
-ghost use Rattle.settingstext.specs.inner.Reading.{ceiling, found, capped, placed, within, lineBehind, lowest, placedTag, signRead, stoppedAt, Headed, wrongLine};
+ghost use Rattle.settingstext.specs.inner.Reading.{ceiling, found, capped, placed, within, lineBehind, lowest, placedTag, laterRead, stoppedAt, Headed, wrongLine};
 use settings::Settings;
 
 // What reading a text comes to: line 0 and the value, or the first wrong line and the usual value.
@@ -30,9 +30,9 @@ pub enum LineRead {
     Wrong,
 }
 
-// A tag's address, width and sign and the place behind its lines; or the number of its wrong line.
+// A tag's address, width, sign and ttl and the place behind its lines; or the number of its wrong line.
 pub enum TagRead {
-    Tagged(u32, u32, u32, usize),
+    Tagged(u32, u32, u32, u32, usize),
     WrongAt(u32),
 }
 
@@ -109,15 +109,15 @@ fn most_sign(width: u32) -> u32
     if width == 16 { 1 } else { 0 }
 }
 
-// The sign of a tag of this width; version 1 has no line for it.
-fn sign_at(text: &[u8], at: usize, version: u32, width: u32) -> LineRead
-    requires { ⌜ at ≤ length (now text) ⌝ }
-    ensures { λ r. ⌜ r ≡ signRead version width at (now (text .entry)) ⌝ }
+// The line with this key that a tag has since a version, if its number is at most `most`; an older version has none, and the number is 0.
+fn later_at(text: &[u8], at: usize, version: u32, since: u32, key: &[u8], most: u32) -> LineRead
+    requires { ⌜ (at ≤ length (now text)) × (most < ceiling) ⌝ }
+    ensures { λ r. ⌜ r ≡ laterRead version since at (now (text .entry)) (now (key .entry)) most ⌝ }
 {
-    if version < 2 {
+    if version < since {
         return LineRead::Numbered(0, at);
     }
-    line_at(text, at, b"sign=", 0, most_sign(width))
+    line_at(text, at, key, 0, most)
 }
 
 // The lines that a tag has in a version; its address is at least `least`.
@@ -140,10 +140,27 @@ fn tag_at(text: &[u8], at: usize, version: u32, line: u32, least: u32) -> TagRea
     if !((width == 16) | ((width == 32) & (address + 1 < numbers::ADDRESSES))) {
         return TagRead::WrongAt(line + 1);
     }
-    let LineRead::Numbered(sign, next) = sign_at(text, third, version, width) else {
+    let LineRead::Numbered(sign, fourth) = later_at(
+        text,
+        third,
+        version,
+        2,
+        b"sign=",
+        most_sign(width),
+    ) else {
         return TagRead::WrongAt(line + 2);
     };
-    TagRead::Tagged(address, width, sign, next)
+    let LineRead::Numbered(ttl, next) = later_at(
+        text,
+        fourth,
+        version,
+        3,
+        b"ttl=",
+        numbers::MOST_TTL as u32,
+    ) else {
+        return TagRead::WrongAt(line + 3);
+    };
+    TagRead::Tagged(address, width, sign, ttl, next)
 }
 
 // The numbers of the lines before the tags, the version's first, and the place behind them; or a wrong line, and the usual numbers.
@@ -240,14 +257,16 @@ fn answer(
     mut addr: [u16; numbers::MOST_TAGS],
     mut width: [u16; numbers::MOST_TAGS],
     mut sign: [u16; numbers::MOST_TAGS],
+    mut ttl: [u16; numbers::MOST_TAGS],
 ) -> ReadText
-    ensures { λ r. ⌜ r ≡ answered wrong (settings (head .timeout) (head .join) (head .tags) addr width sign) ⌝ }
+    ensures { λ r. ⌜ r ≡ answered wrong (settings (head .timeout) (head .join) (head .tags) addr width sign ttl) ⌝ }
 {
     if wrong != 0 {
         head = stopped_at(wrong);
         addr = [0u16; numbers::MOST_TAGS];
         width = [0u16; numbers::MOST_TAGS];
         sign = [0u16; numbers::MOST_TAGS];
+        ttl = [0u16; numbers::MOST_TAGS];
     }
     let settings = Settings {
         timeout: head.timeout,
@@ -256,6 +275,7 @@ fn answer(
         addr,
         width,
         sign,
+        ttl,
     };
     ReadText {
         line: wrong,
@@ -272,6 +292,7 @@ pub fn read_text(text: &[u8]) -> ReadText
     let mut addr = [0u16; numbers::MOST_TAGS];
     let mut width = [0u16; numbers::MOST_TAGS];
     let mut sign = [0u16; numbers::MOST_TAGS];
+    let mut ttl = [0u16; numbers::MOST_TAGS];
     let mut stopped = head.wrong;
     let mut at = head.next;
     let mut line: u32 = 5;
@@ -283,10 +304,11 @@ pub fn read_text(text: &[u8]) -> ReadText
                 stopped = first;
                 break;
             }
-            TagRead::Tagged(address, bits, signed, next) => {
+            TagRead::Tagged(address, bits, signed, lasting, next) => {
                 addr[k] = address as u16;
                 width[k] = bits as u16;
                 sign[k] = signed as u16;
+                ttl[k] = lasting as u16;
                 // One register for each 16 bits.
                 least = address + bits / 16;
                 at = next;
@@ -297,5 +319,5 @@ pub fn read_text(text: &[u8]) -> ReadText
         k += 1;
     }
     let wrong = first_wrong(stopped, line, at == text.len());
-    answer(wrong, head, addr, width, sign)
+    answer(wrong, head, addr, width, sign, ttl)
 }

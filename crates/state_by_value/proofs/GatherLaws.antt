@@ -95,8 +95,8 @@ module _ (c : Columns) (sounds : SoundState (columned c)) where
 
   -- The gathered state is the machine that the columns are.
   pub machine-back : machineOf (stateOf (gathered c)) ≡ machineOf (columned c)
-  machine-back = ap (λ t. machine (book (valueIn (columned c .settings)) t (c .cursor) (c .clock)) (c .attached)) table-back
+  machine-back = ap (λ t. machine (book (valueIn (columned c .settings)) t (c .cursor) (c .clock)) (c .attached) (machineOf (columned c) .cache)) table-back
 
   -- And it is sound.
   pub made-back : MadeState (gathered c)
-  made-back = record { table = sound-back; cursor = sounds .cursor; attached = sounds .attached; settings = sounds .settings }
+  made-back = record { table = sound-back; cursor = sounds .cursor; attached = sounds .attached; settings = sounds .settings; cache = sounds .cache }

@@ -15,7 +15,7 @@ use Rattle.state_by_value.specs.Places.{placeOf, numberOf, wordIn, calle
 abbrev pub stateOf : State → Columned
 stateOf s =
     lent (map numberOf (s .entries)) (map wordIn (s .entries)) (map callerOf (s .entries)) (map deadlineOf (s .entries)) (map countOf (s .entries))
-    (s .clients) (s .originals) (s .top) (s .cursor .0) (s .attached) (s .clock) (s .timeout) (s .join) (s .«tag_count») (s .«tag_words»)
+    (s .clients) (s .originals) (s .top) (s .cursor .0) (s .attached) (s .clock) (s .timeout) (s .join) (s .«tag_count») (s .«tag_words») (s .cache) (s .shown)
 
 -- every state by value that the calls made
 abbrev pub MadeState : State → Type 0
@@ -40,4 +40,6 @@ gathered c =
       join = c .join;
       «tag_count» = c .«tag_count»;
       «tag_words» = c .«tag_words»;
+      cache = c .cache;
+      shown = c .shown;
     }

@@ -32,6 +32,8 @@ fn freshened(from: Settings) -> Called
     let cursor = 0u16;
     let attached = 0u32;
     let clock = 0u64;
+    let cache = [0u64; numbers::CACHE_NUMBERS];
+    let shown = [0u8; numbers::CACHE_BYTES];
     let mut timeout = 0u32;
     let mut join = 0u32;
     let mut tag_count = 0u32;
@@ -47,6 +49,7 @@ fn freshened(from: Settings) -> Called
         &from.addr,
         &from.width,
         &from.sign,
+        &from.ttl,
     );
     let columns = Columns {
         ids,
@@ -64,6 +67,8 @@ fn freshened(from: Settings) -> Called
         join,
         tag_count,
         tag_words,
+        cache,
+        shown,
     };
     Called { columns, answer }
 }
@@ -128,11 +133,13 @@ pub fn link_lost(s: State) -> Stepped
     let mut ids = c.ids;
     let mut top = c.top;
     let mut attached = c.attached;
-    let answer = proxy::attaching::link_lost(&mut ids, &mut top, &mut attached);
+    let mut cache = c.cache;
+    let answer = proxy::attaching::link_lost(&mut ids, &mut top, &mut attached, &mut cache);
     let mut after = c;
     after.ids = ids;
     after.top = top;
     after.attached = attached;
+    after.cache = cache;
     let state = crate::gather(after);
     Stepped { state, answer }
 }

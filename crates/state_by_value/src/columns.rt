@@ -18,6 +18,8 @@ pub struct Columns {
     pub join: u32,
     pub tag_count: u32,
     pub tag_words: [u64; numbers::MOST_TAGS],
+    pub cache: [u64; numbers::CACHE_NUMBERS],
+    pub shown: [u8; numbers::CACHE_BYTES],
 }
 
 // What a core leaves in the columns that it was lent, and its answer.

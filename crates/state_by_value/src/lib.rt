@@ -1,4 +1,4 @@
-// The state by value: a struct a live entry, the flat party arrays, cursor, clock, attached set and settings; spread into columns and gathered again.
+// The state by value: a struct a live entry, the flat party arrays, cursor, clock, attached set, settings and the columns of the cache; spread into columns and gathered again.
 pub mod calls;
 pub mod columns;
 
@@ -34,6 +34,8 @@ pub struct State {
     pub join: u32,
     pub tag_count: u32,
     pub tag_words: [u64; numbers::MOST_TAGS],
+    pub cache: [u64; numbers::CACHE_NUMBERS],
+    pub shown: [u8; numbers::CACHE_BYTES],
 }
 
 // The number in the column of ids: 0 for a free place, else the proxy id + 1.
@@ -108,6 +110,8 @@ pub fn spread(s: State) -> Columns
     let clients = s.clients;
     let originals = s.originals;
     let tag_words = s.tag_words;
+    let cache = s.cache;
+    let shown = s.shown;
     Columns {
         ids,
         asked,
@@ -124,6 +128,8 @@ pub fn spread(s: State) -> Columns
         join: s.join,
         tag_count: s.tag_count,
         tag_words,
+        cache,
+        shown,
     }
 }
 
@@ -146,6 +152,8 @@ pub fn gather(c: Columns) -> State
     let clients = c.clients;
     let originals = c.originals;
     let tag_words = c.tag_words;
+    let cache = c.cache;
+    let shown = c.shown;
     State {
         entries,
         clients,
@@ -158,5 +166,7 @@ pub fn gather(c: Columns) -> State
         join: c.join,
         tag_count: c.tag_count,
         tag_words,
+        cache,
+        shown,
     }
 }

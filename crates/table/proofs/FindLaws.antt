@@ -19,6 +19,7 @@ use Rattle.laws.proofs.SearchLaws.{best-ext, best-nothing, best-cut, first-ext}
 use Rattle.settings.specs.Grammar.{Value}
 use Rattle.pdu.specs.Replies.{What}
 use Rattle.pdu.specs.Words.{wordOf, whatOf, Proper}
+use Rattle.cache.specs.Cache.{Cache}
 use Rattle.book.specs.Book.{Live, at, hasId}
 use Rattle.book.specs.Desk.{isLive, lowerId, sooner, joinPlace, freePlace, duePlace, idPlace, freeId, isDue as isDueIn, isOpen as isOpenIn}
 use Rattle.machine.specs.Machine.{Note, machine, rules}
@@ -64,14 +65,14 @@ module _ (v : Value) (c : Columns) (x t : ℕ) (s : SoundTable c) where
   untaken k h = rw (s .above k h)
 
   -- The least deadline of the live places, and how many they are, are the machine's.
-  pub next-time : (a : ℕ) → least (isTaken (c .ids)) (λ k. getD (c .deadlines) k 0) noDeadline (c .top) ≡ nextDeadline (machine (bookOf v c x t) a) .time
+  pub next-time : (a : ℕ) (h : Cache) → least (isTaken (c .ids)) (λ k. getD (c .deadlines) k 0) noDeadline (c .top) ≡ nextDeadline (machine (bookOf v c x t) a h) .time
   unfolding nextDeadline
-  next-time a =
+  next-time a h =
       sym (least-cut _ _ noDeadline (c .top) places (s .within) (λ k h l. untaken k h)) ∙ least-ext _ _ _ _ noDeadline places taken-same deadline-same
 
-  pub next-live : (a : ℕ) → count (isTaken (c .ids)) (c .top) ≡ nextDeadline (machine (bookOf v c x t) a) .live
+  pub next-live : (a : ℕ) (h : Cache) → count (isTaken (c .ids)) (c .top) ≡ nextDeadline (machine (bookOf v c x t) a h) .live
   unfolding nextDeadline
-  next-live a = sym (count-cut _ (c .top) places (s .within) (λ k h l. untaken k h)) ∙ count-ext _ _ places taken-same
+  next-live a h = sym (count-cut _ (c .top) places (s .within) (λ k h l. untaken k h)) ∙ count-ext _ _ places taken-same
 
   -- The lowest free place is the book's.
   pub free-place : best (isFree (c .ids)) (λ j k. false) places places ≡ freePlace rules (bookOf v c x t)

@@ -1,7 +1,7 @@
 // Settings texts, each with the line at which document 01 finds it wrong, or 0 where it is right: the table is in the file stdin.
 // Its first line is the pieces that the rows name, each ended by '|'. A row is the wrong line, a blank, and the text as it is spelled: ';' is LF, '^' CR,
-// '~' tab, '_' a blank, '$' NUL, and '@1' to '@9' and '@A' to '@C' the pieces. Behind a '|' stands the text that is written of the value, where it is another.
-// In place of a line's number, v has the value looked at, and s the same with a sign at its first tag.
+// '~' tab, '_' a blank, '$' NUL, and '@1' to '@9' and '@A' to '@G' the pieces. Behind a '|' stands the text that is written of the value, where it is another.
+// In place of a line's number, v has the value looked at, s the same with a sign at its first tag, and t that with a ttl of 500 there and of 60000 at the second.
 mod spelling;
 mod texts;
 
@@ -17,8 +17,8 @@ fn row<'a>(t: Tally, pieces: &'a [u8], row: &'a [u8]) -> Tally {
     if !tally::is_row(row) {
         return t;
     }
-    let mut text = [0u8; 8192];
-    let mut other = [0u8; 8192];
+    let mut text = [0u8; 12288];
+    let mut other = [0u8; 12288];
     let spelled = rest(row, b' ');
     let size = spelling::spell(pieces, head(spelled, b'|'), &mut text);
     let room = spelling::spell(pieces, rest(spelled, b'|'), &mut other);
@@ -39,7 +39,7 @@ fn rows<'a>(t: Tally, pieces: &'a [u8], table: &'a [u8]) -> Tally {
 }
 
 fn main() {
-    let mut buffer = io::large_buffer();
+    let mut buffer = [0u8; 131072];
     let size = io::read_full(STDIN_FILENO, &mut buffer);
     let table = before(&buffer, size);
     let t = tally::start(size, &buffer);

@@ -31,8 +31,10 @@ use Rattle.pdu.specs.declared.Asked.the-variants.{Read}
 use Rattle.rewrite.specs.Registers.{registersAt}
 use Rattle.rewrite.specs.Rewriting.{ownIn}
 use Rattle.rewrite.specs.Plain.{Whole, OfBits}
+use Rattle.cache.specs.Cache.{Cached, inCache}
+use Rattle.cache.specs.Plain.{Keyed, Fresh, Takes}
 use Rattle.book.specs.Book.{Party, Live, Event, at}
-use Rattle.book.specs.Book.Event.{issued}
+use Rattle.book.specs.Book.Event.{passed, issued}
 use Rattle.book.specs.Ledger.{Ticket, Apart, Differing, Anew, partiesOf}
 use Rattle.book.specs.Traced.{touches, issuedId, behind, Outstanding}
 use Rattle.book.specs.Desk.{AllLive, isLive}
@@ -42,17 +44,19 @@ use Rattle.machine.specs.Calls.Call.{attach, detach, request, reply, tick, link
 use Rattle.machine.specs.Refusals.{refusal}
 use Rattle.machine.specs.Outcomes.{outcome}
 use Rattle.machine.specs.Granted.{concerns}
-use Rattle.machine.specs.Numbers.{ten, numbers, isIssued, isJoined, isException, isTimedOut, isNothingDue}
+use Rattle.machine.specs.Numbers.{ten, numbers, isIssued, isJoined, isException, isTimedOut, isNothingDue, isHit}
 use Rattle.machine.specs.Waiting.{nextDeadline}
 use Rattle.machine.specs.Spelled.{asker, asking}
 use Rattle.machine.specs.Histories.{Seen, seenOf, afterCalls, toldBy, toldSince, IssuedBy, toldFrom}
 use Rattle.machine.specs.Closed.{Unspoiled, Joinable, Meets}
+use Rattle.machine.specs.Cached.{NoHit, KeptFor, Put}
 use Rattle.machine.specs.declared.Answer.{Answer}
 use Rattle.machine.specs.declared.Answer.the-variants as answer
 use Rattle.machine.specs.declared.Report.{Report}
 use Rattle.machine.specs.declared.NextDeadline.{NextDeadline}
 use Rattle.machine.specs.RefusalTable.{table, Applies}
-use Rattle.machine.specs.Requested.{NoneToJoin, Carries, Issues, Joins, Excepts, Accepts, Stands}
+use Rattle.machine.specs.Requested.{NoneToJoin, Carries, Hits, Issues, Joins, Excepts, Accepts, Stands}
+use Rattle.machine.specs.PartysFrames.{PartysFrame}
 use Rattle.machine.specs.Answered.{showing, Lent, tickAt, ticksAt}
 use Rattle.machine.proofs.NumberLaws.{refusal-told, refusal-exactly, exception-exactly, join-exactly}
 use Rattle.machine.proofs.AskLaws.{bits-carry-none}
@@ -64,15 +68,21 @@ use Rattle.proxy.proofs.MakingLaws.{adopted-valid}
 use Rattle.device.specs.declared.Device.{Device}
 use Rattle.device.specs.Device.{Freshly, Awaited}
 use Rattle.device.proofs.DeviceLaws.{same-device}
-use Rattle.zilborteka.specs.Lives.{inForce, machineIn, Called, Line, callsOf, Lived, grantedIn, toldIn, ledgerIn, AsTheMachine, outcomeIn, issueIn, joinIn, exceptionIn, LiveIn}
+use Rattle.zilborteka.specs.Lives.{inForce, machineIn, Called, Line, callsOf, Lived, grantedIn, toldIn, ledgerIn, AsTheMachine, outcomeIn, hitIn, issueIn, joinIn, exceptionIn, LiveIn}
 use Rattle.zilborteka.specs.Lives.Lived.{none, then}
 use Rattle.zilborteka.specs.Handed.{waitingUnder, Replied, TimesOut}
+use Rattle.zilborteka.specs.Cached.{cacheIn, FillsIn, LastReplyIn, LatestIn, ShowsIn}
 use Rattle.zilborteka.proofs.Lived.{left, seen, came, report-tells, tells, lived-on, each-line, line-told, a-device-lives-as-the-machine, a-report-tells-the-answer, a-device-accounts-for-every-request}
 use Rattle.zilborteka.proofs.Handed.{lives-as, replied, timed-out, answers-what}
 use Rattle.zilborteka.proofs.Places.{place-live, live-in}
+use Rattle.zilborteka.proofs.Shown.{fills-line, fills-call, shows-seen, cache-is, last-line, last-call}
 
--- the whole report of an issue, a join and an exception, and which of the three it is
+-- the whole report of a hit, an issue, a join and an exception, and which of the four it is
 module _ {m : Machine} {c t : ℕ} {f o : List ℕ} {y : Outcome} {r : Report} where
+  hit-reported : Hits m c t f o y × (r ≡ numbers (y .says))
+      → (h : Hits m c t f o y) × (r ≡ ten 0 0 10 (length (h .cached .bytes)) 0 (h .cached .partial) (h .cached .value) 0 0 0)
+  hit-reported w = (w .0, w .1 ∙ w .0 .report)
+
   issue-reported : Issues m c t f o y × (r ≡ numbers (y .says)) → (i : Issues m c t f o y) × (r ≡ ten 0 0 2 (length f) 0 (i .partial) (i .value) 0 (i .id) 0)
   unfolding numbers
   issue-reported w = (w .0, w .1 ∙ ap numbers (w .0 .says))
@@ -86,19 +96,21 @@ exception-reported : {m : Machine} {t : ℕ} {f o : List ℕ} {y : Outcome} {r :
 unfolding numbers
 exception-reported w = (w .0, w .1 ∙ ap numbers (w .0 .says))
 
-one-of-three : {m : Machine} {c t : ℕ} {f o : List ℕ} {y : Outcome} → Issues m c t f o y ⊎ (Joins m c t f o y ⊎ Excepts m t f o y)
-    → (numbers (y .says) .outcome ≡ isIssued) ⊎ ((numbers (y .says) .outcome ≡ isJoined) ⊎ (numbers (y .says) .outcome ≡ isException))
+one-of-four : {m : Machine} {c t : ℕ} {f o : List ℕ} {y : Outcome} → Hits m c t f o y ⊎ (Issues m c t f o y ⊎ (Joins m c t f o y ⊎ Excepts m t f o y))
+    → (numbers (y .says) .outcome ≡ isHit)
+    ⊎ ((numbers (y .says) .outcome ≡ isIssued) ⊎ ((numbers (y .says) .outcome ≡ isJoined) ⊎ (numbers (y .says) .outcome ≡ isException)))
 unfolding numbers
-one-of-three (inl i) = inl (ap (λ (a : Answer). numbers a .outcome) (i .says))
-one-of-three (inr (inl j)) = inr (inl (ap (λ (a : Answer). numbers a .outcome) (j .says)))
-one-of-three (inr (inr e)) = inr (inr (ap (λ (a : Answer). numbers a .outcome) (e .says)))
+one-of-four (inl h) = inl (ap (λ (a : Answer). numbers a .outcome) (h .says))
+one-of-four (inr (inl i)) = inr (inl (ap (λ (a : Answer). numbers a .outcome) (i .says)))
+one-of-four (inr (inr (inl j))) = inr (inr (inl (ap (λ (a : Answer). numbers a .outcome) (j .says))))
+one-of-four (inr (inr (inr e))) = inr (inr (inr (ap (λ (a : Answer). numbers a .outcome) (e .says))))
 
 -- The tags in force on a device ascend, whatever it was made from: so what `Rewrites` says of ascending tags holds of its replies and its issues.
 pub the-tags-in-force-ascend : (from : Settings) → Ascending 0 (inForce from .tags)
 the-tags-in-force-ascend from = valid-ascends (inForce from) (adopted-valid (valueOf from))
 
 -- A device d was made fresh from a settings value, and these lines followed and left d′. What is claimed of the next call is claimed of each line of a life: `each-line` of Lived.antt.
--- `machineIn d′` is the machine that the device is: its set, cursor and clock are the device's, and its live entries stand in the device's places (`own-fields`, `live-in` of Places.antt).
+-- `machineIn d′` is the machine that the device is: its set, cursor, clock and cache are the device's, and its live entries stand in the device's places (`own-fields`, `live-in` of Places.antt).
 module _ (from : Settings) {r : Report} {d d′ : Device} (ls : List Line) (fresh : Freshly from r d) (life : Lived d ls d′) where
   -- the settings in force, the calls so far, and that the device is the machine after them
   abbrev v : Value
@@ -152,12 +164,20 @@ module _ (from : Settings) {r : Report} {d d′ : Device} (ls : List Line) (fres
     sees x s ∙ ap seenOf (claim.a-refusal-changes-nothing v xs x (saw .report .refusal) h (rw (lived .after) at (report-tells x s .refused h))),
   )
 
-  -- Tender 2 and 3, a request: one that is not refused is issued, joins, or gets an exception,
+  -- Tender 2 and 3, a request, with #107: one that is not refused is a hit, is issued, joins, or gets an exception,
   pub a-request-comes-to-this : (c t : ℕ) (f o : List ℕ) {saw : Seen} {d″ : Device} → Called d′ (request c t f o) saw d″ → saw .report .refusal ≡ 0
-      → (saw .report .outcome ≡ isIssued) ⊎ ((saw .report .outcome ≡ isJoined) ⊎ (saw .report .outcome ≡ isException))
-  a-request-comes-to-this c t f o s z = let x = request c t f o in let h = passes x s z in rw (sees x s) (one-of-three (claim.a-request-comes-to-this v xs c t f o h))
+      → (saw .report .outcome ≡ isHit) ⊎ ((saw .report .outcome ≡ isIssued) ⊎ ((saw .report .outcome ≡ isJoined) ⊎ (saw .report .outcome ≡ isException)))
+  a-request-comes-to-this c t f o s z = let x = request c t f o in let h = passes x s z in rw (sees x s) (one-of-four (claim.a-request-comes-to-this v xs c t f o h))
 
-  -- and each of the three is told in plain numbers and bytes: the whole report, every byte of the buffer, and the whole machine that the device is afterwards.
+  -- and each of the four is told in plain numbers and bytes: the whole report, every byte of the buffer, and the whole machine that the device is afterwards; after a hit that is as before
+  -- but for its clock, which is the request's time.
+  pub a-hit-is-this : (c t : ℕ) (f o : List ℕ) {saw : Seen} {d″ : Device} → Called d′ (request c t f o) saw d″ → saw .report .outcome ≡ isHit
+      → (h : Hits (machineIn d′) c t f o (outcomeIn (hitIn (saw .report)) saw d″))
+      × (saw .report ≡ ten 0 0 10 (length (h .cached .bytes)) 0 (h .cached .partial) (h .cached .value) 0 0 0)
+  a-hit-is-this c t f o s e =
+      let x = request c t f o in
+      hit-reported (carried (λ m. Hits m c t f o) x s _ (report-tells x s .hit e) (claim.a-hit-is-this v xs c t f o _ _ _))
+
   pub an-issue-is-this : (c t : ℕ) (f o : List ℕ) {saw : Seen} {d″ : Device} → Called d′ (request c t f o) saw d″ → saw .report .outcome ≡ isIssued
       → (i : Issues (machineIn d′) c t f o (outcomeIn (issueIn (saw .report)) saw d″)) × (saw .report ≡ ten 0 0 2 (length f) 0 (i .partial) (i .value) 0 (i .id) 0)
   an-issue-is-this c t f o s e =
@@ -186,10 +206,10 @@ module _ (from : Settings) {r : Report} {d d′ : Device} (ls : List Line) (fres
       rw (left x s, lived .after)
       (claim.the-accepted-stand v xs c t f o (saw .report .id) (⊎-elim (λ e. rw (tells .issued e) refl) (λ e. rw (tells .joined e) refl) w))
 
-  -- Tender 3, with #104's number: the proxy itself gives exception 04 exactly when a legal request can join nothing and 256 are live.
+  -- Tender 3, with #104's number and #107: the proxy itself gives exception 04 exactly when a legal request hits nothing, can join nothing and 256 are live.
   pub exception-04-exactly : (c t : ℕ) (f o : List ℕ) {saw : Seen} {d″ : Device} → Called d′ (request c t f o) saw d″
       → ((saw .report .outcome ≡ isException) × (saw .report .code ≡ 4))
-      ↔ ((saw .report .refusal ≡ 0) × (legal (inForce from) f ≡ true) × NoneToJoin (machineIn d′) t f × AllLive rules (machineIn d′ .book))
+      ↔ ((saw .report .refusal ≡ 0) × (legal (inForce from) f ≡ true) × NoHit (machineIn d′) t f × NoneToJoin (machineIn d′) t f × AllLive rules (machineIn d′ .book))
   exception-04-exactly c t f o s =
       let x = request c t f o in
       let same : legal (settings (afterCalls v xs)) f ≡ legal v f = ap (λ (y : Value). legal y f) (claim.the-settings-in-force-stay v xs) in
@@ -417,16 +437,111 @@ module _ (from : Settings) {r : Report} {d d′ : Device} (ls : List Line) (fres
       (claim.a-read-after-a-write-is-not-stale-in-bytes v (callsOf ks) c t g o _ _ _ _ (rw call at (a-report-tells-the-answer from ls fresh life ks x ys e .issued issue))
       (callsOf ys) c′ t′ f o′ _ (rw now at (report-tells (request c′ t′ f o′) s .joined join)) unit met)
 
-  -- And closing everything is no way out: a legal 01 to 04 that is not refused, with joining on, reports a join of the id exactly if that is the smallest under which a live entry asks
-  -- the same, has room for one more party and a deadline later than now, and nothing that spoils it was issued since its issue.
+  -- And closing everything is no way out: a legal 01 to 04 that is not refused, with joining on, reports a join of the id exactly if it hits nothing (#107) and that is the smallest under
+  -- which a live entry asks the same, has room for one more party and a deadline later than now, and nothing that spoils it was issued since its issue.
   pub a-read-joins-exactly : (c t : ℕ) (f o : List ℕ) {saw : Seen} {d″ : Device} → Called d′ (request c t f o) saw d″ → saw .report .refusal ≡ 0 → legal (inForce from) f ≡ true
       → ((getD f 7 0 ≡ 1) ⊎ (getD f 7 0 ≡ 2)) ⊎ ((getD f 7 0 ≡ 3) ⊎ (getD f 7 0 ≡ 4)) → inForce from .join ≡ 1 → (id : ℕ)
       → ((saw .report .outcome ≡ isJoined) × (saw .report .id ≡ id))
-      ↔ (Joinable (machineIn d′ .book) (toldIn (inForce from) ls) t f id × ((i : ℕ) → Joinable (machineIn d′ .book) (toldIn (inForce from) ls) t f i → id ≤ i))
+      ↔ (NoHit (machineIn d′) t f × Joinable (machineIn d′ .book) (toldIn (inForce from) ls) t f id × ((i : ℕ) → Joinable (machineIn d′ .book) (toldIn (inForce from) ls) t f i → id ≤ i))
   a-read-joins-exactly c t f o s z l reads on id =
       let x = request c t f o in
       let same : legal (settings (afterCalls v xs)) f ≡ true = ap (λ (y : Value). legal y f) (claim.the-settings-in-force-stay v xs) ∙ l in
       rw (sees x s, lived .after, lived .told) (Iff·trans (join-exactly _ id) (claim.a-read-joins-exactly v xs c t f o (passes x s z) same reads on (record { 0 = id })))
+
+  -- the machine's answer, where the report says a hit
+  hit-says : (c t : ℕ) (f o : List ℕ) {saw : Seen} {d″ : Device} → Called d′ (request c t f o) saw d″ → saw .report .outcome ≡ isHit
+      → outcome (afterCalls v xs) (request c t f o) .says ≡ hitIn (saw .report)
+  hit-says c t f o s e = rw (lived .after) at (report-tells (request c t f o) s .hit e)
+
+  -- the cache that a call leaves on the device is the machine's
+  cache-after : (x : Line) {d″ : Device} → Called d′ (x .call) (x .saw) d″ → cacheIn d″ ≡ outcome (afterCalls v xs) (x .call) .after .cache
+  unfolding machineIn
+  cache-after x s = ap (λ (y : Machine). y .cache) (rw (lived .after) at (left (x .call) s))
+
+  -- Request #107: a hit is not accepted. It tells the host's ledger that time has passed and nothing else, as an exception does, so that demand 3's sum is as before.
+  pub a-hit-is-not-accepted : (c t : ℕ) (f o : List ℕ) {saw : Seen} {d″ : Device} → Called d′ (request c t f o) saw d″ → saw .report .outcome ≡ isHit
+      → toldIn (inForce from) (ls ++ record { call = request c t f o; saw = saw } ∷ []) ≡ toldIn (inForce from) ls ++ passed t ∷ []
+  a-hit-is-not-accepted c t f o {saw} s e =
+      let x : Line = record { call = request c t f o; saw = saw } in
+      a-device-lives-as-the-machine from (ls ++ x ∷ []) fresh (lived-on life (then s none)) .told ∙ ap (toldBy v) (map-append (λ (y : Line). y .call) ls (x ∷ []))
+      ∙ claim.a-hit-is-not-accepted v xs c t f o _ _ _ (hit-says c t f o s e) ∙ ap (λ (vs : List (Event What)). vs ++ passed t ∷ []) (sym (lived .told))
+
+  -- Request #107: a hit shows the last reply that filled its place, younger than its life. For each hit there is a line of this life, a reply that filled for what the request asks: it was not
+  -- refused, was no exception, and by the lines before it its id was outstanding and had asked the same unit, function, start and quantity, which was cacheable and not closed (`FillsIn`).
+  -- Since then no other reply filled for that read (`LatestIn`), no reply took its place, nothing that spoils the read was issued and no link was lost; and less has gone by than its life,
+  -- the smallest ttl of the tags in the range (`LastReplyIn`). The hit shows the bytes that were written at that line behind the caller's own id, with its length and its counts: all ten
+  -- numbers of the report and every byte of the buffer (`ShowsIn`).
+  pub a-hit-shows-the-last-reply : (c t : ℕ) (f o : List ℕ) {saw : Seen} {d″ : Device} → Called d′ (request c t f o) saw d″ → saw .report .outcome ≡ isHit
+      → (q : LastReplyIn (inForce from) d ls t (asking f)) × LatestIn (inForce from) d ls t (asking f) q × ShowsIn f o saw (q .line .saw)
+  a-hit-shows-the-last-reply c t f o s e =
+      let says = hit-says c t f o s e in
+      let a = claim.a-hit-shows-the-last-reply v xs c t f o _ _ _ says in
+      let q = last-line from ls fresh life t (asking f) (a .0) (a .1) in
+      (q .0, q .1, shows-seen f o _ _ (sees (request c t f o) s) (q .2) (claim.a-hit-is-this v xs c t f o _ _ _ says .listed) (a .2))
+
+  -- And never caching is no way out: after a line that is a reply that fills, and any later lines of which none issues what spoils it, loses the link or takes its place, every equal
+  -- request that is not refused and comes within its life is a hit that shows that reply.
+  pub a-reply-that-filled-is-shown : (c t : ℕ) (f o : List ℕ) {saw : Seen} {d″ : Device} → Called d′ (request c t f o) saw d″ → saw .report .refusal ≡ 0
+      → (q : LastReplyIn (inForce from) d ls t (asking f)) → ShowsIn f o saw (q .line .saw)
+  a-reply-that-filled-is-shown c t f o s z q =
+      let x = request c t f o in
+      let k = last-call from ls fresh life t (asking f) q in
+      let a = claim.a-reply-that-filled-is-shown v xs c t f o (k .0) (passes x s z) in
+      shows-seen f o _ _ (sees x s) (k .1) (claim.a-hit-is-this v xs c t f o _ _ _ (a .says) .listed) a
+
+  -- A reply that fills takes one of the 64 places of the device, and one only: its own key's, else the lowest that is empty or expired, else the oldest, ties to the lowest (`Takes`). It stands there
+  -- afterwards with its own time and the life of its read, and every other place is as it was (`Put`).
+  pub a-filling-reply-takes-one-place : (x : Line) {d″ : Device} → Called d′ (x .call) (x .saw) d″ → (w : What) (f : FillsIn (inForce from) ls x w)
+      → (p : ℕ) × (p < 64) × Takes (f .time) w (cacheIn d′) p × ((q : ℕ) → q < 64 → Takes (f .time) w (cacheIn d′) q → q ≡ p)
+      × Put (inForce from .tags) (f .start) (f .quantity) (f .time) w p (cacheIn d′) (cacheIn d″)
+  unfolding fills-call
+  a-filling-reply-takes-one-place x s w f =
+      let k = claim.a-filling-reply-takes-one-place v xs (x .call) w (fills-call v ls x (lived .told) (sees (x .call) s) w f) in
+      let same = cache-is from ls fresh life ls d′ life in
+      let force = ap (λ (y : Value). y .tags) (claim.the-settings-in-force-stay v xs) in
+      let put = subst (λ (ts : List Tag). Put ts (f .start) (f .quantity) (f .time) w (k .0) (afterCalls v xs .cache) (outcome (afterCalls v xs) (x .call) .after .cache)) force (k .4) in
+      rw (same, cache-after x s) (k .0, k .1, k .2, k .3, put)
+
+  -- One key stands in at most one place of the device.
+  pub one-key-one-place : (j k : ℕ) (h e : Cached) → inCache (cacheIn d′) j ≡ some h → inCache (cacheIn d′) k ≡ some e → h .what ≡ e .what → j ≡ k
+  one-key-one-place j k h e a b =
+      let same = cache-is from ls fresh life ls d′ life in
+      claim.one-key-one-place v xs j k h e (rw same at a) (rw same at b)
+
+  -- And nothing but a reply that fills puts anything in: what stands in a place after a call stood there before, or the call is a reply that filled for it and took that place.
+  pub nothing-else-puts-anything-in : (x : Line) {d″ : Device} → Called d′ (x .call) (x .saw) d″ → (k : ℕ) (e : Cached) → inCache (cacheIn d″) k ≡ some e
+      → (inCache (cacheIn d′) k ≡ some e)
+      ⊎ ((f : FillsIn (inForce from) ls x (e .what)) × Takes (f .time) (e .what) (cacheIn d′) k × KeptFor (inForce from .tags) (f .start) (f .quantity) (f .time) e)
+  unfolding fills-line
+  nothing-else-puts-anything-in x s k e h =
+      let same = cache-is from ls fresh life ls d′ life in
+      let force = ap (λ (y : Value). y .tags) (claim.the-settings-in-force-stay v xs) in
+      rw same
+      (⊎-elim inl (λ y. inr (fills-line v ls x (lived .told) (sees (x .call) s) (e .what) (y .0), y .1, rw force at (y .2)))
+      (claim.nothing-else-puts-anything-in v xs (x .call) k e (rw (cache-after x s) at h)))
+
+  -- A place whose reply is another after a call was taken by that call, a reply that fills; and if what stood there was fresh, only by a reply with its own key, or by one whose key stood nowhere while
+  -- all 64 were fresh; then it was the one filled earliest, ties to the lowest.
+  pub when-a-fresh-place-is-taken : (x : Line) {d″ : Device} → Called d′ (x .call) (x .saw) d″ → (p : ℕ) (h e : Cached) → inCache (cacheIn d′) p ≡ some h → inCache (cacheIn d″) p ≡ some e → (e ≡ h → ⊥)
+      → (f : FillsIn (inForce from) ls x (e .what))
+      × (f .time - h .filled < h .life
+      → (h .what ≡ e .what)
+      ⊎ (((k : ℕ) → k < 64 → Keyed (e .what) (inCache (cacheIn d′) k) → ⊥) × ((k : ℕ) → k < 64 → Fresh (f .time) (inCache (cacheIn d′) k))
+      × ((k : ℕ) (y : Cached) → k < 64 → inCache (cacheIn d′) k ≡ some y → (h .filled ≤ y .filled) × (k < p → h .filled < y .filled))))
+  unfolding fills-line
+  when-a-fresh-place-is-taken x s p h e was is other =
+      let same = cache-is from ls fresh life ls d′ life in
+      let w = claim.when-a-fresh-place-is-taken v xs (x .call) p h e (rw same at was) (rw (cache-after x s) at is) other in
+      rw same (fills-line v ls x (lived .told) (sees (x .call) s) (e .what) (w .0), w .1)
+
+  -- Whoever hits gets, of as many bytes as the report says, a frame that is not refused, carries its own id, comes from the unit and is of the function that it asked, and answers it.
+  pub a-hits-frame : (c t : ℕ) (f o : List ℕ) {saw : Seen} {d″ : Device} → Called d′ (request c t f o) saw d″ → saw .report .outcome ≡ isHit
+      → PartysFrame (asking f) (asker c f) (take (saw .report .length) (saw .frame))
+  a-hits-frame c t f o s e = rw (sees (request c t f o) s) (claim.a-hits-frame v xs c t f o _ _ _ (hit-says c t f o s e))
+
+  -- And it counts no tag that is raw for partial cover: each register lies in a tag wholly inside the range, and tags do not overlap.
+  pub a-hit-cuts-no-tag : (c t : ℕ) (f o : List ℕ) {saw : Seen} {d″ : Device} → Called d′ (request c t f o) saw d″ → saw .report .outcome ≡ isHit → saw .report .partial ≡ 0
+  a-hit-cuts-no-tag c t f o s e = claim.a-hit-cuts-no-tag v xs (adopted-valid (valueOf from)) c t f o _ _ _ (hit-says c t f o s e)
 
   -- Tender 3: live proxy ids differ, place by place of the device.
   pub live-ids-differ : (i j : ℕ) → (getD (d′ .ids) i 0 ≡ 0 → ⊥) → getD (d′ .ids) i 0 ≡ getD (d′ .ids) j 0 → i ≡ j

@@ -22,11 +22,13 @@ use Rattle.device.specs.declared.Device.{Device}
 use Rattle.device.specs.Fields.{stateOf}
 use Rattle.device.specs.Device.{MadeDevice}
 use Rattle.zilborteka.specs.Lives.{machineIn, LiveIn}
+use Rattle.zilborteka.specs.Cached.{cacheIn}
 
--- The machine that a device is has the device's own set of clients, cursor and clock.
-pub own-fields : (d : Device) → (machineIn d .attached ≡ d .attached) × (machineIn d .book .cursor ≡ d .cursor) × (machineIn d .book .clock ≡ d .clock)
+-- The machine that a device is has the device's own set of clients, cursor, clock and cache.
+pub own-fields : (d : Device)
+    → (machineIn d .attached ≡ d .attached) × (machineIn d .book .cursor ≡ d .cursor) × (machineIn d .book .clock ≡ d .clock) × (machineIn d .cache ≡ cacheIn d)
 unfolding machineIn
-own-fields d = (refl, refl, refl)
+own-fields d = (refl, refl, refl, refl)
 
 module _ (d : Device) (made : MadeDevice d) where
   -- A place whose id is not 0 is live, and holds what its columns say.

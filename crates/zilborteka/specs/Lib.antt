@@ -1,2 +1,3 @@
 pub mod Lives
 pub mod Handed
+pub mod Cached

@@ -83,7 +83,10 @@ pub record AsTheMachine (v : Value) (ls : List Line) (d′ : Device) : Type 0 wh
 abbrev pub outcomeIn : Answer → Seen → Device → Outcome
 outcomeIn a saw e = done a (machineIn e) (saw .frame) (saw .list)
 
--- the answers that the report of an issue, a join and an exception tells
+-- the answers that the report of a hit, an issue, a join and an exception tells
+abbrev pub hitIn : Report → Answer
+hitIn r = answer.Hit (r .length) (r .partial) (r .value)
+
 abbrev pub issueIn : Report → Answer
 issueIn r = answer.Issued (record { 0 = r .id }) (r .length) (r .partial) (r .value)
 

@@ -34,6 +34,7 @@ pub extern "C" fn zb_settings_write(from: &Settings, text: &mut [u8]) -> Report
         &from.addr,
         &from.width,
         &from.sign,
+        &from.ttl,
         text,
     )
 }

@@ -31,12 +31,15 @@ pub extern "C" fn zb_fresh(st: &mut Device, from: &Settings) -> Report
         &mut st.join,
         &mut st.tag_count,
         &mut st.tag_words,
+        &mut st.cache,
+        &mut st.shown,
         &from.timeout,
         &from.join,
         &from.tags,
         &from.addr,
         &from.width,
         &from.sign,
+        &from.ttl,
     ))
 }
 
@@ -93,6 +96,8 @@ pub extern "C" fn zb_request(
         &mut st.join,
         &mut st.tag_count,
         &mut st.tag_words,
+        &mut st.cache,
+        &mut st.shown,
         client,
         time,
         frame,
@@ -126,6 +131,8 @@ pub extern "C" fn zb_reply(
         &mut st.join,
         &mut st.tag_count,
         &mut st.tag_words,
+        &mut st.cache,
+        &mut st.shown,
         time,
         frame,
         out,
@@ -161,7 +168,12 @@ pub extern "C" fn zb_link_lost(st: &mut Device) -> Report
     requires { ⌜ MadeDevice (now st) ⌝ }
     ensures { λ r. ⌜ Served (now (st .entry)) (linkLost) r (now (st .exit)) [] [] ⌝ }
 {
-    reports::report_of(proxy::attaching::link_lost(&mut st.ids, &mut st.top, &mut st.attached))
+    reports::report_of(proxy::attaching::link_lost(
+        &mut st.ids,
+        &mut st.top,
+        &mut st.attached,
+        &mut st.cache,
+    ))
 }
 
 // How many requests are live, and the earliest deadline of them: a host sleeps until then.

@@ -7,7 +7,7 @@ use Rattle.caching.proofs.drop_met.Statement.{statement}
 use Rattle.caching.proofs.drop_met.Tie as tie
 
 returns : tie.Need-returns
-returns c w unit what = dropped-all _ _ _ (dropped-read _ _ _ _ _ (what ∙ c .enum-told .given .1))
+returns c w unit what = dropped-all _ _ _ (dropped-read _ _ _ _ _ _ (what ∙ c .enum-told .given .1))
 
 pub drop-met-spec : {M : Type 1} → statement M
 drop-met-spec =

@@ -13,14 +13,14 @@ returns c shown s =
     let b = c .before .before in
     let a = b .args in
     let own = c .before .own-place in
-    sym (hit-found (now (a .cache)) shown s (a .word) (a .time) (own .result) (b .pre) (own .ensures) ∙ rw (le-ltb (own .result) 64 (c .if1 .taken)))
+    sym (hit-found (now (a .cache)) shown s (a .word) (a .time) (own .result) (b .pre .0) (own .ensures) ∙ rw (le-ltb (own .result) 64 (c .if1 .taken)))
 
 returns-2 : tie.Need-returns-2
 returns-2 c shown s =
     let o = c .before .before .before in
     let a = o .before .args in
     let own = o .own-place in
-    sym (hit-found (now (a .cache)) shown s (a .word) (a .time) (own .result) (o .before .pre) (own .ensures)
+    sym (hit-found (now (a .cache)) shown s (a .word) (a .time) (own .result) (o .before .pre .0) (own .ensures)
     ∙ rw (lt-ltb (own .result) 64 (c .before .before .if1 .left), sym (c .before .is-fresh .ensures) ∙ c .if2 .taken))
 
 returns-3 : tie.Need-returns-3
@@ -28,7 +28,7 @@ returns-3 c shown s =
     let o = c .before .before .before in
     let a = o .before .args in
     let own = o .own-place in
-    sym (hit-found (now (a .cache)) shown s (a .word) (a .time) (own .result) (o .before .pre) (own .ensures)
+    sym (hit-found (now (a .cache)) shown s (a .word) (a .time) (own .result) (o .before .pre .0) (own .ensures)
     ∙ rw (lt-ltb (own .result) 64 (c .before .before .if1 .left), sym (c .before .is-fresh .ensures) ∙ c .if2 .left))
 
 pub hit-place-spec : {M : Type 1} → statement M

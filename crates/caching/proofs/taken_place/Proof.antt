@@ -9,20 +9,20 @@ use Rattle.caching.proofs.taken_place.Tie as tie
 returns : tie.Need-returns
 returns c shown s =
     let b = c .before .before in
-    taken-own (now (b .args .cache)) shown s (b .args .word) (b .args .time) (b .pre) (c .before .own-place .ensures) (c .if1 .taken)
+    taken-own (now (b .args .cache)) shown s (b .args .word) (b .args .time) (b .pre .0) (c .before .own-place .ensures) (c .if1 .taken)
 
 returns-2 : tie.Need-returns-2
 returns-2 c shown s =
     let own = c .before .before .before in
     let b = own .before in
-    taken-spare (now (b .args .cache)) shown s (b .args .word) (b .args .time) (b .pre) (own .own-place .ensures) (c .before .before .if1 .left) (c .before .spare-place .ensures) (c .if2 .taken)
+    taken-spare (now (b .args .cache)) shown s (b .args .word) (b .args .time) (b .pre .0) (own .own-place .ensures) (c .before .before .if1 .left) (c .before .spare-place .ensures) (c .if2 .taken)
 
 returns-3 : tie.Need-returns-3
 returns-3 c shown s =
     let spare = c .before .before in
     let own = spare .before .before in
     let b = own .before in
-    taken-oldest (now (b .args .cache)) shown s (b .args .word) (b .args .time) (b .pre) (own .own-place .ensures) (spare .before .if1 .left) (spare .spare-place .ensures) (c .before .if2 .left)
+    taken-oldest (now (b .args .cache)) shown s (b .args .word) (b .args .time) (b .pre .0) (own .own-place .ensures) (spare .before .if1 .left) (spare .spare-place .ensures) (c .before .if2 .left)
     (c .oldest-place .ensures)
 
 pub taken-place-spec : {M : Type 1} → statement M

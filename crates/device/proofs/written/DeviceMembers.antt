@@ -56,12 +56,18 @@ m-tag-count = record { row = u32; ty = tyInt w32 }
 abbrev pub m-tag-words : Member
 m-tag-words = record { row = Array u64 256; ty = tyArray (tyInt w64) 256 }
 
+abbrev pub m-cache : Member
+m-cache = record { row = Array u64 193; ty = tyArray (tyInt w64) 193 }
+
+abbrev pub m-shown : Member
+m-shown = record { row = Array u8 16384; ty = tyArray (tyInt w8) 16384 }
+
 abbrev pub ms : List Member
-ms = m-ids ∷ m-asked ∷ m-callers ∷ m-deadlines ∷ m-counts ∷ m-clients ∷ m-originals ∷ m-top ∷ m-cursor ∷ m-attached ∷ m-clock ∷ m-timeout ∷ m-join ∷ m-tag-count ∷ m-tag-words ∷ []
+ms = m-ids ∷ m-asked ∷ m-callers ∷ m-deadlines ∷ m-counts ∷ m-clients ∷ m-originals ∷ m-top ∷ m-cursor ∷ m-attached ∷ m-clock ∷ m-timeout ∷ m-join ∷ m-tag-count ∷ m-tag-words ∷ m-cache ∷ m-shown ∷ []
 
 abbrev pub tuple : Device → Denots (rowsOf ms)
-tuple h = (h .ids, (h .asked, (h .callers, (h .deadlines, (h .counts, (h .clients, (h .originals, (h .top, (h .cursor, (h .attached, (h .clock, (h .timeout, (h .join, (h .«tag_count», (h .«tag_words», tt)))))))))))))))
+tuple h = (h .ids, (h .asked, (h .callers, (h .deadlines, (h .counts, (h .clients, (h .originals, (h .top, (h .cursor, (h .attached, (h .clock, (h .timeout, (h .join, (h .«tag_count», (h .«tag_words», (h .cache, (h .shown, tt)))))))))))))))))
 
 -- a field that is an array stands in the struct's value as `map (λ x. x)` of its list
 pub to-tuple : (h : Device) → T.the-type .to h ≡ tuple h
-to-tuple h = λ i. (map-id (h .ids) i, (map-id (h .asked) i, (map-id (h .callers) i, (map-id (h .deadlines) i, (map-id (h .counts) i, (map-id (h .clients) i, (map-id (h .originals) i, (h .top, (h .cursor, (h .attached, (h .clock, (h .timeout, (h .join, (h .«tag_count», (map-id (h .«tag_words») i, tt)))))))))))))))
+to-tuple h = λ i. (map-id (h .ids) i, (map-id (h .asked) i, (map-id (h .callers) i, (map-id (h .deadlines) i, (map-id (h .counts) i, (map-id (h .clients) i, (map-id (h .originals) i, (h .top, (h .cursor, (h .attached, (h .clock, (h .timeout, (h .join, (h .«tag_count», (map-id (h .«tag_words») i, (map-id (h .cache) i, (map-id (h .shown) i, tt)))))))))))))))))

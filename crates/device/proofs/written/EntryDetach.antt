@@ -68,7 +68,7 @@ CorePre = List ℕ → List ℕ → List ℕ → ℕ → ℕ → ℕ → Type 0
 
 -- what is lent
 abbrev uses : List Use
-uses = stay MS.m-ids ∷ stay MS.m-asked ∷ stay MS.m-callers ∷ stay MS.m-deadlines ∷ lend MS.m-counts ∷ lend MS.m-clients ∷ lend MS.m-originals ∷ lend MS.m-top ∷ stay MS.m-cursor ∷ lend MS.m-attached ∷ stay MS.m-clock ∷ stay MS.m-timeout ∷ stay MS.m-join ∷ stay MS.m-tag-count ∷ stay MS.m-tag-words ∷ []
+uses = stay MS.m-ids ∷ stay MS.m-asked ∷ stay MS.m-callers ∷ stay MS.m-deadlines ∷ lend MS.m-counts ∷ lend MS.m-clients ∷ lend MS.m-originals ∷ lend MS.m-top ∷ stay MS.m-cursor ∷ lend MS.m-attached ∷ stay MS.m-clock ∷ stay MS.m-timeout ∷ stay MS.m-join ∷ stay MS.m-tag-count ∷ stay MS.m-tag-words ∷ stay MS.m-cache ∷ stay MS.m-shown ∷ []
 
 infixr 1 _$ₛ_
 abbrev _$ₛ_ : (Code → Code) → Code → Code
@@ -154,7 +154,7 @@ module _ {M : Type 1} (𝓤 : URA M) (Rc : CoreRel) (Pc : CorePre) where
 abbrev stayed : Stays (ended .signature .params) (ended .kept)
 stayed = (stay-ref (0 ∷ []) tt (plain (λ _. T.the-row)), (stay-dropped (plain (λ κs. u32)) yes, tt))
 
-module _ {M : Type 1} (𝓤 : URA M) (H : Heap 𝓤) (A : Atoms 𝓤) (W : Given 𝓤 H A) (g k : Name) (R : Rel) (Pe : Pre) (Rc : CoreRel) (Pc : CorePre) (Rk : TellerRel) (imp : ((h : Device) (p0 : ℕ) (r : Answer) (w0 : List ℕ) (w1 : List ℕ) (w2 : List ℕ) (w3 : ℕ) (w4 : ℕ) → Pe h p0 → Rc (h .counts) (h .clients) (h .originals) (h .top) (h .attached) p0 r w0 w1 w2 w3 w4 → (r′ : Report) → Rk r r′ → R h p0 r′ (record { ids = h .ids; asked = h .asked; callers = h .callers; deadlines = h .deadlines; counts = w0; clients = w1; originals = w2; top = w3; cursor = h .cursor; attached = w4; clock = h .clock; timeout = h .timeout; join = h .join; «tag_count» = h .«tag_count»; «tag_words» = h .«tag_words» }))) (pimp : ((h : Device) (p0 : ℕ) → Pe h p0 → Pc (h .counts) (h .clients) (h .originals) (h .top) (h .attached) p0)) (κ0 : Lft) (q0 : Share) (b o : ℕ) (γ : GName) (h : Device) (p0 : ℕ) (fit0 : p0 < 2 ^ 32) (ok : Pe h p0) (pre : Pc (h .counts) (h .clients) (h .originals) (h .top) (h .attached) p0) where
+module _ {M : Type 1} (𝓤 : URA M) (H : Heap 𝓤) (A : Atoms 𝓤) (W : Given 𝓤 H A) (g k : Name) (R : Rel) (Pe : Pre) (Rc : CoreRel) (Pc : CorePre) (Rk : TellerRel) (imp : ((h : Device) (p0 : ℕ) (r : Answer) (w0 : List ℕ) (w1 : List ℕ) (w2 : List ℕ) (w3 : ℕ) (w4 : ℕ) → Pe h p0 → Rc (h .counts) (h .clients) (h .originals) (h .top) (h .attached) p0 r w0 w1 w2 w3 w4 → (r′ : Report) → Rk r r′ → R h p0 r′ (record { ids = h .ids; asked = h .asked; callers = h .callers; deadlines = h .deadlines; counts = w0; clients = w1; originals = w2; top = w3; cursor = h .cursor; attached = w4; clock = h .clock; timeout = h .timeout; join = h .join; «tag_count» = h .«tag_count»; «tag_words» = h .«tag_words»; cache = h .cache; shown = h .shown }))) (pimp : ((h : Device) (p0 : ℕ) → Pe h p0 → Pc (h .counts) (h .clients) (h .originals) (h .top) (h .attached) p0)) (κ0 : Lft) (q0 : Share) (b o : ℕ) (γ : GName) (h : Device) (p0 : ℕ) (fit0 : p0 < 2 ^ 32) (ok : Pe h p0) (pre : Pc (h .counts) (h .clients) (h .originals) (h .top) (h .attached) p0) where
   -- the parameters that go on to the core as they are
   abbrev Tail : List RattleType
   Tail = u32 ∷ []
@@ -215,7 +215,7 @@ module _ {M : Type 1} (𝓤 : URA M) (H : Heap 𝓤) (A : Atoms 𝓤) (W : Given
         use1 W (some (λ (ws : (List ℕ × (List ℕ × (List ℕ × (ℕ × (ℕ × (Unit {0} × Unit {0}))))))). ‵ (finals (named 0) (ν ∷ []) uses γs (ws .0, (ws .1 .0, (ws .1 .1 .0, (ws .1 .1 .1 .0, (ws .1 .1 .1 .1 .0, tt))))) (fsep ftrue ftrue)) ⊛ raw (fact 𝓤 (Rc (h .counts) (h .clients) (h .originals) (h .top) (h .attached) p0 r (ws .0) (ws .1 .0) (ws .1 .1 .0) (ws .1 .1 .1 .0) (ws .1 .1 .1 .1 .0))))) (id⊢ 𝓤 _) $ pick ! (λ ws. split ! $ move ! (1 ∷ []) $
         heard ! (Rc (h .counts) (h .clients) (h .originals) (h .top) (h .attached) p0 r (ws .0) (ws .1 .0) (ws .1 .1 .0) (ws .1 .1 .1 .0) (ws .1 .1 .1 .1 .0)) (λ e. move ! (1 ∷ []) $ split ! $ split ! $ lft-end ! tt $ move ! (0 ∷ 4 ∷ 3 ∷ []) $
         use3 W (later (‵ (partsAt fullShare MS.ms zero (after uses (MS.tuple h) (ws .0, (ws .1 .0, (ws .1 .1 .0, (ws .1 .1 .1 .0, (ws .1 .1 .1 .1 .0, tt)))))) b o) ⊛ ‵ (fsep ftrue ftrue))) (back-all (named 0) (ν ∷ []) 𝓤 H A W b o uses zero γs (MS.tuple h) (ws .0, (ws .1 .0, (ws .1 .1 .0, (ws .1 .1 .1 .0, (ws .1 .1 .1 .1 .0, tt))))) (fsep ftrue ftrue)) $ await ! tt $ split ! $
-        move ! (0 ∷ 4 ∷ 5 ∷ 6 ∷ 7 ∷ []) $ gives ! tt (record { ids = h .ids; asked = h .asked; callers = h .callers; deadlines = h .deadlines; counts = (ws .0); clients = (ws .1 .0); originals = (ws .1 .1 .0); top = (ws .1 .1 .1 .0); cursor = h .cursor; attached = (ws .1 .1 .1 .1 .0); clock = h .clock; timeout = h .timeout; join = h .join; «tag_count» = h .«tag_count»; «tag_words» = h .«tag_words» }) b o $
+        move ! (0 ∷ 4 ∷ 5 ∷ 6 ∷ 7 ∷ []) $ gives ! tt (record { ids = h .ids; asked = h .asked; callers = h .callers; deadlines = h .deadlines; counts = (ws .0); clients = (ws .1 .0); originals = (ws .1 .1 .0); top = (ws .1 .1 .1 .0); cursor = h .cursor; attached = (ws .1 .1 .1 .1 .0); clock = h .clock; timeout = h .timeout; join = h .join; «tag_count» = h .«tag_count»; «tag_words» = h .«tag_words»; cache = h .cache; shown = h .shown }) b o $
         move ! (3 ∷ []) $ fsplit ! $ drop ! $ drop ! $
         -- what came of it is told
         move ! (4 ∷ []) $ peeks ! Mid.the-row (Is Mid.the-row) (shows 𝓤 H A Mid.the-row) r (v ∷ []) (λ ism. land ! (from ! (stop !)) (init ! 15 refl (EL.lawful Mid.the-type Mid′.the-laws 𝓤 H A W tt .typed r _ ism .0)) $
@@ -227,9 +227,9 @@ module _ {M : Type 1} (𝓤 : URA M) (H : Heap 𝓤) (A : Atoms 𝓤) (W : Given
         move ! (0 ∷ 1 ∷ 2 ∷ 3 ∷ 4 ∷ []) $ land ! (from ! (stop !)) (init ! 21 refl (LL.lawful Res.the-type Res′.the-laws 𝓤 H A W .typed r′ _ is .0)) $
         returns ! (look ! 21 refl) $ forget ! 5 refl $ forget ! 7 refl $ forget ! 9 refl $ forget ! 11 refl $ forget ! 13 refl $ forget ! 15 refl $ forget ! 17 refl $ forget ! 19 refl $ forget ! 21 refl $
         move ! (21 ∷ 22 ∷ []) $ free1 ! $ move ! (19 ∷ 20 ∷ []) $ free1 ! $ move ! (17 ∷ 18 ∷ []) $ free1 ! $ move ! (15 ∷ 16 ∷ []) $ free1 ! $ move ! (13 ∷ 14 ∷ []) $ free1 ! $ move ! (11 ∷ 12 ∷ []) $ free1 ! $ move ! (9 ∷ 10 ∷ []) $ free1 ! $ move ! (7 ∷ 8 ∷ []) $ free1 ! $ move ! (5 ∷ 6 ∷ []) $ free1 ! $ free0 ! $
-        keep ! (0 ∷ 1 ∷ 2 ∷ 3 ∷ 4 ∷ []) $ by ! (exits r′ v′ (record { ids = h .ids; asked = h .asked; callers = h .callers; deadlines = h .deadlines; counts = (ws .0); clients = (ws .1 .0); originals = (ws .1 .1 .0); top = (ws .1 .1 .1 .0); cursor = h .cursor; attached = (ws .1 .1 .1 .1 .0); clock = h .clock; timeout = h .timeout; join = h .join; «tag_count» = h .«tag_count»; «tag_words» = h .«tag_words» }) (imp h p0 r (ws .0) (ws .1 .0) (ws .1 .1 .0) (ws .1 .1 .1 .0) (ws .1 .1 .1 .1 .0) ok e r′ e′)))))))))))))))))))))))
+        keep ! (0 ∷ 1 ∷ 2 ∷ 3 ∷ 4 ∷ []) $ by ! (exits r′ v′ (record { ids = h .ids; asked = h .asked; callers = h .callers; deadlines = h .deadlines; counts = (ws .0); clients = (ws .1 .0); originals = (ws .1 .1 .0); top = (ws .1 .1 .1 .0); cursor = h .cursor; attached = (ws .1 .1 .1 .1 .0); clock = h .clock; timeout = h .timeout; join = h .join; «tag_count» = h .«tag_count»; «tag_words» = h .«tag_words»; cache = h .cache; shown = h .shown }) (imp h p0 r (ws .0) (ws .1 .0) (ws .1 .1 .0) (ws .1 .1 .1 .0) (ws .1 .1 .1 .1 .0) ok e r′ e′)))))))))))))))))))))))
 
-module _ {M : Type 1} (𝓤 : URA M) (H : Heap 𝓤) (A : Atoms 𝓤) (W : Given 𝓤 H A) (g k : Name) (R : Rel) (Pe : Pre) (Rc : CoreRel) (Pc : CorePre) (Rk : TellerRel) (imp : ((h : Device) (p0 : ℕ) (r : Answer) (w0 : List ℕ) (w1 : List ℕ) (w2 : List ℕ) (w3 : ℕ) (w4 : ℕ) → Pe h p0 → Rc (h .counts) (h .clients) (h .originals) (h .top) (h .attached) p0 r w0 w1 w2 w3 w4 → (r′ : Report) → Rk r r′ → R h p0 r′ (record { ids = h .ids; asked = h .asked; callers = h .callers; deadlines = h .deadlines; counts = w0; clients = w1; originals = w2; top = w3; cursor = h .cursor; attached = w4; clock = h .clock; timeout = h .timeout; join = h .join; «tag_count» = h .«tag_count»; «tag_words» = h .«tag_words» }))) (pimp : ((h : Device) (p0 : ℕ) → Pe h p0 → Pc (h .counts) (h .clients) (h .originals) (h .top) (h .attached) p0)) where
+module _ {M : Type 1} (𝓤 : URA M) (H : Heap 𝓤) (A : Atoms 𝓤) (W : Given 𝓤 H A) (g k : Name) (R : Rel) (Pe : Pre) (Rc : CoreRel) (Pc : CorePre) (Rk : TellerRel) (imp : ((h : Device) (p0 : ℕ) (r : Answer) (w0 : List ℕ) (w1 : List ℕ) (w2 : List ℕ) (w3 : ℕ) (w4 : ℕ) → Pe h p0 → Rc (h .counts) (h .clients) (h .originals) (h .top) (h .attached) p0 r w0 w1 w2 w3 w4 → (r′ : Report) → Rk r r′ → R h p0 r′ (record { ids = h .ids; asked = h .asked; callers = h .callers; deadlines = h .deadlines; counts = w0; clients = w1; originals = w2; top = w3; cursor = h .cursor; attached = w4; clock = h .clock; timeout = h .timeout; join = h .join; «tag_count» = h .«tag_count»; «tag_words» = h .«tag_words»; cache = h .cache; shown = h .shown }))) (pimp : ((h : Device) (p0 : ℕ) → Pe h p0 → Pc (h .counts) (h .clients) (h .originals) (h .top) (h .attached) p0)) where
   entry-walks : (C : Calls 𝓤 H) (Λ : Loops 𝓤 H) → FmC 𝓤 H (W .laws) C → Triple 𝓤 (C g) (Core 𝓤 Rc Pc H A) → Triple 𝓤 (C k) (Teller 𝓤 Rk H A) → Walks 𝓤 H A ended stayed (WpFn 𝓤 H C Λ (function g k)) (clauses 𝓤 R Pe)
   entry-walks C Λ fm known tells = walked 𝓤 H A ended stayed (clauses 𝓤 R Pe) (WpFn 𝓤 H C Λ (function g k)) (λ κs. (ptr-vals, (uint-vals w32, tt)))
       (λ κs. (mut-tells (named 0) (κs .0) T.the-row, (uint-tells w32, tt)))

@@ -60,7 +60,7 @@ CorePre = List ℕ → List ℕ → ℕ → Type 0
 
 -- what is shared
 abbrev shown : List Use
-shown = lend MS0.m-ids ∷ stay MS0.m-asked ∷ stay MS0.m-callers ∷ lend MS0.m-deadlines ∷ stay MS0.m-counts ∷ stay MS0.m-clients ∷ stay MS0.m-originals ∷ lend MS0.m-top ∷ stay MS0.m-cursor ∷ stay MS0.m-attached ∷ stay MS0.m-clock ∷ stay MS0.m-timeout ∷ stay MS0.m-join ∷ stay MS0.m-tag-count ∷ stay MS0.m-tag-words ∷ []
+shown = lend MS0.m-ids ∷ stay MS0.m-asked ∷ stay MS0.m-callers ∷ lend MS0.m-deadlines ∷ stay MS0.m-counts ∷ stay MS0.m-clients ∷ stay MS0.m-originals ∷ lend MS0.m-top ∷ stay MS0.m-cursor ∷ stay MS0.m-attached ∷ stay MS0.m-clock ∷ stay MS0.m-timeout ∷ stay MS0.m-join ∷ stay MS0.m-tag-count ∷ stay MS0.m-tag-words ∷ stay MS0.m-cache ∷ stay MS0.m-shown ∷ []
 
 infixr 1 _$ₛ_
 abbrev _$ₛ_ : (Code → Code) → Code → Code

@@ -71,7 +71,7 @@ CorePre = List ℕ → List ℕ → List ℕ → List ℕ → List ℕ → List 
 
 -- what is lent
 abbrev uses : List Use
-uses = lend MS.m-ids ∷ lend MS.m-asked ∷ lend MS.m-callers ∷ lend MS.m-deadlines ∷ lend MS.m-counts ∷ lend MS.m-clients ∷ lend MS.m-originals ∷ lend MS.m-top ∷ stay MS.m-cursor ∷ stay MS.m-attached ∷ lend MS.m-clock ∷ stay MS.m-timeout ∷ stay MS.m-join ∷ stay MS.m-tag-count ∷ stay MS.m-tag-words ∷ []
+uses = lend MS.m-ids ∷ lend MS.m-asked ∷ lend MS.m-callers ∷ lend MS.m-deadlines ∷ lend MS.m-counts ∷ lend MS.m-clients ∷ lend MS.m-originals ∷ lend MS.m-top ∷ stay MS.m-cursor ∷ stay MS.m-attached ∷ lend MS.m-clock ∷ stay MS.m-timeout ∷ stay MS.m-join ∷ stay MS.m-tag-count ∷ stay MS.m-tag-words ∷ stay MS.m-cache ∷ stay MS.m-shown ∷ []
 
 infixr 1 _$ₛ_
 abbrev _$ₛ_ : (Code → Code) → Code → Code
@@ -175,7 +175,7 @@ module _ {M : Type 1} (𝓤 : URA M) (Rc : CoreRel) (Pc : CorePre) where
 abbrev stayed : Stays (ended .signature .params) (ended .kept)
 stayed = (stay-ref (0 ∷ []) tt (plain (λ _. T.the-row)), (stay-dropped (plain (λ κs. u64)) yes, (gave-slice (1 ∷ []) tt (plain (λ _. u8)), (gave-slice (2 ∷ []) tt (plain (λ _. u16)), tt))))
 
-module _ {M : Type 1} (𝓤 : URA M) (H : Heap 𝓤) (A : Atoms 𝓤) (W : Given 𝓤 H A) (g k : Name) (R : Rel) (Pe : Pre) (Rc : CoreRel) (Pc : CorePre) (Rk : TellerRel) (imp : ((h : Device) (p0 : ℕ) (p1 : List ℕ) (p2 : List ℕ) (r : Answer) (w0 : List ℕ) (w1 : List ℕ) (w2 : List ℕ) (w3 : List ℕ) (w4 : List ℕ) (w5 : List ℕ) (w6 : List ℕ) (w7 : ℕ) (w8 : ℕ) (z1 : List ℕ) (z2 : List ℕ) → Pe h p0 p1 p2 → Rc (h .ids) (h .asked) (h .callers) (h .deadlines) (h .counts) (h .clients) (h .originals) (h .top) (h .clock) p0 p1 p2 r w0 w1 w2 w3 w4 w5 w6 w7 w8 z1 z2 → (r′ : Report) → Rk r r′ → R h p0 p1 p2 r′ (record { ids = w0; asked = w1; callers = w2; deadlines = w3; counts = w4; clients = w5; originals = w6; top = w7; cursor = h .cursor; attached = h .attached; clock = w8; timeout = h .timeout; join = h .join; «tag_count» = h .«tag_count»; «tag_words» = h .«tag_words» }) z1 z2)) (pimp : ((h : Device) (p0 : ℕ) (p1 : List ℕ) (p2 : List ℕ) → Pe h p0 p1 p2 → Pc (h .ids) (h .asked) (h .callers) (h .deadlines) (h .counts) (h .clients) (h .originals) (h .top) (h .clock) p0 p1 p2)) (κ0 κ1 κ2 : Lft) (q0 q1 q2 : Share) (b o : ℕ) (γ : GName) (h : Device) (p0 : ℕ) (fit0 : p0 < 2 ^ 64) (p1 : RefT (List ℕ)) (fit1 : Room u8 (length (p1 .now))) (p2 : RefT (List ℕ)) (fit2 : Room u16 (length (p2 .now))) (ok : Pe h p0 (p1 .now) (p2 .now)) (pre : Pc (h .ids) (h .asked) (h .callers) (h .deadlines) (h .counts) (h .clients) (h .originals) (h .top) (h .clock) p0 (p1 .now) (p2 .now)) where
+module _ {M : Type 1} (𝓤 : URA M) (H : Heap 𝓤) (A : Atoms 𝓤) (W : Given 𝓤 H A) (g k : Name) (R : Rel) (Pe : Pre) (Rc : CoreRel) (Pc : CorePre) (Rk : TellerRel) (imp : ((h : Device) (p0 : ℕ) (p1 : List ℕ) (p2 : List ℕ) (r : Answer) (w0 : List ℕ) (w1 : List ℕ) (w2 : List ℕ) (w3 : List ℕ) (w4 : List ℕ) (w5 : List ℕ) (w6 : List ℕ) (w7 : ℕ) (w8 : ℕ) (z1 : List ℕ) (z2 : List ℕ) → Pe h p0 p1 p2 → Rc (h .ids) (h .asked) (h .callers) (h .deadlines) (h .counts) (h .clients) (h .originals) (h .top) (h .clock) p0 p1 p2 r w0 w1 w2 w3 w4 w5 w6 w7 w8 z1 z2 → (r′ : Report) → Rk r r′ → R h p0 p1 p2 r′ (record { ids = w0; asked = w1; callers = w2; deadlines = w3; counts = w4; clients = w5; originals = w6; top = w7; cursor = h .cursor; attached = h .attached; clock = w8; timeout = h .timeout; join = h .join; «tag_count» = h .«tag_count»; «tag_words» = h .«tag_words»; cache = h .cache; shown = h .shown }) z1 z2)) (pimp : ((h : Device) (p0 : ℕ) (p1 : List ℕ) (p2 : List ℕ) → Pe h p0 p1 p2 → Pc (h .ids) (h .asked) (h .callers) (h .deadlines) (h .counts) (h .clients) (h .originals) (h .top) (h .clock) p0 p1 p2)) (κ0 κ1 κ2 : Lft) (q0 q1 q2 : Share) (b o : ℕ) (γ : GName) (h : Device) (p0 : ℕ) (fit0 : p0 < 2 ^ 64) (p1 : RefT (List ℕ)) (fit1 : Room u8 (length (p1 .now))) (p2 : RefT (List ℕ)) (fit2 : Room u16 (length (p2 .now))) (ok : Pe h p0 (p1 .now) (p2 .now)) (pre : Pc (h .ids) (h .asked) (h .callers) (h .deadlines) (h .counts) (h .clients) (h .originals) (h .top) (h .clock) p0 (p1 .now) (p2 .now)) where
   -- the parameters that go on to the core as they are
   abbrev Tail : List RattleType
   Tail = u64 ∷ MutSlice (named 1) κ1 u8 ∷ MutSlice (named 2) κ2 u16 ∷ []
@@ -244,7 +244,7 @@ module _ {M : Type 1} (𝓤 : URA M) (H : Heap 𝓤) (A : Atoms 𝓤) (W : Given
         use1 W (some (λ (ws : (List ℕ × (List ℕ × (List ℕ × (List ℕ × (List ℕ × (List ℕ × (List ℕ × (ℕ × (ℕ × (Unit {0} × (List ℕ × (List ℕ × Unit {0}))))))))))))). ‵ (finals (named 0) (ν ∷ []) uses γs (ws .0, (ws .1 .0, (ws .1 .1 .0, (ws .1 .1 .1 .0, (ws .1 .1 .1 .1 .0, (ws .1 .1 .1 .1 .1 .0, (ws .1 .1 .1 .1 .1 .1 .0, (ws .1 .1 .1 .1 .1 .1 .1 .0, (ws .1 .1 .1 .1 .1 .1 .1 .1 .0, tt))))))))) (fsep ftrue (fsep (fsep (finally u8 (p1 .name) (ws .1 .1 .1 .1 .1 .1 .1 .1 .1 .1 .0)) (feq ℕ (length (ws .1 .1 .1 .1 .1 .1 .1 .1 .1 .1 .0)) (length (p1 .now)))) (fsep (fsep (finally u16 (p2 .name) (ws .1 .1 .1 .1 .1 .1 .1 .1 .1 .1 .1 .0)) (feq ℕ (length (ws .1 .1 .1 .1 .1 .1 .1 .1 .1 .1 .1 .0)) (length (p2 .now)))) ftrue)))) ⊛ raw (fact 𝓤 (Rc (h .ids) (h .asked) (h .callers) (h .deadlines) (h .counts) (h .clients) (h .originals) (h .top) (h .clock) p0 (p1 .now) (p2 .now) r (ws .0) (ws .1 .0) (ws .1 .1 .0) (ws .1 .1 .1 .0) (ws .1 .1 .1 .1 .0) (ws .1 .1 .1 .1 .1 .0) (ws .1 .1 .1 .1 .1 .1 .0) (ws .1 .1 .1 .1 .1 .1 .1 .0) (ws .1 .1 .1 .1 .1 .1 .1 .1 .0) (ws .1 .1 .1 .1 .1 .1 .1 .1 .1 .1 .0) (ws .1 .1 .1 .1 .1 .1 .1 .1 .1 .1 .1 .0))))) (id⊢ 𝓤 _) $ pick ! (λ ws. split ! $ move ! (1 ∷ []) $
         heard ! (Rc (h .ids) (h .asked) (h .callers) (h .deadlines) (h .counts) (h .clients) (h .originals) (h .top) (h .clock) p0 (p1 .now) (p2 .now) r (ws .0) (ws .1 .0) (ws .1 .1 .0) (ws .1 .1 .1 .0) (ws .1 .1 .1 .1 .0) (ws .1 .1 .1 .1 .1 .0) (ws .1 .1 .1 .1 .1 .1 .0) (ws .1 .1 .1 .1 .1 .1 .1 .0) (ws .1 .1 .1 .1 .1 .1 .1 .1 .0) (ws .1 .1 .1 .1 .1 .1 .1 .1 .1 .1 .0) (ws .1 .1 .1 .1 .1 .1 .1 .1 .1 .1 .1 .0)) (λ e. move ! (1 ∷ []) $ split ! $ split ! $ lft-end ! tt $ move ! (0 ∷ 4 ∷ 3 ∷ []) $
         use3 W (later (‵ (partsAt fullShare MS.ms zero (after uses (MS.tuple h) (ws .0, (ws .1 .0, (ws .1 .1 .0, (ws .1 .1 .1 .0, (ws .1 .1 .1 .1 .0, (ws .1 .1 .1 .1 .1 .0, (ws .1 .1 .1 .1 .1 .1 .0, (ws .1 .1 .1 .1 .1 .1 .1 .0, (ws .1 .1 .1 .1 .1 .1 .1 .1 .0, tt)))))))))) b o) ⊛ ‵ (fsep ftrue (fsep (fsep (finally u8 (p1 .name) (ws .1 .1 .1 .1 .1 .1 .1 .1 .1 .1 .0)) (feq ℕ (length (ws .1 .1 .1 .1 .1 .1 .1 .1 .1 .1 .0)) (length (p1 .now)))) (fsep (fsep (finally u16 (p2 .name) (ws .1 .1 .1 .1 .1 .1 .1 .1 .1 .1 .1 .0)) (feq ℕ (length (ws .1 .1 .1 .1 .1 .1 .1 .1 .1 .1 .1 .0)) (length (p2 .now)))) ftrue))))) (back-all (named 0) (ν ∷ []) 𝓤 H A W b o uses zero γs (MS.tuple h) (ws .0, (ws .1 .0, (ws .1 .1 .0, (ws .1 .1 .1 .0, (ws .1 .1 .1 .1 .0, (ws .1 .1 .1 .1 .1 .0, (ws .1 .1 .1 .1 .1 .1 .0, (ws .1 .1 .1 .1 .1 .1 .1 .0, (ws .1 .1 .1 .1 .1 .1 .1 .1 .0, tt))))))))) (fsep ftrue (fsep (fsep (finally u8 (p1 .name) (ws .1 .1 .1 .1 .1 .1 .1 .1 .1 .1 .0)) (feq ℕ (length (ws .1 .1 .1 .1 .1 .1 .1 .1 .1 .1 .0)) (length (p1 .now)))) (fsep (fsep (finally u16 (p2 .name) (ws .1 .1 .1 .1 .1 .1 .1 .1 .1 .1 .1 .0)) (feq ℕ (length (ws .1 .1 .1 .1 .1 .1 .1 .1 .1 .1 .1 .0)) (length (p2 .now)))) ftrue)))) $ await ! tt $ split ! $
-        move ! (0 ∷ 4 ∷ 5 ∷ 6 ∷ 7 ∷ []) $ gives ! tt (record { ids = (ws .0); asked = (ws .1 .0); callers = (ws .1 .1 .0); deadlines = (ws .1 .1 .1 .0); counts = (ws .1 .1 .1 .1 .0); clients = (ws .1 .1 .1 .1 .1 .0); originals = (ws .1 .1 .1 .1 .1 .1 .0); top = (ws .1 .1 .1 .1 .1 .1 .1 .0); cursor = h .cursor; attached = h .attached; clock = (ws .1 .1 .1 .1 .1 .1 .1 .1 .0); timeout = h .timeout; join = h .join; «tag_count» = h .«tag_count»; «tag_words» = h .«tag_words» }) b o $
+        move ! (0 ∷ 4 ∷ 5 ∷ 6 ∷ 7 ∷ []) $ gives ! tt (record { ids = (ws .0); asked = (ws .1 .0); callers = (ws .1 .1 .0); deadlines = (ws .1 .1 .1 .0); counts = (ws .1 .1 .1 .1 .0); clients = (ws .1 .1 .1 .1 .1 .0); originals = (ws .1 .1 .1 .1 .1 .1 .0); top = (ws .1 .1 .1 .1 .1 .1 .1 .0); cursor = h .cursor; attached = h .attached; clock = (ws .1 .1 .1 .1 .1 .1 .1 .1 .0); timeout = h .timeout; join = h .join; «tag_count» = h .«tag_count»; «tag_words» = h .«tag_words»; cache = h .cache; shown = h .shown }) b o $
         move ! (3 ∷ []) $ fsplit ! $ drop ! $ fsplit ! $ fsplit ! $ move ! (1 ∷ []) $ feqL ! (λ e1. move ! (1 ∷ []) $ fsplit ! $ fsplit ! $ move ! (1 ∷ []) $ feqL ! (λ e2. move ! (1 ∷ []) $ drop ! $
         -- what came of it is told
         move ! (6 ∷ []) $ peeks ! Mid.the-row (Is Mid.the-row) (shows 𝓤 H A Mid.the-row) r (v ∷ []) (λ ism. land ! (from ! (stop !)) (init ! 33 refl (EL.lawful Mid.the-type Mid′.the-laws 𝓤 H A W tt .typed r _ ism .0)) $
@@ -256,9 +256,9 @@ module _ {M : Type 1} (𝓤 : URA M) (H : Heap 𝓤) (A : Atoms 𝓤) (W : Given
         move ! (0 ∷ 2 ∷ 1 ∷ 3 ∷ 4 ∷ 5 ∷ 6 ∷ []) $ land ! (from ! (stop !)) (init ! 43 refl (LL.lawful Res.the-type Res′.the-laws 𝓤 H A W .typed r′ _ is .0)) $
         returns ! (look ! 43 refl) $ forget ! 7 refl $ forget ! 9 refl $ forget ! 11 refl $ forget ! 13 refl $ forget ! 15 refl $ forget ! 17 refl $ forget ! 19 refl $ forget ! 21 refl $ forget ! 23 refl $ forget ! 25 refl $ forget ! 27 refl $ forget ! 29 refl $ forget ! 31 refl $ forget ! 33 refl $ forget ! 35 refl $ forget ! 37 refl $ forget ! 39 refl $ forget ! 41 refl $ forget ! 43 refl $
         move ! (43 ∷ 44 ∷ []) $ free1 ! $ move ! (41 ∷ 42 ∷ []) $ free1 ! $ move ! (39 ∷ 40 ∷ []) $ free1 ! $ move ! (37 ∷ 38 ∷ []) $ free1 ! $ move ! (35 ∷ 36 ∷ []) $ free1 ! $ move ! (33 ∷ 34 ∷ []) $ free1 ! $ move ! (31 ∷ 32 ∷ []) $ free1 ! $ move ! (29 ∷ 30 ∷ []) $ free1 ! $ move ! (27 ∷ 28 ∷ []) $ free1 ! $ move ! (25 ∷ 26 ∷ []) $ free1 ! $ move ! (23 ∷ 24 ∷ []) $ free1 ! $ move ! (21 ∷ 22 ∷ []) $ free1 ! $ move ! (19 ∷ 20 ∷ []) $ free1 ! $ move ! (17 ∷ 18 ∷ []) $ free1 ! $ move ! (15 ∷ 16 ∷ []) $ free1 ! $ move ! (13 ∷ 14 ∷ []) $ free1 ! $ move ! (11 ∷ 12 ∷ []) $ free1 ! $ move ! (9 ∷ 10 ∷ []) $ free1 ! $ move ! (7 ∷ 8 ∷ []) $ free1 ! $ free0 ! $
-        keep ! (0 ∷ 1 ∷ 2 ∷ 3 ∷ 4 ∷ 5 ∷ 6 ∷ []) $ by ! (exits r′ v′ (record { ids = (ws .0); asked = (ws .1 .0); callers = (ws .1 .1 .0); deadlines = (ws .1 .1 .1 .0); counts = (ws .1 .1 .1 .1 .0); clients = (ws .1 .1 .1 .1 .1 .0); originals = (ws .1 .1 .1 .1 .1 .1 .0); top = (ws .1 .1 .1 .1 .1 .1 .1 .0); cursor = h .cursor; attached = h .attached; clock = (ws .1 .1 .1 .1 .1 .1 .1 .1 .0); timeout = h .timeout; join = h .join; «tag_count» = h .«tag_count»; «tag_words» = h .«tag_words» }) (ws .1 .1 .1 .1 .1 .1 .1 .1 .1 .1 .0) (ws .1 .1 .1 .1 .1 .1 .1 .1 .1 .1 .1 .0) (imp h p0 (p1 .now) (p2 .now) r (ws .0) (ws .1 .0) (ws .1 .1 .0) (ws .1 .1 .1 .0) (ws .1 .1 .1 .1 .0) (ws .1 .1 .1 .1 .1 .0) (ws .1 .1 .1 .1 .1 .1 .0) (ws .1 .1 .1 .1 .1 .1 .1 .0) (ws .1 .1 .1 .1 .1 .1 .1 .1 .0) (ws .1 .1 .1 .1 .1 .1 .1 .1 .1 .1 .0) (ws .1 .1 .1 .1 .1 .1 .1 .1 .1 .1 .1 .0) ok e r′ e′) e1 e2))))))))))))))))))))))))))))))))))
+        keep ! (0 ∷ 1 ∷ 2 ∷ 3 ∷ 4 ∷ 5 ∷ 6 ∷ []) $ by ! (exits r′ v′ (record { ids = (ws .0); asked = (ws .1 .0); callers = (ws .1 .1 .0); deadlines = (ws .1 .1 .1 .0); counts = (ws .1 .1 .1 .1 .0); clients = (ws .1 .1 .1 .1 .1 .0); originals = (ws .1 .1 .1 .1 .1 .1 .0); top = (ws .1 .1 .1 .1 .1 .1 .1 .0); cursor = h .cursor; attached = h .attached; clock = (ws .1 .1 .1 .1 .1 .1 .1 .1 .0); timeout = h .timeout; join = h .join; «tag_count» = h .«tag_count»; «tag_words» = h .«tag_words»; cache = h .cache; shown = h .shown }) (ws .1 .1 .1 .1 .1 .1 .1 .1 .1 .1 .0) (ws .1 .1 .1 .1 .1 .1 .1 .1 .1 .1 .1 .0) (imp h p0 (p1 .now) (p2 .now) r (ws .0) (ws .1 .0) (ws .1 .1 .0) (ws .1 .1 .1 .0) (ws .1 .1 .1 .1 .0) (ws .1 .1 .1 .1 .1 .0) (ws .1 .1 .1 .1 .1 .1 .0) (ws .1 .1 .1 .1 .1 .1 .1 .0) (ws .1 .1 .1 .1 .1 .1 .1 .1 .0) (ws .1 .1 .1 .1 .1 .1 .1 .1 .1 .1 .0) (ws .1 .1 .1 .1 .1 .1 .1 .1 .1 .1 .1 .0) ok e r′ e′) e1 e2))))))))))))))))))))))))))))))))))
 
-module _ {M : Type 1} (𝓤 : URA M) (H : Heap 𝓤) (A : Atoms 𝓤) (W : Given 𝓤 H A) (g k : Name) (R : Rel) (Pe : Pre) (Rc : CoreRel) (Pc : CorePre) (Rk : TellerRel) (imp : ((h : Device) (p0 : ℕ) (p1 : List ℕ) (p2 : List ℕ) (r : Answer) (w0 : List ℕ) (w1 : List ℕ) (w2 : List ℕ) (w3 : List ℕ) (w4 : List ℕ) (w5 : List ℕ) (w6 : List ℕ) (w7 : ℕ) (w8 : ℕ) (z1 : List ℕ) (z2 : List ℕ) → Pe h p0 p1 p2 → Rc (h .ids) (h .asked) (h .callers) (h .deadlines) (h .counts) (h .clients) (h .originals) (h .top) (h .clock) p0 p1 p2 r w0 w1 w2 w3 w4 w5 w6 w7 w8 z1 z2 → (r′ : Report) → Rk r r′ → R h p0 p1 p2 r′ (record { ids = w0; asked = w1; callers = w2; deadlines = w3; counts = w4; clients = w5; originals = w6; top = w7; cursor = h .cursor; attached = h .attached; clock = w8; timeout = h .timeout; join = h .join; «tag_count» = h .«tag_count»; «tag_words» = h .«tag_words» }) z1 z2)) (pimp : ((h : Device) (p0 : ℕ) (p1 : List ℕ) (p2 : List ℕ) → Pe h p0 p1 p2 → Pc (h .ids) (h .asked) (h .callers) (h .deadlines) (h .counts) (h .clients) (h .originals) (h .top) (h .clock) p0 p1 p2)) where
+module _ {M : Type 1} (𝓤 : URA M) (H : Heap 𝓤) (A : Atoms 𝓤) (W : Given 𝓤 H A) (g k : Name) (R : Rel) (Pe : Pre) (Rc : CoreRel) (Pc : CorePre) (Rk : TellerRel) (imp : ((h : Device) (p0 : ℕ) (p1 : List ℕ) (p2 : List ℕ) (r : Answer) (w0 : List ℕ) (w1 : List ℕ) (w2 : List ℕ) (w3 : List ℕ) (w4 : List ℕ) (w5 : List ℕ) (w6 : List ℕ) (w7 : ℕ) (w8 : ℕ) (z1 : List ℕ) (z2 : List ℕ) → Pe h p0 p1 p2 → Rc (h .ids) (h .asked) (h .callers) (h .deadlines) (h .counts) (h .clients) (h .originals) (h .top) (h .clock) p0 p1 p2 r w0 w1 w2 w3 w4 w5 w6 w7 w8 z1 z2 → (r′ : Report) → Rk r r′ → R h p0 p1 p2 r′ (record { ids = w0; asked = w1; callers = w2; deadlines = w3; counts = w4; clients = w5; originals = w6; top = w7; cursor = h .cursor; attached = h .attached; clock = w8; timeout = h .timeout; join = h .join; «tag_count» = h .«tag_count»; «tag_words» = h .«tag_words»; cache = h .cache; shown = h .shown }) z1 z2)) (pimp : ((h : Device) (p0 : ℕ) (p1 : List ℕ) (p2 : List ℕ) → Pe h p0 p1 p2 → Pc (h .ids) (h .asked) (h .callers) (h .deadlines) (h .counts) (h .clients) (h .originals) (h .top) (h .clock) p0 p1 p2)) where
   entry-walks : (C : Calls 𝓤 H) (Λ : Loops 𝓤 H) → FmC 𝓤 H (W .laws) C → Triple 𝓤 (C g) (Core 𝓤 Rc Pc H A) → Triple 𝓤 (C k) (Teller 𝓤 Rk H A) → Walks 𝓤 H A ended stayed (WpFn 𝓤 H C Λ (function g k)) (clauses 𝓤 R Pe)
   entry-walks C Λ fm known tells = walked 𝓤 H A ended stayed (clauses 𝓤 R Pe) (WpFn 𝓤 H C Λ (function g k)) (λ κs. (ptr-vals, (uint-vals w64, (slice-vals, (slice-vals, tt)))))
       (λ κs. (mut-tells (named 0) (κs .0) T.the-row, (uint-tells w64, (mut-slice-tells (named 1) (κs .1 .0) u8, (mut-slice-tells (named 2) (κs .1 .1 .0) u16, tt)))))

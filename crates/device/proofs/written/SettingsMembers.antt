@@ -29,12 +29,15 @@ m-width = record { row = Array u16 256; ty = tyArray (tyInt w16) 256 }
 abbrev pub m-sign : Member
 m-sign = record { row = Array u16 256; ty = tyArray (tyInt w16) 256 }
 
+abbrev pub m-ttl : Member
+m-ttl = record { row = Array u16 256; ty = tyArray (tyInt w16) 256 }
+
 abbrev pub ms : List Member
-ms = m-timeout ∷ m-join ∷ m-tags ∷ m-addr ∷ m-width ∷ m-sign ∷ []
+ms = m-timeout ∷ m-join ∷ m-tags ∷ m-addr ∷ m-width ∷ m-sign ∷ m-ttl ∷ []
 
 abbrev pub tuple : Settings → Denots (rowsOf ms)
-tuple h = (h .timeout, (h .join, (h .tags, (h .addr, (h .width, (h .sign, tt))))))
+tuple h = (h .timeout, (h .join, (h .tags, (h .addr, (h .width, (h .sign, (h .ttl, tt)))))))
 
 -- a field that is an array stands in the struct's value as `map (λ x. x)` of its list
 pub to-tuple : (h : Settings) → T.the-type .to h ≡ tuple h
-to-tuple h = λ i. (h .timeout, (h .join, (h .tags, (map-id (h .addr) i, (map-id (h .width) i, (map-id (h .sign) i, tt))))))
+to-tuple h = λ i. (h .timeout, (h .join, (h .tags, (map-id (h .addr) i, (map-id (h .width) i, (map-id (h .sign) i, (map-id (h .ttl) i, tt)))))))

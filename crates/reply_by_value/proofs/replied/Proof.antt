@@ -8,7 +8,7 @@ use Rattle.reply_by_value.proofs.replied.Tie as tie
 returns : tie.Need-returns
 returns c =
     let left = c .before .before .before .before in
-    let start = left .before .before .before .before .before .before .before .before .before .before .before .before .before .before .before .before .before .before .before .before .before .before .before .before .before .before .before in
+    let start = left .before .before .before .before .before .before .before .before .before .before .before .before .before .before .before .before .before .before .before .before .before .before .before .before .before .before .before .before .before .before .before in
     left .reply .ensures (columned (start .args .c)) (start .pre)
 
 pub replied-spec : {M : Type 1} → statement M

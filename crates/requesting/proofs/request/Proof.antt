@@ -16,7 +16,7 @@ abbrev came : tie.Start → State
 came s =
     let a = s .args in
     lent (now (a .ids)) (now (a .asked)) (now (a .callers)) (now (a .deadlines)) (now (a .counts)) (now (a .clients)) (now (a .originals)) (now (a .top)) (now (a .cursor)) (now (a .attached)) (now (a .clock))
-    (now (a .timeout)) (now (a .join)) (now (a .tag-count)) (now (a .tag-words))
+    (now (a .timeout)) (now (a .join)) (now (a .tag-count)) (now (a .tag-words)) (now (a .cache)) (now (a .shown))
 
 -- where the function began, from behind the gate
 abbrev start : tie.Else1 → tie.Start
@@ -37,15 +37,15 @@ except-caller-requires c κs = omega (arith, has-room (opened (c .before .before
 
 cast-serve : tie.Need-cast-serve
 cast-serve c =
-    let checked = c .before .before .before .before .before .before .before .before .before .before .before .before .before .before .before .before in
-    omega (arith, admits (opened (checked .before)) (sym (checked .check-request .ensures) ∙ c .before .before .before .before .before .before .before .before .before .before .before .before .before .before .what .given .1) .numbered)
+    let checked = c .before .before .before .before .before .before .before .before .before .before .before .before .before .before .before .before .before .before in
+    omega (arith, admits (opened (checked .before)) (sym (checked .check-request .ensures) ∙ c .before .before .before .before .before .before .before .before .before .before .before .before .before .before .before .before .what .given .1) .numbered)
 
 serve-requires : tie.Need-serve-requires
 serve-requires c κs =
-    let checked = c .before .before .before .before .before .before .before .before .before .before .before .before .before .before .before .before .before in
+    let checked = c .before .before .before .before .before .before .before .before .before .before .before .before .before .before .before .before .before .before .before in
     let gated = checked .before in
     let s = start gated in
-    (s .pre .table, (s .pre .settings, admits (opened gated) (sym (checked .check-request .ensures) ∙ c .before .before .before .before .before .before .before .before .before .before .before .before .before .before .before .what .given .1)))
+    (s .pre .table, ((s .pre .settings, s .pre .cache), admits (opened gated) (sym (checked .check-request .ensures) ∙ c .before .before .before .before .before .before .before .before .before .before .before .before .before .before .before .before .before .what .given .1)))
 
 returns-2 : tie.Need-returns-2
 returns-2 c =
@@ -73,11 +73,11 @@ returns-4 c =
 returns-5 : tie.Need-returns-5
 returns-5 c =
     let served = c .before .before .serve .ensures in
-    let checked = c .before .before .before .before .before .before .before .before .before .before .before .before .before .before .before .before .before .before .before .before in
+    let checked = c .before .before .before .before .before .before .before .before .before .before .before .before .before .before .before .before .before .before .before .before .before .before in
     let gated = checked .before in
     let s = start gated in (
-      was-served (came s) (opened gated) (sym (checked .check-request .ensures) ∙ c .before .before .before .before .before .before .before .before .before .before .before .before .before .before .before .before .before .before .what .given .1) (served .outcome (now (s .args .attached))),
-      record { table = served .table; cursor = served .cursor (s .pre .cursor); attached = s .pre .attached; settings = s .pre .settings },
+      was-served (came s) (opened gated) (sym (checked .check-request .ensures) ∙ c .before .before .before .before .before .before .before .before .before .before .before .before .before .before .before .before .before .before .before .before .what .given .1) (served .outcome (now (s .args .attached))),
+      record { table = served .table; cursor = served .cursor (s .pre .cursor); attached = s .pre .attached; settings = s .pre .settings; cache = served .cache },
       λ h. absurd (h (served-no-refusal _ _ _ _ (served .outcome (now (s .args .attached))))),
     )
 

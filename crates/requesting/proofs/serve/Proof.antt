@@ -1,70 +1,44 @@
--- `requesting::serve` meets its contract: the open place is joined, else the free place issued into, else exception 04.
+-- `requesting::serve` meets its contract: what is cached is shown where the request hits a place, and else it comes to what it does without a cache.
 -- Assumes nothing.
-use native.Mathlib.Omega.{arith}
+use mathlib.Core.Path.{sym, _∙_}
+use mathlib.Core.Option.{Option·none-ne-some}
 use denote.Ref.{now}
-use Rattle.table.specs.Columns.{Columns, columns}
-use Rattle.table.proofs.EntryLaws.{runs-of}
-use Rattle.proxy.specs.State.{KeptSettings, keptSettings}
-use Rattle.proxy.proofs.StateLaws.{tag-words}
-use Rattle.requesting.proofs.SeatLaws.{Seated, may-join-own, open-here, joined-there, issued-next, full-there}
+use Rattle.cache.proofs.CacheLaws.{hit-found}
+use Rattle.caching.specs.Kept.{cacheOf}
+use Rattle.requesting.proofs.SeatLaws.{word-sought, hit-there, missed-next}
 use borrow.Author.Needs.{needs}
 use Rattle.requesting.proofs.serve.Statement.{statement}
 use Rattle.requesting.proofs.serve.Tie as tie
 
--- the columns and the settings as they came
-abbrev came : tie.Start → Columns
-came s =
-    columns (now (s .args .ids)) (now (s .args .asked)) (now (s .args .callers)) (now (s .args .deadlines)) (now (s .args .counts)) (now (s .args .clients))
-    (now (s .args .originals)) (now (s .args .top))
+hit-place-requires : tie.Need-hit-place-requires
+hit-place-requires c κs = (word-sought (c .before .word-asked .ensures), c .before .before .before .before .pre .1 .0 .1 .bounded)
 
-abbrev settings : tie.Start → KeptSettings
-settings s = keptSettings (s .args .timeout) (s .args .join) (s .args .tag-count) (now (s .args .tag-words))
-
--- where the function began, from where the scan is done
-abbrev start : tie.After-find-seats → tie.Start
-start c = c .before .before .before .before .before .before .before .before .before .before
-
--- what is known after the scan
-seated : (c : tie.After-find-seats) → Seated (settings (start c)) (came (start c)) (start c .args .time) (now (start c .args .frame)) (c .before .may-join .result) (c .before .before .before .before .before .before .before .word-asked .result) (c .find-seats .result .«open») (c .find-seats .result .free)
-seated c = record {
-  sound = start c .pre .0;
-  asks = c .before .before .before .before .before .before .before .word-asked .ensures;
-  may = may-join-own (settings (start c)) (now (start c .args .frame)) (start c .pre .1 .1 .legal) (c .before .may-join .ensures);
-  scanned = c .find-seats .ensures;
-}
-
-join-request-requires : tie.Need-join-request-requires
-join-request-requires c κs =
-    let low = c .before .before .before .before .if1 .taken in
-    let scan = c .before .before .before .before .before .before in
-    let there = open-here (seated scan) low in
-    (runs-of (came (start scan)) (start scan .pre .0), ((low, there .1), (omega (arith, there .0), start scan .pre .0 .low (scan .find-seats .result .«open»))))
+show-cached-requires : tie.Need-show-cached-requires
+show-cached-requires c κs =
+    let found = c .before .before .before in
+    let s = found .before .before .before .before .before in
+    let low = c .before .before .if1 .taken in
+    let same = found .hit-place .ensures (now (s .args .shown)) (s .pre .1 .0 .1) in
+    let there = hit-found (cacheOf (now (s .args .cache)) (now (s .args .shown))) (s .args .time) _ (rw same at low) in
+    ((s .pre .1 .0 .1, low, λ h. Option·none-ne-some _ (sym (rw same at h) ∙ there .1)), (s .pre .1 .1 .roomy, s .pre .1 .1 .least))
 
 returns : tie.Need-returns
-returns c = joined-there (seated (c .before .before .before .before .before .before .before)) (c .before .before .before .before .before .if1 .taken) (c .join-request .ensures)
+returns c =
+    let found = c .before .before .before .before .before .before in
+    let s = found .before .before .before .before .before in
+    hit-there (s .args .time) (found .before .before .word-asked .ensures) (s .pre .0) (s .pre .1 .0 .1) (found .hit-place .ensures) (s .args .client) (now (s .args .out)) (c .before .before .before .before .before .if1 .taken) (c .before .before .show-cached .ensures)
 
-issue-request-requires : tie.Need-issue-request-requires
-issue-request-requires c κs =
-    let scan = c .before .before .before .before .before .before .before .before .before .before .before .before .before .before in
-    let s = start scan in
-    (s .pre .0, (tag-words (settings s) (s .pre .1 .0), (s .pre .1 .1, (scan .before .before .before .before .before .before .before .word-asked .ensures, (scan .find-seats .ensures .1, c .before .before .before .before .before .before .before .before .before .before .if2 .taken)))))
+miss-requires : tie.Need-miss-requires
+miss-requires c κs =
+    let found = c .before .before .before .before .before .before .before .before .before .before .before .before in
+    let s = found .before .before .before .before .before in
+    (s .pre .0, (s .pre .1 .0 .0, (s .pre .1 .1, (found .before .before .word-asked .ensures, s .pre .1 .0 .1 .bounded))))
 
 returns-2 : tie.Need-returns-2
 returns-2 c =
-    let free = c .before .before .before .before .before .before .before .before .before .before .before .before .before in
-    let scan = free .before .before .before .before in
-    let s = start scan in
-    issued-next (seated scan) (s .args .client) (now (s .args .out)) (free .before .before .if1 .left) (free .if2 .taken) (c .before .before .issue-request .ensures (s .args .join))
-
-returns-3 : tie.Need-returns-3
-returns-3 c =
-    let none = c .before .before .before .before in
-    let scan = none .before .before .before .before in
-    let s = start scan in
-    full-there (seated scan) (s .args .client) (now (s .args .out)) (none .before .before .if1 .left) (none .if2 .left) (c .before .before .except-caller .ensures)
+    let found = c .before .before .before .before .before .before .before .before .before .before .before .before .before .before .before in
+    let s = found .before .before .before .before .before in
+    missed-next (s .args .time) (found .before .before .word-asked .ensures) (s .pre .0) (s .pre .1 .0 .1) (found .hit-place .ensures) (s .args .client) (now (s .args .out)) (c .before .before .before .before .before .before .before .before .before .before .before .before .before .before .if1 .left) (c .before .before .miss .ensures (now (s .args .shown)) (s .pre .1 .0 .1))
 
 pub serve-spec : {M : Type 1} → statement M
-serve-spec =
-    tie.close
-    (tie.spec (λ c κs. search needs) (λ c κs. search needs) (λ c κs. search needs) join-request-requires
-    returns issue-request-requires (λ c. search needs) returns-2 (λ c κs. search needs) (λ c. search needs) returns-3)
+serve-spec = tie.close (tie.spec (λ c κs. search needs) hit-place-requires show-cached-requires (λ c. search needs) returns miss-requires (λ c. search needs) returns-2)

@@ -13,6 +13,7 @@ use Rattle.machine.specs.Machine.{Machine}
 use Rattle.machine.specs.Calls.{Outcome, done}
 use Rattle.machine.specs.Requests.{wanted}
 use Rattle.machine.specs.declared.Answer.{Answer}
+use Rattle.caching.specs.Kept.{SoundCache}
 use Rattle.table.specs.Columns.{Columns, SoundTable}
 use Rattle.proxy.specs.State.{KeptSettings, state, machineOf}
 
@@ -30,9 +31,10 @@ pub record Asks (f : List ℕ) (word : ℕ) : Type 0 where
   pub same : word ≡ wordOf (wanted f)
   pub proper : Proper (wanted f)
 
--- the machine of such columns, with that cursor, at the time t under the settings k, came to what `step` says of the machine that it was, whoever is attached;
+-- the machine of such columns, with that cursor and that cache, at the time t under the settings k, came to what `step` says of the machine that it was, whoever is attached;
 -- and the columns are sound and the cursor an id
-pub record Came (r : Answer) (k : KeptSettings) (t : ℕ) (c′ : Columns) (x′ : ℕ) (o′ : List ℕ) (step : Machine → Outcome) (c : Columns) (x : ℕ) : Type 0 where
-  pub outcome : (s : ℕ) → done r (machineOf (state c′ x′ s t k)) o′ [] ≡ step (machineOf (state c x s t k))
+pub record Came (r : Answer) (k : KeptSettings) (t : ℕ) (shown : List ℕ) (c′ : Columns) (x′ : ℕ) (h′ o′ : List ℕ) (step : Machine → Outcome) (c : Columns) (x : ℕ) (h : List ℕ) : Type 0 where
+  pub outcome : (s : ℕ) → done r (machineOf (state c′ x′ s t k h′ shown)) o′ [] ≡ step (machineOf (state c x s t k h shown))
   pub table : SoundTable c′
+  pub cache : SoundCache h′ shown
   pub cursor : x < ids → x′ < ids

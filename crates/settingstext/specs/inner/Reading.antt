@@ -8,8 +8,8 @@ use mathlib.Core.List.{List, [], _∷_}
 use lib.ListN.{length, getD, drop}
 use lib.Dec.{eqb, ltb, leb}
 use Rattle.numbers.specs.Numbers.{mostTags, usualTimeout, newestVersion}
-use Rattle.settings.specs.Lines.{Numbered, behind, numberIn, lineIn}
-use Rattle.settings.specs.Grammar.{Value, Read, versionOf, signKey, rightSign, lastRegister, readBehind, ruled}
+use Rattle.settings.specs.Lines.{Numbered, behind, numberIn}
+use Rattle.settings.specs.Grammar.{Value, Read, versionOf, lastRegister, readBehind, ruled}
 use Rattle.settings.specs.Grammar.Read.{got, wrong}
 use Rattle.settingstext.specs.declared.reading.LineRead.{LineRead}
 use Rattle.settingstext.specs.declared.reading.LineRead.the-variants.{Numbered as numberedAt, Wrong}
@@ -49,11 +49,11 @@ placed text (some x) = numberedAt (x .number) (length text - length (x .rest))
 
 unfoldable pub placedTag : List ℕ → Read (List ℕ) → TagRead
 placedTag text (wrong k) = WrongAt k
-placedTag text (got ns r) = Tagged (getD ns 0 0) (getD ns 1 0) (getD ns 2 0) (length text - length r)
+placedTag text (got ns r) = Tagged (getD ns 0 0) (getD ns 1 0) (getD ns 2 0) (getD ns 3 0) (length text - length r)
 
--- the sign of a tag of this width, from a place on: version 1 has no line for it, and it is 0
-unfoldable pub signRead : (version width at : ℕ) → List ℕ → LineRead
-signRead version width at text = cond (ltb version 2) (numberedAt 0 at) (placed text (ruled (rightSign (0 ∷ width ∷ [])) (lineIn signKey (drop at text))))
+-- a line of a tag, with a number of at most `most`, that there is since a version: an older one has no line for it, and the number is 0
+unfoldable pub laterRead : (version since at : ℕ) (text key : List ℕ) (most : ℕ) → LineRead
+laterRead version since at text key most = cond (ltb version since) (numberedAt 0 at) (placed text (ruled (within 0 most) (lineBehind key (drop at text))))
 
 -- a wrong line, with the usual numbers and the newest version
 abbrev pub stoppedAt : ℕ → Head

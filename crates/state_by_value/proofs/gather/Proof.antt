@@ -31,7 +31,7 @@ loop-again c =
 
 returns : tie.Need-returns Inv-loop μ-loop
 returns c =
-    let l = c .before .before .before .before .loop in
+    let l = c .before .before .before .before .before .before .loop in
     rw (filled-all places (placeOf 0 0 0 0 0) _ (l .entries) (l .k) (search needs) (length-tab places _) (l .inv .1))
 
 pub gather-spec : {M : Type 1} → statement M

@@ -57,7 +57,7 @@ loop-again c =
 
 returns : tie.Need-returns Inv-loop μ-loop
 returns c =
-    let at = c .before .before .before .before in
+    let at = c .before .before .before .before .before .before in
     let filled = at .loop .inv in
     let es = at .before .before .before .args .s .entries in
     let long = at .before .tells-length .ensures in

@@ -25,7 +25,7 @@ abbrev R : Rel
 R = λ st from r st′. Freshly from r st′
 
 abbrev Rc : CoreRel
-Rc = λ ids asked callers deadlines counts clients originals top cursor attached clock timeout join «tag_count» «tag_words» «from_timeout» «from_join» «from_tags» addr width sign r ids′ asked′ callers′ deadlines′ counts′ clients′ originals′ top′ cursor′ attached′ clock′ timeout′ join′ «tag_count′» «tag_words′». Freshened (settings «from_timeout» «from_join» «from_tags» addr width sign) r (lent ids′ asked′ callers′ deadlines′ counts′ clients′ originals′ top′ cursor′ attached′ clock′ timeout′ join′ «tag_count′» «tag_words′»)
+Rc = λ ids asked callers deadlines counts clients originals top cursor attached clock timeout join «tag_count» «tag_words» cache shown «from_timeout» «from_join» «from_tags» addr width sign ttl r ids′ asked′ callers′ deadlines′ counts′ clients′ originals′ top′ cursor′ attached′ clock′ timeout′ join′ «tag_count′» «tag_words′» cache′ shown′. Freshened (settings «from_timeout» «from_join» «from_tags» addr width sign ttl) r (lent ids′ asked′ callers′ deadlines′ counts′ clients′ originals′ top′ cursor′ attached′ clock′ timeout′ join′ «tag_count′» «tag_words′» cache′ shown′)
 
 abbrev Rk : TellerRel
 Rk = λ a r. r ≡ numbers a
@@ -35,6 +35,6 @@ unfolding code.routine tablesOf
 zb-fresh-spec 𝓤 H 𝓜 𝓖 𝓡 =
     entered 𝓤 H (tripleOf 𝓤 H (𝓖 .A) f.signature (f.spec 𝓤 H (𝓖 .A) (𝓜 .mem) (𝓡 .run)))
     (tables 𝓤 H 𝓜 𝓡 code.env .C) (tables 𝓤 H 𝓜 𝓡 code.env .Λ) #f code.function (code.unfolded 𝓤 H 𝓜 𝓡)
-    (entry-meets 𝓤 H (𝓖 .A) (givenOf 𝓤 H 𝓜 𝓖) g.name k.name R Rc Rk (λ _ _ _ _ _ _ _ _ _ _ _ _ _ _ _ _ _ _ told _ tells. fresh-told _ _ _ _ tells told) (tablesOf 𝓤 H 𝓜 (tables 𝓤 H 𝓜 𝓡 code.env))
+    (entry-meets 𝓤 H (𝓖 .A) (givenOf 𝓤 H 𝓜 𝓖) g.name k.name R Rc Rk (λ _ _ _ _ _ _ _ _ _ _ _ _ _ _ _ _ _ _ _ _ told _ tells. fresh-told _ _ _ _ tells told) (tablesOf 𝓤 H 𝓜 (tables 𝓤 H 𝓜 𝓡 code.env))
     (cited 𝓤 H (Core 𝓤 Rc H (𝓖 .A)) 𝓜 𝓡 code.env g.name g.routine code.calls-proxy·making·fresh (g-thm.met 𝓤 H 𝓜 𝓖 𝓡))
     (cited 𝓤 H (Teller 𝓤 Rk H (𝓖 .A)) 𝓜 𝓡 code.env k.name k.routine code.calls-reports·report-of (k-thm.met 𝓤 H 𝓜 𝓖 𝓡)))

@@ -30,7 +30,7 @@ abbrev Pe : Pre
 Pe = λ st. MadeDevice st
 
 abbrev Rc : CoreRel
-Rc = λ ids top attached r ids′ top′ attached′. ((s : State) → SoundState (lentIds s ids top attached) → Does (lentIds s ids top attached) linkLost r (lentIds s ids′ top′ attached′) [] [])
+Rc = λ ids top attached cache r ids′ top′ attached′ cache′. ((s : State) → SoundState (lentIds s ids top attached cache) → Does (lentIds s ids top attached cache) linkLost r (lentIds s ids′ top′ attached′ cache′) [] [])
 
 abbrev Rk : TellerRel
 Rk = λ a r. r ≡ numbers a
@@ -40,6 +40,6 @@ unfolding code.routine tablesOf
 zb-link-lost-spec 𝓤 H 𝓜 𝓖 𝓡 =
     entered 𝓤 H (tripleOf 𝓤 H (𝓖 .A) f.signature (f.spec 𝓤 H (𝓖 .A) (𝓜 .mem) (𝓡 .run)))
     (tables 𝓤 H 𝓜 𝓡 code.env .C) (tables 𝓤 H 𝓜 𝓡 code.env .Λ) #f code.function (code.unfolded 𝓤 H 𝓜 𝓡)
-    (entry-meets 𝓤 H (𝓖 .A) (givenOf 𝓤 H 𝓜 𝓖) g.name k.name R Pe Rc Rk (λ st _ _ _ _ ok told _ tells. as-told _ _ _ _ _ _ _ tells (told (stateOf st) ok)) (tablesOf 𝓤 H 𝓜 (tables 𝓤 H 𝓜 𝓡 code.env))
+    (entry-meets 𝓤 H (𝓖 .A) (givenOf 𝓤 H 𝓜 𝓖) g.name k.name R Pe Rc Rk (λ st _ _ _ _ _ ok told _ tells. as-told _ _ _ _ _ _ _ tells (told (stateOf st) ok)) (tablesOf 𝓤 H 𝓜 (tables 𝓤 H 𝓜 𝓡 code.env))
     (cited 𝓤 H (Core 𝓤 Rc H (𝓖 .A)) 𝓜 𝓡 code.env g.name g.routine code.calls-proxy·attaching·link-lost (g-thm.met 𝓤 H 𝓜 𝓖 𝓡))
     (cited 𝓤 H (Teller 𝓤 Rk H (𝓖 .A)) 𝓜 𝓡 code.env k.name k.routine code.calls-reports·report-of (k-thm.met 𝓤 H 𝓜 𝓖 𝓡)))

@@ -5,6 +5,7 @@ use denote.Triple.Spec.{tripleOf}
 use denote.Triple.Table.{entered, cited}
 use Rattle.machine.specs.Calls.Call.{reply as replies, reply as replyCall}
 use Rattle.device.specs.Device.{MadeDevice, Served}
+use Rattle.caching.specs.Kept.{SoundCache}
 use Rattle.table.specs.Columns.{columns, SoundTable}
 use Rattle.proxy.specs.State.{State, keptSettings, lentKept, Settled, SoundState}
 use Rattle.proxy.specs.Calls.{Does}
@@ -30,10 +31,10 @@ abbrev Pe : Pre
 Pe = λ st time frame out list. MadeDevice st
 
 abbrev Pc : CorePre
-Pc = λ ids asked callers deadlines counts clients originals top clock timeout join «tag_count» «tag_words» time frame out list. SoundTable (columns ids asked callers deadlines counts clients originals top) × Settled (keptSettings timeout join «tag_count» «tag_words»)
+Pc = λ ids asked callers deadlines counts clients originals top clock timeout join «tag_count» «tag_words» cache shown time frame out list. SoundTable (columns ids asked callers deadlines counts clients originals top) × Settled (keptSettings timeout join «tag_count» «tag_words») × SoundCache cache shown
 
 abbrev Rc : CoreRel
-Rc = λ ids asked callers deadlines counts clients originals top clock timeout join «tag_count» «tag_words» time frame out list r ids′ asked′ callers′ deadlines′ counts′ clients′ originals′ top′ clock′ timeout′ join′ «tag_count′» «tag_words′» out′ list′. ((s : State) → SoundState (lentKept s ids asked callers deadlines counts clients originals top clock timeout join «tag_count» «tag_words») → Does (lentKept s ids asked callers deadlines counts clients originals top clock timeout join «tag_count» «tag_words») (replyCall time frame out list) r (lentKept s ids′ asked′ callers′ deadlines′ counts′ clients′ originals′ top′ clock′ timeout′ join′ «tag_count′» «tag_words′») out′ list′)
+Rc = λ ids asked callers deadlines counts clients originals top clock timeout join «tag_count» «tag_words» cache shown time frame out list r ids′ asked′ callers′ deadlines′ counts′ clients′ originals′ top′ clock′ timeout′ join′ «tag_count′» «tag_words′» cache′ shown′ out′ list′. ((s : State) → SoundState (lentKept s ids asked callers deadlines counts clients originals top clock timeout join «tag_count» «tag_words» cache shown) → Does (lentKept s ids asked callers deadlines counts clients originals top clock timeout join «tag_count» «tag_words» cache shown) (replyCall time frame out list) r (lentKept s ids′ asked′ callers′ deadlines′ counts′ clients′ originals′ top′ clock′ timeout′ join′ «tag_count′» «tag_words′» cache′ shown′) out′ list′)
 
 abbrev Rk : TellerRel
 Rk = λ a r. r ≡ numbers a
@@ -43,6 +44,6 @@ unfolding code.routine tablesOf
 zb-reply-spec 𝓤 H 𝓜 𝓖 𝓡 =
     entered 𝓤 H (tripleOf 𝓤 H (𝓖 .A) f.signature (f.spec 𝓤 H (𝓖 .A) (𝓜 .mem) (𝓡 .run)))
     (tables 𝓤 H 𝓜 𝓡 code.env .C) (tables 𝓤 H 𝓜 𝓡 code.env .Λ) #f code.function (code.unfolded 𝓤 H 𝓜 𝓡)
-    (entry-meets 𝓤 H (𝓖 .A) (givenOf 𝓤 H 𝓜 𝓖) g.name k.name R Pe Rc Pc Rk (λ st _ _ _ _ _ _ _ _ _ _ _ _ _ _ _ _ _ _ _ _ ok told _ tells. as-told _ _ _ _ _ _ _ tells (told (stateOf st) ok)) (λ st _ _ _ _ ok. (ok .table, ok .settings)) (tablesOf 𝓤 H 𝓜 (tables 𝓤 H 𝓜 𝓡 code.env))
+    (entry-meets 𝓤 H (𝓖 .A) (givenOf 𝓤 H 𝓜 𝓖) g.name k.name R Pe Rc Pc Rk (λ st _ _ _ _ _ _ _ _ _ _ _ _ _ _ _ _ _ _ _ _ _ _ ok told _ tells. as-told _ _ _ _ _ _ _ tells (told (stateOf st) ok)) (λ st _ _ _ _ ok. (ok .table, ok .settings, ok .cache)) (tablesOf 𝓤 H 𝓜 (tables 𝓤 H 𝓜 𝓡 code.env))
     (cited 𝓤 H (Core 𝓤 Rc Pc H (𝓖 .A)) 𝓜 𝓡 code.env g.name g.routine code.calls-answering·reply (g-thm.met 𝓤 H 𝓜 𝓖 𝓡))
     (cited 𝓤 H (Teller 𝓤 Rk H (𝓖 .A)) 𝓜 𝓡 code.env k.name k.routine code.calls-reports·report-of (k-thm.met 𝓤 H 𝓜 𝓖 𝓡)))

@@ -29,10 +29,10 @@ abbrev Pe : Pre
 Pe = λ st client time frame out. MadeDevice st
 
 abbrev Pc : CorePre
-Pc = λ ids asked callers deadlines counts clients originals top cursor attached clock timeout join «tag_count» «tag_words» client time frame out. SoundState (lent ids asked callers deadlines counts clients originals top cursor attached clock timeout join «tag_count» «tag_words»)
+Pc = λ ids asked callers deadlines counts clients originals top cursor attached clock timeout join «tag_count» «tag_words» cache shown client time frame out. SoundState (lent ids asked callers deadlines counts clients originals top cursor attached clock timeout join «tag_count» «tag_words» cache shown)
 
 abbrev Rc : CoreRel
-Rc = λ ids asked callers deadlines counts clients originals top cursor attached clock timeout join «tag_count» «tag_words» client time frame out r ids′ asked′ callers′ deadlines′ counts′ clients′ originals′ top′ cursor′ attached′ clock′ timeout′ join′ «tag_count′» «tag_words′» out′. Does (lent ids asked callers deadlines counts clients originals top cursor attached clock timeout join «tag_count» «tag_words») (asks client time frame out) r (lent ids′ asked′ callers′ deadlines′ counts′ clients′ originals′ top′ cursor′ attached′ clock′ timeout′ join′ «tag_count′» «tag_words′») out′ []
+Rc = λ ids asked callers deadlines counts clients originals top cursor attached clock timeout join «tag_count» «tag_words» cache shown client time frame out r ids′ asked′ callers′ deadlines′ counts′ clients′ originals′ top′ cursor′ attached′ clock′ timeout′ join′ «tag_count′» «tag_words′» cache′ shown′ out′. Does (lent ids asked callers deadlines counts clients originals top cursor attached clock timeout join «tag_count» «tag_words» cache shown) (asks client time frame out) r (lent ids′ asked′ callers′ deadlines′ counts′ clients′ originals′ top′ cursor′ attached′ clock′ timeout′ join′ «tag_count′» «tag_words′» cache′ shown′) out′ []
 
 abbrev Rk : TellerRel
 Rk = λ a r. r ≡ numbers a
@@ -42,6 +42,6 @@ unfolding code.routine tablesOf
 zb-request-spec 𝓤 H 𝓜 𝓖 𝓡 =
     entered 𝓤 H (tripleOf 𝓤 H (𝓖 .A) f.signature (f.spec 𝓤 H (𝓖 .A) (𝓜 .mem) (𝓡 .run)))
     (tables 𝓤 H 𝓜 𝓡 code.env .C) (tables 𝓤 H 𝓜 𝓡 code.env .Λ) #f code.function (code.unfolded 𝓤 H 𝓜 𝓡)
-    (entry-meets 𝓤 H (𝓖 .A) (givenOf 𝓤 H 𝓜 𝓖) g.name k.name R Pe Rc Pc Rk (λ _ _ _ _ _ _ _ _ _ _ _ _ _ _ _ _ _ _ _ _ _ _ ok told _ tells. as-told _ _ _ _ _ _ _ tells told) (λ _ _ _ _ _ ok. ok) (tablesOf 𝓤 H 𝓜 (tables 𝓤 H 𝓜 𝓡 code.env))
+    (entry-meets 𝓤 H (𝓖 .A) (givenOf 𝓤 H 𝓜 𝓖) g.name k.name R Pe Rc Pc Rk (λ _ _ _ _ _ _ _ _ _ _ _ _ _ _ _ _ _ _ _ _ _ _ _ _ ok told _ tells. as-told _ _ _ _ _ _ _ tells told) (λ _ _ _ _ _ ok. ok) (tablesOf 𝓤 H 𝓜 (tables 𝓤 H 𝓜 𝓡 code.env))
     (cited 𝓤 H (Core 𝓤 Rc Pc H (𝓖 .A)) 𝓜 𝓡 code.env g.name g.routine code.calls-requesting·request (g-thm.met 𝓤 H 𝓜 𝓖 𝓡))
     (cited 𝓤 H (Teller 𝓤 Rk H (𝓖 .A)) 𝓜 𝓡 code.env k.name k.routine code.calls-reports·report-of (k-thm.met 𝓤 H 𝓜 𝓖 𝓡)))

@@ -15,12 +15,12 @@ returns c =
     takes _ (adopts-valid _ (sym (b .before .is-valid .ensures) ∙ b .if1 .taken)) (c .adopt .ensures)
 
 adopt-requires-2 : tie.Need-adopt-requires-2
-adopt-requires-2 c κs = rw (usual-settings _ _ _) usual-valid
+adopt-requires-2 c κs = rw (usual-settings _ _ _ _) usual-valid
 
 returns-2 : tie.Need-returns-2
 returns-2 c =
     let b = c .before .before .before .before .before in
-    takes _ (adopts-usual _ (sym (b .before .is-valid .ensures) ∙ b .if1 .left)) (rw (usual-settings _ _ _) at (c .adopt2 .ensures))
+    takes _ (adopts-usual _ (sym (b .before .is-valid .ensures) ∙ b .if1 .left)) (rw (usual-settings _ _ _ _) at (c .adopt2 .ensures))
 
 pub adopt-value-spec : {M : Type 1} → statement M
 adopt-value-spec = tie.close (tie.spec (λ c κs. search needs) adopt-requires returns adopt-requires-2 returns-2)

@@ -1,4 +1,4 @@
--- `state_by_value::calls::link_lost` meets its contract: the core empties the column of ids, and the columns are gathered.
+-- `state_by_value::calls::link_lost` meets its contract: the core empties the column of ids and the cache, and the columns are gathered.
 -- Assumes nothing.
 use Rattle.state_by_value.specs.Fields.{columned}
 use Rattle.state_by_value.proofs.CallLaws.{spread-sound, served}
@@ -8,7 +8,7 @@ use Rattle.state_by_value.proofs.calls.link_lost.Tie as tie
 
 returns : tie.Need-returns
 returns c =
-    let at = c .before .before .before .before .before .before in
+    let at = c .before .before .before .before .before .before .before .before in
     let sounds = spread-sound (at .before .args .s) _ (at .spread .ensures) (at .before .pre) in
     served (at .before .args .s) _ (at .spread .ensures) _ _ _ _ _ _ (c .gather .ensures) (c .before .link-lost .ensures (columned (at .spread .result)) sounds)
 
