@@ -3,7 +3,7 @@
 use Prim.Native.Nat.{ℕ, _+_, _-_, _≤_, _<_}
 use mathlib.Core.Path.{_≡_, refl, ap, sym, subst, _∙_}
 use mathlib.Core.Logic.{⊎-elim, _⊎_, inl, inr, _↔_, Iff·trans}
-use mathlib.Core.Bool.{true, false}
+use mathlib.Core.Bool.{true, false, true≢false}
 use mathlib.Core.Option.{some, Option·getD}
 use mathlib.Core.List.{List, [], _∷_, _++_, map, map-append, append-assoc, List·Memᴰ}
 use native.Mathlib.Omega.{arith}
@@ -13,6 +13,8 @@ use Rattle.laws.specs.Lists.{lastGiven, lastOf}
 use Rattle.laws.specs.Search.{count}
 use Rattle.laws.specs.Bits.{has}
 use Rattle.laws.specs.Bytes.{over}
+use Rattle.laws.proofs.Choice.{never}
+use Rattle.laws.proofs.ListLaws.{splits}
 use Rattle.wire.specs.Frame.{idOf, laid}
 use Rattle.bcd.specs.Bcd.{inRange}
 use Rattle.bcd.specs.Words.{numberOf}
@@ -48,7 +50,7 @@ use Rattle.machine.specs.Numbers.{ten, numbers, isIssued, isJoined, isException
 use Rattle.machine.specs.Waiting.{nextDeadline}
 use Rattle.machine.specs.Spelled.{asker, asking}
 use Rattle.machine.specs.Histories.{Seen, seenOf, afterCalls, toldBy, toldSince, IssuedBy, toldFrom}
-use Rattle.machine.specs.Closed.{Unspoiled, Joinable, Meets}
+use Rattle.machine.specs.Closed.{Unspoiled, Joinable, Meets, numberAt}
 use Rattle.machine.specs.Cached.{NoHit, KeptFor, Put}
 use Rattle.machine.specs.declared.Answer.{Answer}
 use Rattle.machine.specs.declared.Answer.the-variants as answer
@@ -61,6 +63,8 @@ use Rattle.machine.specs.Answered.{showing, Lent, tickAt, ticksAt}
 use Rattle.machine.proofs.NumberLaws.{refusal-told, refusal-exactly, exception-exactly, join-exactly}
 use Rattle.machine.proofs.AskLaws.{bits-carry-none}
 use Rattle.machine.proofs.StateLaws.{seen-issue}
+use Rattle.machine.proofs.MeetsLaws.{spoils-in-bytes}
+use Rattle.machine.proofs.ClosedLaws.{since}
 use Rattle.machine.proofs.Claims as claim
 use Rattle.table.specs.Columns.{partiesAt, noteOf}
 use Rattle.proxy.specs.State.{valueIn}
@@ -75,7 +79,7 @@ use Rattle.zilborteka.specs.Cached.{cacheIn, FillsIn, LastReplyIn, Lates
 use Rattle.zilborteka.proofs.Lived.{left, seen, came, report-tells, tells, lived-on, each-line, line-told, a-device-lives-as-the-machine, a-report-tells-the-answer, a-device-accounts-for-every-request}
 use Rattle.zilborteka.proofs.Handed.{lives-as, replied, timed-out, answers-what}
 use Rattle.zilborteka.proofs.Places.{place-live, live-in}
-use Rattle.zilborteka.proofs.Shown.{fills-line, fills-call, shows-seen, cache-is, last-line, last-call}
+use Rattle.zilborteka.proofs.Shown.{issue-among, fills-line, fills-call, shows-seen, cache-is, last-line, last-call}
 
 -- the whole report of a hit, an issue, a join and an exception, and which of the four it is
 module _ {m : Machine} {c t : ℕ} {f o : List ℕ} {y : Outcome} {r : Report} where
@@ -478,6 +482,38 @@ module _ (from : Settings) {r : Report} {d d′ : Device} (ls : List Line) (fres
       let a = claim.a-hit-shows-the-last-reply v xs c t f o _ _ _ says in
       let q = last-line from ls fresh life t (asking f) (a .0) (a .1) in
       (q .0, q .1, shows-seen f o _ _ (sees (request c t f o) s) (q .2) (claim.a-hit-is-this v xs c t f o _ _ _ says .listed) (a .2))
+
+  -- The same in bytes: a hit after a write is not stale. A line of this life is a request g that was reported issued, and a later request f is reported a hit, which g meets, as above. Then the
+  -- reply that the hit shows is one of the lines behind g's, and the id that it answered was issued after g: of what the lines between the two tell, the last that begins or ends a life of
+  -- that id is its issue, which asks what f asks.
+  pub a-hit-after-a-write-is-not-stale-in-bytes : (ks : List Line) (x : Line) (ys : List Line) → ls ≡ ks ++ x ∷ ys → (c t : ℕ) (g o : List ℕ) → x .call ≡ request c t g o
+      → x .saw .report .outcome ≡ 2
+      → (c′ t′ : ℕ) (f o′ : List ℕ) {saw : Seen} {d″ : Device} → Called d′ (request c′ t′ f o′) saw d″ → saw .report .outcome ≡ 10 → getD g 6 0 ≡ getD f 6 0 → Meets g f
+      → (q : LastReplyIn (inForce from) d ls t′ (asking f)) × (mid : List Line) × (ys ≡ mid ++ q .line ∷ q .later) × ShowsIn f o′ saw (q .line .saw)
+      × ((u : ℕ) × (p : Party) × (lastOf (touches (numberAt (q .fills .frame) 0)) (toldIn (inForce from) mid) ≡ some (issued (numberAt (q .fills .frame) 0) (asking f) u p)))
+  a-hit-after-a-write-is-not-stale-in-bytes ks x ys e c t g o call issue c′ t′ f o′ s hit unit met =
+      let i = each-line ks x ys (subst (λ (l : List Line). Lived d l d′) e life) in
+      let m = afterCalls v (callsOf ks) in
+      let says = a-report-tells-the-answer from ls fresh life ks x ys e .issued issue in
+      let report = ap (λ (y : Seen). y .report) (lived .saw ks x ys e) in
+      let y = a-hit-shows-the-last-reply c′ t′ f o′ s hit in
+      let q = y .0 in
+      let spoiled : spoils (asking g) (asking f) ≡ true =
+      spoils-in-bytes _ _ g f (claim.an-issue-is-this v (callsOf ks) c t g o _ _ _ _ (rw call at says) .is-legal) (claim.a-hit-is-this v xs c′ t′ f o′ _ _ _ (hit-says c′ t′ f o′ s hit) .is-legal) .1 (unit, met) in
+      ⊎-elim
+      (λ (k : (mid : List Line) × (q .before ≡ ks ++ x ∷ mid) × (ys ≡ mid ++ q .line ∷ q .later)). (
+        q,
+        k .0,
+        k .2,
+        y .2,
+        since (toldIn v ks ++ passed t ∷ []) (toldIn v (k .0)) _ (asking g) (t + v .timeout) (asker c g) (numberAt (q .fills .frame) 0) (asking f) (q .fills .deadline) spoiled
+            (rw (k .1, issue-among v ks x (k .0) c t g o (outcome m (x .call) .says) _ _ _ _ call report says) at (q .fills .unclosed)),
+      ))
+      (⊎-elim
+      (λ (k : (ks ≡ q .before) × (x ≡ q .line)). let same = sym call ∙ ap (λ (z : Line). z .call) (k .1) ∙ q .fills .is in never (cc))
+      (λ (k : (mid : List Line) × (ks ≡ q .before ++ q .line ∷ mid) × (q .later ≡ mid ++ x ∷ ys)).
+      absurd (true≢false (sym spoiled ∙ q .spared (k .0) x ys (k .2) (i .0) (subst (λ (l : List Line). Lived d l (i .0)) (k .1) (i .2)) .issues c t g o call issue))))
+      (splits ks x ys (q .before) (q .line) (q .later) (sym e ∙ q .split))
 
   -- And never caching is no way out: after a line that is a reply that fills, and any later lines of which none issues what spoils it, loses the link or takes its place, every equal
   -- request that is not refused and comes within its life is a hit that shows that reply.

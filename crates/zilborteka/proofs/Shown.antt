@@ -1,24 +1,29 @@
 -- What fills, what is spared and what a hit shows in a host's own lines is, call by call, what fills, is spared and is shown in the machine's history.
 -- Assumes nothing.
-use Prim.Native.Nat.{ℕ, _-_, _<_}
+use Prim.Native.Nat.{ℕ, _+_, _-_, _<_}
 use mathlib.Core.Path.{_≡_, refl, ap, sym, subst, subst₂, _∙_}
 use mathlib.Core.List.{List, [], _∷_, _++_, map-append, append-assoc}
 use Rattle.laws.proofs.Choice.{never}
 use Rattle.settings.specs.declared.Settings.{Settings}
 use Rattle.settings.specs.Grammar.{Value}
 use Rattle.pdu.specs.Replies.{What}
+use Rattle.pdu.specs.declared.ProxyId.{ProxyId}
 use Rattle.cache.specs.Cache.{Cache}
 use Rattle.cache.specs.Plain.{Takes, Cacheable, Life}
 use Rattle.book.specs.Book.{Event}
+use Rattle.book.specs.Book.Event.{passed, issued}
 use Rattle.machine.specs.Machine.{Machine, settings}
 use Rattle.machine.specs.Calls.{Call, Outcome}
+use Rattle.machine.specs.Calls.Call.{request}
 use Rattle.machine.specs.Refusals.{refusal}
 use Rattle.machine.specs.Outcomes.{outcome}
 use Rattle.machine.specs.Numbers.{numbers, Tells}
-use Rattle.machine.specs.Histories.{Seen, seenOf, afterCalls, toldBy}
+use Rattle.machine.specs.Spelled.{asker, asking}
+use Rattle.machine.specs.Histories.{Seen, seenOf, events, told, afterCalls, toldBy}
 use Rattle.machine.specs.Closed.{Unspoiled, numberAt}
 use Rattle.machine.specs.Cached.{Fills, Spares, LastReply, Latest, Shows}
 use Rattle.machine.specs.declared.Answer.{Answer}
+use Rattle.machine.specs.declared.Answer.the-variants as answer
 use Rattle.machine.specs.declared.Report.{Report}
 use Rattle.machine.proofs.NumberLaws.{numbers-tell, refusal-told}
 use Rattle.machine.proofs.Claims as claim
@@ -44,8 +49,24 @@ split-at (l ∷ ls) (y ∷ a) b c e =
 calls-of : (ks : List Line) (x : Line) (ys : List Line) → callsOf (ks ++ x ∷ ys) ≡ callsOf ks ++ x .call ∷ callsOf ys
 calls-of ks x ys = map-append (λ (y : Line). y .call) ks (x ∷ ys)
 
+-- What lines tell, one after the other; and what a line tells that is reported issued.
+told-on : (v : Value) (ks ys : List Line) → toldIn v (ks ++ ys) ≡ toldIn v ks ++ toldIn v ys
+unfolding toldIn
+told-on v [] ys = refl
+told-on v (x ∷ ks) ys =
+    ap (λ (ws : List (Event What)). events v (x .call) (x .saw) ++ ws) (told-on v ks ys) ∙ sym (append-assoc (events v (x .call) (x .saw)) (toldIn v ks) (toldIn v ys))
+
+pub issue-among : (v : Value) (ks : List Line) (x : Line) (ys : List Line) (c t : ℕ) (g o : List ℕ) (a : Answer) (i : ProxyId) (n p w : ℕ) → x .call ≡ request c t g o → x .saw .report ≡ numbers a
+    → a ≡ answer.Issued i n p w → toldIn v (ks ++ x ∷ ys) ≡ (toldIn v ks ++ passed t ∷ []) ++ issued (i .0) (asking g) (t + v .timeout) (asker c g) ∷ toldIn v ys
+unfolding toldIn events told numbers
+issue-among v ks x ys c t g o a i n p w call report e =
+    let here : events v (x .call) (x .saw) ≡ passed t ∷ issued (i .0) (asking g) (t + v .timeout) (asker c g) ∷ [] =
+    ap (λ (y : Call). events v y (x .saw)) call ∙ ap (λ (r : Report). events v (request c t g o) (record { report = r; frame = x .saw .frame; list = x .saw .list })) (report ∙ ap numbers e) in
+    told-on v ks (x ∷ ys) ∙ ap (λ (ws : List (Event What)). toldIn v ks ++ (ws ++ toldIn v ys)) here
+    ∙ sym (append-assoc (toldIn v ks) (passed t ∷ []) (issued (i .0) (asking g) (t + v .timeout) (asker c g) ∷ toldIn v ys))
+
 -- a line x behind the lines ks, which told what the machine's history tells and at which the host saw what the machine shows
-module _ (v : Value) (ks : List Line) (x : Line) (told : toldIn v ks ≡ toldBy v (callsOf ks)) (saw : x .saw ≡ seenOf (outcome (afterCalls v (callsOf ks)) (x .call))) where
+module _ (v : Value) (ks : List Line) (x : Line) (lines : toldIn v ks ≡ toldBy v (callsOf ks)) (saw : x .saw ≡ seenOf (outcome (afterCalls v (callsOf ks)) (x .call))) where
   abbrev m : Machine
   m = afterCalls v (callsOf ks)
 
@@ -71,8 +92,8 @@ module _ (v : Value) (ks : List Line) (x : Line) (told : toldIn v ks ≡ toldBy 
     plain = f .plain;
     client = f .entry .by;
     deadline = f .entry .deadline;
-    outstanding = rw told (claim.which-ids-are-live v (callsOf ks) (numberAt (f .frame) 0) r (f .entry .by) (f .entry .deadline) .0 (f .seat, f .entry, f .there, f .named, f .asked, refl, refl));
-    unclosed = subst₂ (λ (ws : List (Event What)) (i : ℕ). Unspoiled ws i r (f .entry .deadline)) (sym told) (f .named) (f .unclosed);
+    outstanding = rw lines (claim.which-ids-are-live v (callsOf ks) (numberAt (f .frame) 0) r (f .entry .by) (f .entry .deadline) .0 (f .seat, f .entry, f .there, f .named, f .asked, refl, refl));
+    unclosed = subst₂ (λ (ws : List (Event What)) (i : ℕ). Unspoiled ws i r (f .entry .deadline)) (sym lines) (f .named) (f .unclosed);
     start = f .start;
     quantity = f .quantity;
     reads = f .reads;
@@ -81,7 +102,7 @@ module _ (v : Value) (ks : List Line) (x : Line) (told : toldIn v ks ≡ toldBy 
 
   unfoldable pub fills-call : (r : What) → FillsIn v ks x r → Fills m vs (x .call) r
   fills-call r g =
-      let h = claim.which-ids-are-live v (callsOf ks) (numberAt (g .frame) 0) r (g .client) (g .deadline) .1 (rw told at (g .outstanding)) in
+      let h = claim.which-ids-are-live v (callsOf ks) (numberAt (g .frame) 0) r (g .client) (g .deadline) .1 (rw lines at (g .outstanding)) in
       record {
         time = g .time;
         frame = g .frame;
@@ -95,7 +116,7 @@ module _ (v : Value) (ks : List Line) (x : Line) (told : toldIn v ks ≡ toldBy 
         named = h .3;
         asked = h .4;
         plain = g .plain;
-        unclosed = subst₂ (λ (i u : ℕ). Unspoiled vs i r u) (sym (h .3)) (sym (h .6)) (rw told at (g .unclosed));
+        unclosed = subst₂ (λ (i u : ℕ). Unspoiled vs i r u) (sym (h .3)) (sym (h .6)) (rw lines at (g .unclosed));
         start = g .start;
         quantity = g .quantity;
         reads = g .reads;
