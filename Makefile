@@ -46,7 +46,7 @@ host-test: host
 	STD=c++11 tests/host/run host-as-c++ examples/host.c
 	tests/host/run host-examples tests/host/examples.c $(AGAINST_MODEL)
 	ARGS=$(SEED) tests/host/run host-stream tests/host/stream.c tests/host/dice.c tests/host/lent.c
-	ARGS=$(SEED) tests/host/run host-generated tests/host/generated.c tests/host/ledger.c tests/host/hits.c tests/host/making.c $(AGAINST_MODEL)
+	ARGS=$(SEED) tests/host/run host-generated tests/host/generated.c tests/host/ledger.c tests/host/hits.c tests/host/strict.c tests/host/making.c $(AGAINST_MODEL)
 
 install: kernel-archive
 	install -d "$(DESTDIR)$(PREFIX)/include" "$(DESTDIR)$(PREFIX)/lib/pkgconfig"

@@ -1,8 +1,8 @@
 /* Times one round of each workload over the archive and prints a line for each: the word that the program was given,
    the workload's name, the calls, and their nanoseconds of processor time. bench/run repeats rounds and takes medians.
    Frames and values are made before the clock starts: while it runs a reply gets the id that was issued, two bytes,
-   and nothing else is made. A call that does not end as its workload says ends the program. WITHOUT_CACHE: the header is of
-   before the cache, and the workloads with one are left out. */
+   and nothing else is made. A call that does not end as its workload says ends the program. WITHOUT_CACHE, WITHOUT_STRICT: the
+   header is of before the cache or strict tags, and the workloads with them are left out. */
 #define _POSIX_C_SOURCE 199309L
 #include "zilborteka.h"
 #include <stdio.h>
@@ -104,7 +104,7 @@ static void fail(const char *what)
     exit(1);
 }
 
-static void start_device(unsigned ttl)
+static void start_device(unsigned ttl, unsigned strict)
 {
     static zb_settings s = {.timeout = TIMEOUT, .join = 1, .tags = TAGS};
     for (unsigned k = 0; k < TAGS; k++) {
@@ -113,8 +113,11 @@ static void start_device(unsigned ttl)
 #ifndef WITHOUT_CACHE
         s.ttl[k] = (uint16_t)ttl;
 #endif
+#ifndef WITHOUT_STRICT
+        s.strict[k] = (uint16_t)strict;
+#endif
     }
-    (void)ttl;
+    (void)ttl, (void)strict;
 #ifdef SETTINGS_BY_VALUE
     unsigned refused = zb_fresh(&device, s).refusal;
 #else
@@ -306,21 +309,25 @@ static const struct {
     void (*refill)(void); /* before each turn, while the clock stands; or none */
     unsigned ttl;         /* of every tag */
     void (*look)(void);   /* behind the last turn; or none */
+    unsigned strict;      /* of every tag */
 } workloads[] = {
-    {"plain reads", make_reads, turn_alone, 2, NULL, 0, NULL},
-    {"plain writes", make_writes, turn_alone, 2, NULL, 0, NULL},
-    {"joined reads", make_reads, turn_joined, FEW_PARTIES + 1, NULL, 0, NULL},
-    {"joined, full entry", make_reads, turn_full, PARTIES + 1, NULL, 0, NULL},
-    {"03 with 60 tags", make_tag_reads, turn_alone, 2, NULL, 0, NULL},
-    {"16 with 60 tags", make_tag_writes, turn_alone, 2, NULL, 0, NULL},
-    {"ticks, 64 live", fill_few, turn_tick, 1, NULL, 0, NULL},
-    {"ticks, full table", fill_table, turn_tick, 1, NULL, 0, NULL},
-    {"timeouts, 64 live", make_reads, turn_few_due, FEW_PLACES, fill_few, 0, NULL},
-    {"timeouts, full table", make_reads, turn_all_due, ZB_PLACES, fill_table, 0, NULL},
+    {"plain reads", make_reads, turn_alone, 2, NULL, 0, NULL, 0},
+    {"plain writes", make_writes, turn_alone, 2, NULL, 0, NULL, 0},
+    {"joined reads", make_reads, turn_joined, FEW_PARTIES + 1, NULL, 0, NULL, 0},
+    {"joined, full entry", make_reads, turn_full, PARTIES + 1, NULL, 0, NULL, 0},
+    {"03 with 60 tags", make_tag_reads, turn_alone, 2, NULL, 0, NULL, 0},
+    {"16 with 60 tags", make_tag_writes, turn_alone, 2, NULL, 0, NULL, 0},
+#ifndef WITHOUT_STRICT
+    {"16, 60 strict tags", make_tag_writes, turn_alone, 2, NULL, 0, NULL, 1},
+#endif
+    {"ticks, 64 live", fill_few, turn_tick, 1, NULL, 0, NULL, 0},
+    {"ticks, full table", fill_table, turn_tick, 1, NULL, 0, NULL, 0},
+    {"timeouts, 64 live", make_reads, turn_few_due, FEW_PLACES, fill_few, 0, NULL, 0},
+    {"timeouts, full table", make_reads, turn_all_due, ZB_PLACES, fill_table, 0, NULL, 0},
 #ifndef WITHOUT_CACHE
-    {"hits", fill_cache, turn_hit, 1, NULL, TTL, look_at_cache},
-    {"reads, full cache", make_reads_beside, turn_alone, 2, NULL, TTL, look_at_cache},
-    {"writes, full cache", make_writes_beside, turn_alone, 2, NULL, TTL, look_at_cache},
+    {"hits", fill_cache, turn_hit, 1, NULL, TTL, look_at_cache, 0},
+    {"reads, full cache", make_reads_beside, turn_alone, 2, NULL, TTL, look_at_cache, 0},
+    {"writes, full cache", make_writes_beside, turn_alone, 2, NULL, TTL, look_at_cache, 0},
 #endif
 };
 
@@ -352,7 +359,7 @@ int main(int count, char **words)
         fail("the header is not this archive's");
     for (size_t w = 0; w < sizeof workloads / sizeof workloads[0]; w++) {
         unsigned turns = CALLS / workloads[w].calls + 1, wrong = 0;
-        start_device(workloads[w].ttl);
+        start_device(workloads[w].ttl, workloads[w].strict);
         workloads[w].make();
         timed(w, turns / 4, &wrong); /* warm */
         double took = timed(w, turns, &wrong);

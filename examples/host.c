@@ -14,6 +14,12 @@ static const char *const names[] = {
     "hit",
 };
 
+/* A level of four digits that nobody may write anything else to, a counter of eight, and a drive's torque: a sign and
+   three digits, good for half a second. */
+static const char text[] = "version=4\ntimeout=3000\njoin=1\ntags=3\naddr=1024\nwidth=16\nsign=0\nttl=0\nstrict=1\n"
+                           "addr=1026\nwidth=32\nsign=0\nttl=0\nstrict=0\n"
+                           "addr=1028\nwidth=16\nsign=1\nttl=500\nstrict=0\n";
+
 /* docs/HOST.md has what a host does with each. */
 static const char *refusal(uint32_t number)
 {
@@ -118,15 +124,13 @@ static int received(const char *call, uint64_t now, const uint8_t *piece, size_t
 
 int main(void)
 {
-    /* a level of four digits, a counter of eight, and a drive's torque: a sign and three digits, good for half a second */
-    static const char text[] = "version=3\ntimeout=3000\njoin=1\ntags=3\naddr=1024\nwidth=16\nsign=0\nttl=0\n"
-                               "addr=1026\nwidth=32\nsign=0\nttl=0\naddr=1028\nwidth=16\nsign=1\nttl=500\n";
     static const uint8_t read_3[] = {0x12, 0x34, 0, 0, 0, 6, 1, 3, 4, 0, 0, 1};
     static const uint8_t read_5[] = {0x00, 0x07, 0, 0, 0, 6, 1, 3, 4, 0, 0, 1};
     static const uint8_t reply[] = {0, 0, 0, 0, 0, 5, 1, 3, 2, 0x12, 0x34};
     static const uint8_t read_torque[] = {0x12, 0x35, 0, 0, 0, 6, 1, 3, 4, 4, 0, 1};
     static const uint8_t read_again[] = {0x00, 0x08, 0, 0, 0, 6, 1, 3, 4, 4, 0, 1};
     static const uint8_t torque[] = {0, 1, 0, 0, 0, 5, 1, 3, 2, 0xF0, 0x12}; /* minus 12: FF F4 in binary */
+    static const uint8_t write_level[] = {0x12, 0x36, 0, 0, 0, 6, 1, 6, 4, 0, 0x27, 0x10}; /* 10,000 has five digits */
     static const uint8_t noise[] = {0, 0, 0, 9, 0, 5};
 
     zb_read settings = zb_settings_read((const uint8_t *)text, strlen(text));
@@ -144,6 +148,8 @@ int main(void)
     received("the drive's torque arrives", 161, torque, sizeof torque);
     /* within half a second of that reply it is shown again: the frame is for screen 5 alone, and nothing goes out */
     told("screen 5 reads 1028 at 190", zb_request(&device, 5, 190, read_again, sizeof read_again, out, sizeof out));
+    /* nothing goes out: the exception is for screen 3 */
+    told("screen 3 writes 10000 at 195", zb_request(&device, 3, 195, write_level, sizeof write_level, out, sizeof out));
     told("screen 3 reads 1024 at 200", zb_request(&device, 3, 200, read_3, sizeof read_3, out, sizeof out));
     told("tick at 3199", zb_tick(&device, 3199, out, sizeof out, list, ZB_LIST_BUFFER));
     slept();

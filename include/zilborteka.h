@@ -26,7 +26,7 @@ extern "C" {
 #define ZB_CACHE_BYTES 16384 /* bytes of all cached replies; of one: ZB_CACHE_BYTES / ZB_CACHE_PLACES */
 #define ZB_FRAME_BUFFER 260  /* bytes that a frame buffer `out` has at least */
 #define ZB_LIST_BUFFER 64    /* numbers that a list has at least */
-#define ZB_MOST_TEXT 9512    /* bytes of the longest settings text: no value needs more to be written */
+#define ZB_MOST_TEXT 11816   /* bytes of the longest settings text: no value needs more to be written */
 
 /* One device's state, which only these calls make and change; the host owns the memory and lends it for each call.
    The fields are spelled out so that a host can place a device statically. They are not for the host to read or
@@ -46,7 +46,7 @@ typedef struct zb_state {
     uint32_t timeout;
     uint32_t join;
     uint32_t tag_count;                  /* how many tags */
-    uint64_t tag_words[ZB_MOST_TAGS];    /* a word a tag: its address, its kind and its ttl */
+    uint64_t tag_words[ZB_MOST_TAGS];    /* a word a tag: address, kind, ttl, strict; in the first whether any is */
     uint64_t cache[ZB_CACHE_NUMBERS];    /* of each cached reply what was asked, when it came, life, count; a bound */
     uint8_t  shown[ZB_CACHE_BYTES];      /* its bytes that are shown again, ZB_CACHE_BYTES / ZB_CACHE_PLACES to it */
 } zb_state;
@@ -65,9 +65,11 @@ typedef struct {
     uint16_t sign[ZB_MOST_TAGS];   /* 0 or 1; 1 with width 16 alone: the top nibble is 0 for plus and F for minus, three
                                       digits follow, and the binary form is two's complement, -999 to 999 */
     uint16_t ttl[ZB_MOST_TAGS];    /* 0 to 60000 ms: how long what was read of the tag may be shown again; 0: not */
+    uint16_t strict[ZB_MOST_TAGS]; /* 0 or 1; 1: a write that covers part of the tag, or gives it a value outside its
+                                      range, gets exception 03 and does not go out */
 } zb_settings;
 
-ZB_STATIC_ASSERT(sizeof(zb_settings) == 2060, "zb_settings has the size that the core was proved for");
+ZB_STATIC_ASSERT(sizeof(zb_settings) == 2572, "zb_settings has the size that the core was proved for");
 
 /* What a call reports. A field that a call does not speak of is 0. */
 typedef struct {
@@ -121,9 +123,9 @@ typedef struct { zb_answer answer; zb_settings settings; } zb_read;
    and numbers beyond those written stay. */
 
 /* Texts of version 1, which have no sign lines, are read as unsigned; those of versions 1 and 2, which have no ttl lines,
-   with ttl 0. */
+   with ttl 0; those of versions 1 to 3, which have no strict lines, as not strict. */
 zb_read   zb_settings_read(const uint8_t *text, size_t text_len);
-/* The text is of version 3, whatever version the value was read from. Settings are lent for the call alone and never
+/* The text is of version 4, whatever version the value was read from. Settings are lent for the call alone and never
    written; they are aligned to 4 bytes. */
 zb_answer zb_settings_write(const zb_settings *from, uint8_t *text, size_t text_len);
 /* An invalid value: ZB_REFUSED_SETTINGS, and the state is made nevertheless, for timeout 3000, join 1 and no tags.

@@ -1,4 +1,4 @@
-/* Shows document 01's examples from C, with those of requests #102, #105, #106 and #107, each refusal of each call by a
+/* Shows document 01's examples from C, with those of requests #102 and #105 to #108, each refusal of each call by a
    case written by hand, and that the header's structs lie as the archive has them. Every call also goes to the model, with
    guard bytes around what is lent. */
 #include "pair.h"
@@ -97,8 +97,11 @@ static const char text_of_the_document[] =
     "version=1\ntimeout=3000\njoin=1\ntags=2\naddr=1024\nwidth=16\naddr=1026\nwidth=32\n";
 static const char text_of_version_2[] =
     "version=2\ntimeout=3000\njoin=1\ntags=2\naddr=1024\nwidth=16\nsign=0\naddr=1026\nwidth=32\nsign=0\n";
-static const char text_written_of_the_document[] =
+static const char text_of_version_3[] =
     "version=3\ntimeout=3000\njoin=1\ntags=2\naddr=1024\nwidth=16\nsign=0\nttl=0\naddr=1026\nwidth=32\nsign=0\nttl=0\n";
+static const char text_written_of_the_document[] =
+    "version=4\ntimeout=3000\njoin=1\ntags=2\naddr=1024\nwidth=16\nsign=0\nttl=0\nstrict=0\n"
+    "addr=1026\nwidth=32\nsign=0\nttl=0\nstrict=0\n";
 
 static zb_settings settings_of_the_document(void)
 {
@@ -120,7 +123,7 @@ static void sizes_and_offsets(void)
 {
     /* document 01's numbers and #104's; that they are the archive's is seen where buffers, parties and places run short */
     EXPECT(ZB_PLACES == 256 && PARTIES == 32 && ZB_CLIENTS == 32 && ZB_FRAME_BUFFER == 260 && ZB_LIST_BUFFER == 64);
-    EXPECT(ZB_MOST_TAGS == 256 && ZB_MOST_TEXT == 9512);
+    EXPECT(ZB_MOST_TAGS == 256 && ZB_MOST_TEXT == 11816);
     EXPECT(zb_state_size() == 50224 && sizeof(zb_state) == 50224 && ZB_STATE_SIZE == 50224 && _Alignof(zb_state) == 8);
     EXPECT(offsetof(zb_state, ids) == 0 && sizeof((zb_state *)0)->ids == 1024);
     EXPECT(offsetof(zb_state, asked) == 1024 && sizeof((zb_state *)0)->asked == 2048);
@@ -139,16 +142,16 @@ static void sizes_and_offsets(void)
     EXPECT(offsetof(zb_state, tag_words) == 30248 && sizeof((zb_state *)0)->tag_words == 2048);
     EXPECT(offsetof(zb_state, cache) == 32296 && sizeof((zb_state *)0)->cache == 1544);
     EXPECT(offsetof(zb_state, shown) == 33840 && sizeof((zb_state *)0)->shown == 16384);
-    EXPECT(sizeof(zb_settings) == 2060 && _Alignof(zb_settings) == 4);
+    EXPECT(sizeof(zb_settings) == 2572 && _Alignof(zb_settings) == 4);
     EXPECT(offsetof(zb_settings, timeout) == 0 && offsetof(zb_settings, join) == 4 && offsetof(zb_settings, tags) == 8);
     EXPECT(offsetof(zb_settings, addr) == 12 && offsetof(zb_settings, width) == 524 && offsetof(zb_settings, sign) == 1036);
-    EXPECT(offsetof(zb_settings, ttl) == 1548);
+    EXPECT(offsetof(zb_settings, ttl) == 1548 && offsetof(zb_settings, strict) == 2060);
     EXPECT(sizeof(zb_answer) == 40 && offsetof(zb_answer, refusal) == 0 && offsetof(zb_answer, line) == 4);
     EXPECT(offsetof(zb_answer, outcome) == 8 && offsetof(zb_answer, length) == 12);
     EXPECT(offsetof(zb_answer, parties) == 16);
     EXPECT(offsetof(zb_answer, partial) == 20 && offsetof(zb_answer, value) == 24 && offsetof(zb_answer, set) == 28);
     EXPECT(offsetof(zb_answer, id) == 32 && offsetof(zb_answer, code) == 36);
-    EXPECT(sizeof(zb_read) == 2100 && offsetof(zb_read, answer) == 0 && offsetof(zb_read, settings) == 40);
+    EXPECT(sizeof(zb_read) == 2612 && offsetof(zb_read, answer) == 0 && offsetof(zb_read, settings) == 40);
     EXPECT(sizeof(zb_next) == 16 && offsetof(zb_next, time) == 0 && offsetof(zb_next, live) == 8);
 }
 
@@ -1122,6 +1125,295 @@ static void which_place_a_reply_takes(void)
     }
 }
 
+/* Strict tags (#108): of each kind a strict one and a lenient one; registers 28 to 31 lie in no tag */
+
+static void begin_strict(void)
+{
+    static const struct { uint16_t addr, width, sign, ttl, strict; } tags[] = {
+        {16, 16, 0, 0, 1}, {17, 16, 0, 0, 0}, {18, 32, 0, 0, 1}, {20, 32, 0, 0, 0}, {22, 16, 1, 0, 1}, {23, 16, 1, 0, 0},
+        {24, 16, 0, 100, 1}, {25, 32, 0, 100, 1}, {27, 16, 0, 0, 1}, {65533, 32, 0, 0, 1}, {65535, 16, 0, 0, 1},
+    };
+    zb_settings s = {.timeout = 3000, .join = 1, .tags = sizeof tags / sizeof *tags};
+    for (uint32_t t = 0; t < s.tags; t++) {
+        s.addr[t] = tags[t].addr;
+        s.width[t] = tags[t].width;
+        s.sign[t] = tags[t].sign;
+        s.ttl[t] = tags[t].ttl;
+        s.strict[t] = tags[t].strict;
+    }
+    EXPECT(pair_fresh(&s).outcome == ZB_DONE && pair_attach(3).outcome == ZB_DONE && pair_attach(5).outcome == ZB_DONE);
+}
+
+/* Exception 03 to what was asked under id 1234 of unit 1, in nine bytes; those behind them stay, which were all alike. */
+static bool is_forbidden(zb_answer a, uint8_t function)
+{
+    bool stay = true;
+    for (size_t k = 9; k < ZB_FRAME_BUFFER; k++)
+        stay &= pair_out()[k] == pair_out()[ZB_FRAME_BUFFER - 1];
+    return stay && is_exception(a, 3, function == 6 ? "12 34 00 00 00 03 01 86 03" : "12 34 00 00 00 03 01 90 03");
+}
+
+static uint8_t function_of(const char *hex)
+{
+    uint8_t frame[MOST_FRAME];
+    bytes_of(hex, frame);
+    return frame[7];
+}
+
+/* A write that a client makes, and what is sent for it; nothing: exception 03, and the next request is the first that is
+   issued. */
+typedef struct {
+    const char *what, *write, *sent;
+    uint32_t partial, value;
+} strict_row;
+
+static void write_rows(const strict_row *rows, size_t count)
+{
+    for (size_t n = 0; n < count; n++) {
+        begin_strict();
+        zb_answer a = request(3, 7, rows[n].write);
+        bool good = rows[n].sent ? is_issued(a, 0) && wrote(a, rows[n].sent) && raw(a, rows[n].partial, rows[n].value)
+                                 : is_forbidden(a, function_of(rows[n].write));
+        expect(good, rows[n].what, __LINE__);
+        if (rows[n].sent)
+            continue;
+        EXPECT_REFUSED(tick(6), ZB_REFUSED_TIME); /* the clock was set, and nothing else changed (pair.c looks) */
+        EXPECT(is_issued(request(3, 7, "00 01 00 00 00 06 01 06 00 1C 27 10"), 0));
+    }
+}
+
+#define WRITE_ROWS(rows) write_rows(rows, sizeof rows / sizeof *rows)
+
+static void strict_of_width_16(void)
+{
+    static const strict_row rows[] = {
+        {"9,999 by 06", "12 34 00 00 00 06 01 06 00 10 27 0F", "00 00 00 00 00 06 01 06 00 10 99 99", 0, 0},
+        {"10,000 by 06", "12 34 00 00 00 06 01 06 00 10 27 10", NULL, 0, 0},
+        {"9,999 by 16", "12 34 00 00 00 09 01 10 00 10 00 01 02 27 0F", "00 00 00 00 00 09 01 10 00 10 00 01 02 99 99", 0, 0},
+        {"10,000 by 16", "12 34 00 00 00 09 01 10 00 10 00 01 02 27 10", NULL, 0, 0},
+        {"9,999 by 06, lenient", "12 34 00 00 00 06 01 06 00 11 27 0F", "00 00 00 00 00 06 01 06 00 11 99 99", 0, 0},
+        {"10,000 by 06, lenient", "12 34 00 00 00 06 01 06 00 11 27 10", "00 00 00 00 00 06 01 06 00 11 27 10", 0, 1},
+        {"9,999 by 16, lenient", "12 34 00 00 00 09 01 10 00 11 00 01 02 27 0F",
+         "00 00 00 00 00 09 01 10 00 11 00 01 02 99 99", 0, 0},
+        {"10,000 by 16, lenient", "12 34 00 00 00 09 01 10 00 11 00 01 02 27 10",
+         "00 00 00 00 00 09 01 10 00 11 00 01 02 27 10", 0, 1},
+        {"0", "12 34 00 00 00 06 01 06 00 10 00 00", "00 00 00 00 00 06 01 06 00 10 00 00", 0, 0},
+        {"65,535", "12 34 00 00 00 06 01 06 00 10 FF FF", NULL, 0, 0},
+        {"39,321, which looks like 9,999 in digits", "12 34 00 00 00 06 01 06 00 10 99 99", NULL, 0, 0},
+        {"the last register", "12 34 00 00 00 06 01 06 FF FF 27 10", NULL, 0, 0},
+        {"the last register by 16", "12 34 00 00 00 09 01 10 FF FF 00 01 02 27 0F",
+         "00 00 00 00 00 09 01 10 FF FF 00 01 02 99 99", 0, 0},
+        {"10,000 behind the last tag below", "12 34 00 00 00 06 01 06 00 1C 27 10", "00 00 00 00 00 06 01 06 00 1C 27 10", 0, 0},
+        {"10,000 before the first tag", "12 34 00 00 00 06 01 06 00 0F 27 10", "00 00 00 00 00 06 01 06 00 0F 27 10", 0, 0},
+    };
+    WRITE_ROWS(rows);
+}
+
+static void strict_of_width_32(void)
+{
+    static const strict_row rows[] = {
+        {"06 at its address", "12 34 00 00 00 06 01 06 00 12 00 00", NULL, 0, 0},
+        {"06 at the register behind", "12 34 00 00 00 06 01 06 00 13 00 00", NULL, 0, 0},
+        {"06 at its address, lenient", "12 34 00 00 00 06 01 06 00 14 00 07", "00 00 00 00 00 06 01 06 00 14 00 07", 1, 0},
+        {"06 behind, lenient", "12 34 00 00 00 06 01 06 00 15 00 07", "00 00 00 00 00 06 01 06 00 15 00 07", 1, 0},
+        {"16 of the first register", "12 34 00 00 00 09 01 10 00 12 00 01 02 00 00", NULL, 0, 0},
+        {"16 of the second register", "12 34 00 00 00 09 01 10 00 13 00 01 02 00 00", NULL, 0, 0},
+        {"16 that ends inside", "12 34 00 00 00 0B 01 10 00 11 00 02 04 00 05 00 00", NULL, 0, 0},
+        {"16 that begins inside", "12 34 00 00 00 0D 01 10 00 13 00 03 06 00 00 00 05 00 00", NULL, 0, 0},
+        {"16 that ends inside at the last addresses", "12 34 00 00 00 0B 01 10 FF FC 00 02 04 00 05 00 00", NULL, 0, 0},
+        {"16 that begins inside there", "12 34 00 00 00 0B 01 10 FF FE 00 02 04 00 00 00 05", NULL, 0, 0},
+        {"99,999,999", "12 34 00 00 00 0B 01 10 00 12 00 02 04 E0 FF 05 F5",
+         "00 00 00 00 00 0B 01 10 00 12 00 02 04 99 99 99 99", 0, 0},
+        {"100,000,000", "12 34 00 00 00 0B 01 10 00 12 00 02 04 E1 00 05 F5", NULL, 0, 0},
+        {"99,999,999, lenient", "12 34 00 00 00 0B 01 10 00 14 00 02 04 E0 FF 05 F5",
+         "00 00 00 00 00 0B 01 10 00 14 00 02 04 99 99 99 99", 0, 0},
+        {"100,000,000, lenient", "12 34 00 00 00 0B 01 10 00 14 00 02 04 E1 00 05 F5",
+         "00 00 00 00 00 0B 01 10 00 14 00 02 04 E1 00 05 F5", 0, 1},
+        {"a low word above 9,999", "12 34 00 00 00 0B 01 10 00 12 00 02 04 FF FF 00 00",
+         "00 00 00 00 00 0B 01 10 00 12 00 02 04 55 35 00 06", 0, 0},
+        {"the same words the other way round", "12 34 00 00 00 0B 01 10 00 12 00 02 04 00 00 FF FF", NULL, 0, 0},
+        {"12,345,678 the other way round", "12 34 00 00 00 0B 01 10 00 12 00 02 04 00 BC 61 4E", NULL, 0, 0},
+    };
+    WRITE_ROWS(rows);
+}
+
+static void strict_with_a_sign(void)
+{
+    static const strict_row rows[] = {
+        {"-999 by 06", "12 34 00 00 00 06 01 06 00 16 FC 19", "00 00 00 00 00 06 01 06 00 16 F9 99", 0, 0},
+        {"-1,000 by 06", "12 34 00 00 00 06 01 06 00 16 FC 18", NULL, 0, 0},
+        {"0x8000 by 06", "12 34 00 00 00 06 01 06 00 16 80 00", NULL, 0, 0},
+        {"999 by 06", "12 34 00 00 00 06 01 06 00 16 03 E7", "00 00 00 00 00 06 01 06 00 16 09 99", 0, 0},
+        {"1,000 by 06", "12 34 00 00 00 06 01 06 00 16 03 E8", NULL, 0, 0},
+        {"-999 by 16", "12 34 00 00 00 09 01 10 00 16 00 01 02 FC 19", "00 00 00 00 00 09 01 10 00 16 00 01 02 F9 99", 0, 0},
+        {"-1,000 by 16", "12 34 00 00 00 09 01 10 00 16 00 01 02 FC 18", NULL, 0, 0},
+        {"0x8000 by 16", "12 34 00 00 00 09 01 10 00 16 00 01 02 80 00", NULL, 0, 0},
+        {"999 by 16", "12 34 00 00 00 09 01 10 00 16 00 01 02 03 E7", "00 00 00 00 00 09 01 10 00 16 00 01 02 09 99", 0, 0},
+        {"1,000 by 16", "12 34 00 00 00 09 01 10 00 16 00 01 02 03 E8", NULL, 0, 0},
+        {"0", "12 34 00 00 00 06 01 06 00 16 00 00", "00 00 00 00 00 06 01 06 00 16 00 00", 0, 0},
+        {"-1", "12 34 00 00 00 06 01 06 00 16 FF FF", "00 00 00 00 00 06 01 06 00 16 F0 01", 0, 0},
+        {"9,999, in range without a sign", "12 34 00 00 00 06 01 06 00 16 27 0F", NULL, 0, 0},
+        {"-4,096, which looks like minus 0", "12 34 00 00 00 06 01 06 00 16 F0 00", NULL, 0, 0},
+        {"-4,095, which looks like -1 in digits", "12 34 00 00 00 06 01 06 00 16 F0 01", NULL, 0, 0},
+        {"-1,000 by 06, lenient", "12 34 00 00 00 06 01 06 00 17 FC 18", "00 00 00 00 00 06 01 06 00 17 FC 18", 0, 1},
+        {"0x8000 by 16, lenient", "12 34 00 00 00 09 01 10 00 17 00 01 02 80 00",
+         "00 00 00 00 00 09 01 10 00 17 00 01 02 80 00", 0, 1},
+    };
+    WRITE_ROWS(rows);
+}
+
+/* Several tags in one frame: a strict one decides wherever it stands, and without a fault of one the lenient ones count. */
+static void strict_beside_others(void)
+{
+    static const strict_row rows[] = {
+        {"the second is strict and wrong", "12 34 00 00 00 0D 01 10 00 11 00 03 06 00 05 E1 00 05 F5", NULL, 0, 0},
+        {"of two strict ones the second is wrong", "12 34 00 00 00 0D 01 10 00 18 00 03 06 00 05 E1 00 05 F5", NULL, 0, 0},
+        {"of two strict ones the first is wrong", "12 34 00 00 00 0D 01 10 00 18 00 03 06 27 10 00 05 00 00", NULL, 0, 0},
+        {"the first is strict and wrong", "12 34 00 00 00 0B 01 10 00 10 00 02 04 27 10 00 05", NULL, 0, 0},
+        {"both are wrong, the first strict", "12 34 00 00 00 0B 01 10 00 10 00 02 04 27 10 27 10", NULL, 0, 0},
+        {"both are wrong, the second strict", "12 34 00 00 00 0D 01 10 00 11 00 03 06 27 10 E1 00 05 F5", NULL, 0, 0},
+        {"the lenient second is wrong", "12 34 00 00 00 0B 01 10 00 10 00 02 04 00 10 27 10",
+         "00 00 00 00 00 0B 01 10 00 10 00 02 04 00 16 27 10", 0, 1},
+        {"the lenient first is wrong", "12 34 00 00 00 0D 01 10 00 11 00 03 06 27 10 00 10 00 00",
+         "00 00 00 00 00 0D 01 10 00 11 00 03 06 27 10 00 16 00 00", 0, 1},
+        {"a lenient one is cut behind a strict one", "12 34 00 00 00 0D 01 10 00 12 00 03 06 00 10 00 00 00 07",
+         "00 00 00 00 00 0D 01 10 00 12 00 03 06 00 16 00 00 00 07", 1, 0},
+        {"a strict one is cut behind a lenient one", "12 34 00 00 00 0D 01 10 00 17 00 03 06 00 05 00 05 00 05", NULL, 0, 0},
+        {"all tags, right",
+         "12 34 00 00 00 1F 01 10 00 10 00 0C 18 00 10 00 10 00 10 00 00 00 10 00 00 FF F0 FF F0 00 10 00 10 00 00 00 10",
+         "00 00 00 00 00 1F 01 10 00 10 00 0C 18 00 16 00 16 00 16 00 00 00 16 00 00 F0 16 F0 16 00 16 00 16 00 00 00 16", 0, 0},
+        {"all tags, the last wrong",
+         "12 34 00 00 00 1F 01 10 00 10 00 0C 18 00 10 00 10 00 10 00 00 00 10 00 00 FF F0 FF F0 00 10 00 10 00 00 27 10",
+         NULL, 0, 0},
+        {"wrong in the register behind the range", "12 34 00 00 00 09 01 10 00 11 00 01 02 00 10",
+         "00 00 00 00 00 09 01 10 00 11 00 01 02 00 16", 0, 0},
+        {"no tag", "12 34 00 00 00 0F 01 10 00 1C 00 04 08 FF FF FF FF FF FF FF FF",
+         "00 00 00 00 00 0F 01 10 00 1C 00 04 08 FF FF FF FF FF FF FF FF", 0, 0},
+    };
+    WRITE_ROWS(rows);
+}
+
+/* Refusals and document 01's exceptions come before; 04 comes behind. */
+static void what_comes_before_a_strict_tag(void)
+{
+    static const uint8_t wrong[] = {0x12, 0x34, 0, 0, 0, 6, 1, 6, 0, 16, 0x27, 0x10};
+    uint8_t plain[] = {0, 1, 0, 0, 0, 6, 1, 6, 0, 28, 0x27, 0x10};
+    begin_strict();
+    EXPECT(tick(10).outcome == ZB_NOTHING_DUE);
+    EXPECT_REFUSED(pair_request(3, 10, wrong, 12, ZB_FRAME_BUFFER - 1), ZB_REFUSED_BUFFER);
+    EXPECT_REFUSED(pair_request(4, 10, wrong, 12, ZB_FRAME_BUFFER), ZB_REFUSED_CLIENT);
+    EXPECT_REFUSED(pair_request(3, 9, wrong, 12, ZB_FRAME_BUFFER), ZB_REFUSED_TIME);
+    EXPECT_REFUSED(pair_request(3, 10, wrong, 11, ZB_FRAME_BUFFER), ZB_REFUSED_FRAME);
+    EXPECT_REFUSED(request(3, 10, "12 34 00 00 00 07 01 06 00 10 27 10 00"), ZB_REFUSED_LENGTH);
+    EXPECT_REFUSED(request(3, 10, "12 34 00 00 00 09 01 10 00 10 00 01 03 27 10"), ZB_REFUSED_LENGTH);
+    /* a range beyond the last register, with a wrong value and with a tag that is cut */
+    zb_answer a = request(3, 10, "12 34 00 00 00 0B 01 10 FF FF 00 02 04 27 10 00 00");
+    EXPECT(is_exception(a, 2, "12 34 00 00 00 03 01 90 02"));
+    a = request(3, 10, "12 34 00 00 00 0D 01 10 FF FE 00 03 06 00 00 00 00 00 00");
+    EXPECT(is_exception(a, 2, "12 34 00 00 00 03 01 90 02"));
+    /* quantity 0, a byte count that does not fit, and quantity 124 beyond the last register: 03 by document 01 */
+    EXPECT(is_forbidden(request(3, 10, "12 34 00 00 00 07 01 10 00 10 00 00 00"), 16));
+    EXPECT(is_forbidden(request(3, 10, "12 34 00 00 00 09 01 10 00 10 00 02 02 27 10"), 16));
+    EXPECT(is_forbidden(request(3, 10, "12 34 00 00 00 09 01 10 FF FF 00 7C 02 27 10"), 16));
+    for (uint32_t n = 0; n < ZB_PLACES; n++)
+        EXPECT(is_issued(pair_request(3, 10, plain, 12, ZB_FRAME_BUFFER), n));
+    EXPECT(is_forbidden(pair_request(3, 10, wrong, 12, ZB_FRAME_BUFFER), 6));
+    EXPECT(is_exception(request(3, 10, "12 34 00 00 00 06 01 06 00 10 27 0F"), 4, "12 34 00 00 00 03 01 86 04"));
+}
+
+/* Writes that a strict tag forbids, over registers that are read: for its value, and cut at either end. */
+static const char *const forbidden_writes[] = {
+    "12 34 00 00 00 06 01 06 00 18 27 10", "12 34 00 00 00 06 01 06 00 19 00 00",
+    "12 34 00 00 00 06 01 06 00 1A 00 00", "12 34 00 00 00 09 01 10 00 18 00 01 02 27 10",
+    "12 34 00 00 00 0D 01 10 00 18 00 03 06 00 05 E1 00 05 F5", "12 34 00 00 00 0B 01 10 00 17 00 02 04 00 05 27 10",
+    "12 34 00 00 00 0B 01 10 00 18 00 02 04 00 05 00 05", "12 34 00 00 00 0B 01 10 00 1A 00 02 04 00 05 00 05",
+};
+
+/* Registers 24 to 26 are read by 03 and 04 and then cached: a write that is forbidden closes and drops nothing of them, one
+   that is issued does. */
+static void forbidden_writes_close_and_drop_nothing(void)
+{
+    static const key holding = {1, 3, 24, 3}, input = {1, 4, 24, 3};
+    for (size_t n = 0; n < sizeof forbidden_writes / sizeof *forbidden_writes; n++) {
+        uint8_t function = function_of(forbidden_writes[n]);
+        begin_strict();
+        zb_answer first = ask(3, 0, 1, holding), second = ask(3, 0, 2, input);
+        EXPECT(is_issued(first, 0) && is_issued(second, 1));
+        expect(is_forbidden(request(3, 0, forbidden_writes[n]), function), forbidden_writes[n], __LINE__);
+        EXPECT(ask(5, 0, 3, holding).outcome == ZB_JOINED && ask(5, 0, 4, input).outcome == ZB_JOINED);
+        shown s = say(10, first, holding, 7), t = say(10, second, input, 8);
+        EXPECT(s.answer.parties == 2 && t.answer.parties == 2);
+        expect(is_forbidden(request(3, 10, forbidden_writes[n]), function), forbidden_writes[n], __LINE__);
+        EXPECT(is_hit(ask(5, 10, 5, holding), 5, &s) && is_hit(ask(5, 10, 6, input), 6, &t));
+        EXPECT(is_issued(request(3, 10, "12 34 00 00 00 06 01 06 00 18 27 0F"), 2));
+        EXPECT(is_issued(ask(5, 10, 7, holding), 3) && is_issued(ask(5, 10, 8, input), 4));
+        EXPECT(is_issued(request(3, 10, "12 34 00 00 00 06 01 06 00 18 27 0F"), 5));
+        EXPECT(is_issued(ask(3, 10, 9, holding), 6) && is_issued(ask(3, 10, 10, input), 7));
+    }
+}
+
+/* Reads are never forbidden: of a part of a tag, and whatever the controller says. Nor are writes of coils. */
+static void strict_tags_are_read(void)
+{
+    static const struct { uint32_t start, quantity, word, partial, value; } rows[] = {
+        {16, 1, 0x0012, 0, 0}, {16, 1, 0x00AB, 0, 1}, {18, 1, 0x0012, 1, 0}, {19, 1, 0x00AB, 1, 0}, {17, 2, 0x00AB, 1, 1},
+        {18, 2, 0x00AB, 0, 1}, {22, 1, 0xF000, 0, 1}, {22, 1, 0xF005, 0, 0}, {22, 4, 0x00AB, 1, 3}, {65534, 2, 0x00AB, 1, 1},
+    };
+    for (size_t n = 0; n < sizeof rows / sizeof *rows; n++)
+        for (uint8_t function = 3; function <= 4; function++) {
+            key k = {1, function, rows[n].start, rows[n].quantity};
+            begin_strict();
+            zb_answer issued = ask(3, 0, 0x1234, k), a = say(0, issued, k, rows[n].word).answer;
+            EXPECT(is_issued(issued, 0) && a.outcome == ZB_ANSWERED && raw(a, rows[n].partial, rows[n].value));
+        }
+    begin_strict();
+    EXPECT(is_issued(request(3, 0, "12 34 00 00 00 06 01 05 00 12 FF 00"), 0));
+    EXPECT(is_issued(request(3, 0, "12 34 00 00 00 08 01 0F 00 12 00 01 01 01"), 1));
+}
+
+/* What goes out at a strict tag was re-encoded, so that its echo is decoded (#106). */
+static void echoes_of_strict_tags(void)
+{
+    begin_strict();
+    EXPECT(wrote(request(3, 0, "12 34 00 00 00 06 01 06 00 10 04 D2"), "00 00 00 00 00 06 01 06 00 10 12 34"));
+    zb_answer a = reply(0, "00 00 00 00 00 06 01 06 00 10 12 34");
+    EXPECT(wrote(a, "00 00 00 00 00 06 01 06 00 10 04 D2") && raw(a, 0, 0) && a.parties == 1);
+    EXPECT(wrote(request(3, 0, "12 34 00 00 00 06 01 06 00 16 FF FB"), "00 01 00 00 00 06 01 06 00 16 F0 05"));
+    a = reply(0, "00 01 00 00 00 06 01 06 00 16 F0 05");
+    EXPECT(wrote(a, "00 00 00 00 00 06 01 06 00 16 FF FB") && raw(a, 0, 0));
+    EXPECT(is_issued(request(3, 0, "12 34 00 00 00 06 01 06 00 10 00 05"), 2));
+    a = reply(0, "00 02 00 00 00 06 01 06 00 10 00 AB"); /* no number: it passes, as under a lenient tag */
+    EXPECT(wrote(a, "00 00 00 00 00 06 01 06 00 10 00 AB") && raw(a, 0, 1));
+}
+
+/* All 65,536 words to a strict tag by 06: so many as its kind has numbers go out, and each echo is what was written. */
+static unsigned words_that_go_out(uint32_t addr)
+{
+    uint8_t frame[] = {0x12, 0x34, 0, 0, 0, 6, 1, 6, 0, 0, 0, 0}, echo[12];
+    unsigned sent = 0, astray = 0;
+    put_word(frame + 8, addr);
+    begin_strict();
+    for (uint32_t word = 0; word < 65536; word++) {
+        put_word(frame + 10, word);
+        zb_answer a = pair_request(3, 0, frame, sizeof frame, ZB_FRAME_BUFFER);
+        if (a.outcome != ZB_ISSUED) {
+            astray += !is_forbidden(a, 6);
+            continue;
+        }
+        sent++;
+        memcpy(echo, pair_out(), sizeof echo);
+        astray += !raw(a, 0, 0) || !raw(pair_reply(0, echo, sizeof echo, ZB_FRAME_BUFFER, ZB_LIST_BUFFER), 0, 0);
+        astray += word_of_out(10) != word;
+    }
+    EXPECT(astray == 0);
+    return sent;
+}
+
+static void every_strict_word(void)
+{
+    EXPECT(words_that_go_out(16) == 10000 && words_that_go_out(22) == 1999 && words_that_go_out(18) == 0);
+}
+
 /* The mistakes that document 01 rules out */
 
 static void cursor_and_clock_stay_after_a_lost_link(void)
@@ -1351,7 +1643,7 @@ static bool is_read_so(zb_answer a, uint32_t line)
 static void texts(void)
 {
     static const struct { const char *text; uint32_t line; } rows[] = {
-        {"", 1}, {"version=0\n", 1}, {"version=4\n", 1}, {"version=1", 1}, {"version=01\n", 1}, {" version=1\n", 1},
+        {"", 1}, {"version=0\n", 1}, {"version=5\n", 1}, {"version=1", 1}, {"version=01\n", 1}, {" version=1\n", 1},
         {"version=1\n", 2},
         {"version=1\ntimeout=99\n", 2}, {"version=1\ntimeout=60001\n", 2}, {"version=1\r\ntimeout=100\n", 1},
         {"version=1\ntimeout=0100\n", 2}, {"version=1\ntimeout=100\njoin=2\n", 3},
@@ -1376,8 +1668,11 @@ static void texts(void)
 #define VERSION_1 "version=1\ntimeout=100\njoin=0\n"
 #define VERSION_2 "version=2\ntimeout=100\njoin=0\n"
 #define VERSION_3 "version=3\ntimeout=100\njoin=0\n"
+#define VERSION_4 "version=4\ntimeout=100\njoin=0\n"
 #define TAG_5 "addr=5\nwidth=16\nsign=1\n"
 #define TAG_6 "addr=6\nwidth=32\nsign=0\n"
+#define WITH_TTL_5 TAG_5 "ttl=7\n"
+#define WITH_TTL_6 TAG_6 "ttl=8\n"
 
 /* A sign line behind each width line from version 2 on, and none in version 1. */
 static void texts_with_signs(void)
@@ -1416,11 +1711,11 @@ static void texts_with_signs(void)
         expect(is_read_so(read_text(rows[n].text), rows[n].line), rows[n].text, __LINE__);
 }
 
-/* A ttl line behind each sign line in version 3, and none in the older versions. */
+/* A ttl line behind each sign line from version 3 on, and none in the older versions. */
 static void texts_with_ttls(void)
 {
     static const struct { const char *text; uint32_t line; } rows[] = {
-        {"version=3", 1}, {"version=03\n", 1}, {"version=3\n", 2}, {"version=13\n", 1}, {"version=30\n", 1}, {"version=4\n", 1},
+        {"version=3", 1}, {"version=03\n", 1}, {"version=3\n", 2}, {"version=13\n", 1}, {"version=30\n", 1},
         {VERSION_3, 4}, {VERSION_3 "tags=0\n", 0}, {VERSION_3 "tags=0\nttl=0\n", 5},
         {VERSION_3 "tags=1\n" TAG_5, 8}, {VERSION_3 "tags=1\n" TAG_5 "ttl=0\n", 0}, {VERSION_3 "tags=1\n" TAG_5 "ttl=1\n", 0},
         {VERSION_3 "tags=1\n" TAG_5 "ttl=59999\n", 0}, {VERSION_3 "tags=1\n" TAG_5 "ttl=60000\n", 0},
@@ -1447,15 +1742,59 @@ static void texts_with_ttls(void)
         expect(is_read_so(read_text(rows[n].text), rows[n].line), rows[n].text, __LINE__);
 }
 
+/* A strict line behind each ttl line in version 4, and none in the older versions. */
+static void texts_with_stricts(void)
+{
+    static const struct { const char *text; uint32_t line; } rows[] = {
+        {"version=4", 1}, {"version=04\n", 1}, {"version=4\n", 2}, {"version=14\n", 1}, {"version=40\n", 1}, {"version=5\n", 1},
+        {"version=9\n", 1}, {"version=10\n", 1}, {"version=-4\n", 1}, {"version=4294967300\n", 1},
+        {VERSION_4, 4}, {VERSION_4 "tags=0\n", 0}, {VERSION_4 "tags=0\nstrict=0\n", 5}, {VERSION_4 "tags=1\n" WITH_TTL_5, 9},
+        {VERSION_4 "tags=1\n" WITH_TTL_5 "strict=0\n", 0}, {VERSION_4 "tags=1\n" WITH_TTL_5 "strict=1\n", 0},
+        {VERSION_4 "tags=1\n" WITH_TTL_6 "strict=0\n", 0}, {VERSION_4 "tags=1\n" WITH_TTL_6 "strict=1\n", 0},
+        {VERSION_4 "tags=1\n" WITH_TTL_5 "strict=2\n", 9}, {VERSION_4 "tags=1\n" WITH_TTL_5 "strict=10\n", 9},
+        {VERSION_4 "tags=1\n" WITH_TTL_5 "strict=256\n", 9}, {VERSION_4 "tags=1\n" WITH_TTL_5 "strict=65536\n", 9},
+        {VERSION_4 "tags=1\n" WITH_TTL_5 "strict=65537\n", 9}, {VERSION_4 "tags=1\n" WITH_TTL_5 "strict=4294967297\n", 9},
+        {VERSION_4 "tags=1\n" WITH_TTL_5 "strict=\n", 9}, {VERSION_4 "tags=1\n" WITH_TTL_5 "strict=00\n", 9},
+        {VERSION_4 "tags=1\n" WITH_TTL_5 "strict=01\n", 9}, {VERSION_4 "tags=1\n" WITH_TTL_5 "strict=-1\n", 9},
+        {VERSION_4 "tags=1\n" WITH_TTL_5 "strict=+1\n", 9}, {VERSION_4 "tags=1\n" WITH_TTL_5 "strict= 1\n", 9},
+        {VERSION_4 "tags=1\n" WITH_TTL_5 "strict=1\r\n", 9}, {VERSION_4 "tags=1\n" WITH_TTL_5 "Strict=1\n", 9},
+        {VERSION_4 "tags=1\n" WITH_TTL_5 "stric=1\n", 9}, {VERSION_4 "tags=1\n" WITH_TTL_5 "strict=1", 9},
+        {VERSION_4 "tags=1\n" WITH_TTL_5 "strict=1\n\n", 10}, {VERSION_4 "tags=1\n" WITH_TTL_5 "strict=1\nstrict=1\n", 10},
+        {VERSION_4 "tags=1\n" TAG_5 "strict=0\nttl=7\n", 8}, {VERSION_4 "tags=1\n" TAG_5 "ttl=60001\nstrict=1\n", 8},
+        {VERSION_4 "tags=1\naddr=5\nwidth=32\nsign=1\nttl=0\nstrict=1\n", 7},
+        {VERSION_4 "tags=1\naddr=5\nwidth=24\nsign=0\nttl=0\nstrict=1\n", 6},
+        {VERSION_4 "tags=1\naddr=65536\nwidth=16\nsign=0\nttl=0\nstrict=1\n", 5},
+        {VERSION_4 "tags=2\n" WITH_TTL_5 "strict=1\n" WITH_TTL_6 "strict=1\n", 0},
+        {VERSION_4 "tags=2\n" WITH_TTL_5 "strict=1\n" WITH_TTL_6 "strict=2\n", 14},
+        {VERSION_4 "tags=2\n" WITH_TTL_5 "strict=1\n" WITH_TTL_6, 14},
+        {VERSION_4 "tags=2\n" WITH_TTL_5 "strict=1\n" WITH_TTL_5 "strict=1\n", 10},
+        {VERSION_4 "tags=2\n" WITH_TTL_5 "strict=1\naddr=6\nwidth=32\nsign=1\nttl=0\nstrict=1\n", 12},
+        {VERSION_4 "tags=2\n" WITH_TTL_5 "strict=1\n" TAG_6 "ttl=60001\nstrict=0\n", 13},
+        {VERSION_4 "tags=2\n" WITH_TTL_5 "strict=1\n" WITH_TTL_6 "strict=0\nx", 15},
+        {VERSION_4 "tags=3\n" WITH_TTL_5 "strict=1\n" WITH_TTL_6 "strict=0\n", 15},
+        {VERSION_4 "tags=2\n" WITH_TTL_5 WITH_TTL_6, 9}, {VERSION_3 "tags=1\n" WITH_TTL_5 "strict=0\n", 9},
+        {VERSION_3 "tags=2\n" WITH_TTL_5 "strict=0\n" WITH_TTL_6 "strict=0\n", 9},
+        {VERSION_3 "tags=2\n" WITH_TTL_5 WITH_TTL_6 "strict=0\n", 13}, {VERSION_2 "tags=1\n" TAG_5 "strict=0\n", 8},
+        {VERSION_1 "tags=1\naddr=5\nwidth=16\nstrict=0\n", 7},
+    };
+    for (size_t n = 0; n < sizeof rows / sizeof *rows; n++)
+        expect(is_read_so(read_text(rows[n].text), rows[n].line), rows[n].text, __LINE__);
+}
+
 static const char text_with_ttls[] =
     "version=3\ntimeout=3000\njoin=1\ntags=4\naddr=1024\nwidth=16\nsign=0\nttl=500\naddr=1026\nwidth=32\nsign=0\nttl=60000\n"
     "addr=1028\nwidth=16\nsign=1\nttl=0\naddr=1029\nwidth=32\nsign=0\nttl=1\n";
+
+static const char text_with_stricts[] =
+    "version=4\ntimeout=3000\njoin=1\ntags=4\naddr=1024\nwidth=16\nsign=0\nttl=500\nstrict=1\n"
+    "addr=1026\nwidth=32\nsign=0\nttl=60000\nstrict=0\naddr=1028\nwidth=16\nsign=1\nttl=0\nstrict=1\n"
+    "addr=1029\nwidth=32\nsign=0\nttl=1\nstrict=1\n";
 
 /* A right text with one line replaced, cut short at its end, left out or there twice: wrong at that line, or behind it. */
 static void damage_each_line(const char *text, uint32_t lines)
 {
     const char *line = text;
-    char damaged[256];
+    char damaged[320];
     EXPECT(read_text(text).outcome == ZB_DONE);
     for (uint32_t n = 1; n <= lines; n++) {
         const char *end = strchr(line, '\n') + 1;
@@ -1477,68 +1816,84 @@ static void wrong_at_each_line(void)
 {
     damage_each_line(text_of_the_document, 8);
     damage_each_line(text_of_version_2, 10);
-    damage_each_line(text_written_of_the_document, 12);
+    damage_each_line(text_of_version_3, 12);
+    damage_each_line(text_written_of_the_document, 14);
     damage_each_line(text_with_a_sign, 16);
     damage_each_line(text_with_ttls, 20);
+    damage_each_line(text_with_stricts, 24);
 }
 
-/* Document 01's text is of version 1 and has 75 bytes; what is written of its value is of version 3 and has 101. */
+/* Read without a refusal to this value; without its last byte wrong at its last line, and then the usual value. */
+static void is_text_of(const char *text, uint32_t lines, const zb_settings *s)
+{
+    size_t size = strlen(text);
+    zb_read r = zb_settings_read((const uint8_t *)text, size);
+    EXPECT(r.answer.outcome == ZB_DONE && memcmp(&r.settings, s, sizeof *s) == 0);
+    r = zb_settings_read((const uint8_t *)text, size - 1);
+    EXPECT(is_wrong_at(r.answer, lines) && r.settings.timeout == 3000 && r.settings.join == 1 && r.settings.tags == 0);
+}
+
+/* Document 01's text is of version 1 and has 75 bytes; what is written of its value is of version 4 and has 119. */
 static void text_of_75_bytes(void)
 {
-    const uint8_t *text = (const uint8_t *)text_of_the_document, *newer = (const uint8_t *)text_of_version_2;
-    const uint8_t *newest = (const uint8_t *)text_written_of_the_document;
-    uint8_t written[102] = {0};
-    EXPECT(strlen(text_of_the_document) == 75 && strlen(text_of_version_2) == 89 && strlen(text_written_of_the_document) == 101);
-    zb_read r = zb_settings_read(text, 75), again = zb_settings_read(newer, 89);
-    EXPECT(r.answer.outcome == ZB_DONE && r.settings.timeout == 3000 && r.settings.join == 1 && r.settings.tags == 2);
-    EXPECT(r.settings.addr[0] == 1024 && r.settings.width[0] == 16 && r.settings.sign[0] == 0 && r.settings.ttl[0] == 0);
-    EXPECT(r.settings.addr[1] == 1026 && r.settings.width[1] == 32 && r.settings.sign[1] == 0 && r.settings.ttl[1] == 0);
-    EXPECT(r.settings.addr[2] == 0 && r.settings.width[2] == 0 && r.settings.sign[2] == 0 && r.settings.ttl[2] == 0);
-    EXPECT(again.answer.outcome == ZB_DONE && memcmp(&again.settings, &r.settings, sizeof r.settings) == 0);
-    again = zb_settings_read(newest, 101);
-    EXPECT(again.answer.outcome == ZB_DONE && memcmp(&again.settings, &r.settings, sizeof r.settings) == 0);
-    EXPECT(pair_settings_write(&r.settings, 101).length == 101);
-    EXPECT_REFUSED(pair_settings_write(&r.settings, 100), ZB_REFUSED_BUFFER);
-    EXPECT_REFUSED(pair_settings_write(&r.settings, 89), ZB_REFUSED_BUFFER);
-    EXPECT_REFUSED(pair_settings_write(&r.settings, 75), ZB_REFUSED_BUFFER);
-    EXPECT(zb_settings_write(&r.settings, written, 101).length == 101 && memcmp(written, newest, 102) == 0);
-    r = zb_settings_read(text, 74);
-    EXPECT(is_wrong_at(r.answer, 8) && r.settings.timeout == 3000 && r.settings.join == 1 && r.settings.tags == 0);
-    r = zb_settings_read(newer, 88);
-    EXPECT(is_wrong_at(r.answer, 10) && r.settings.timeout == 3000 && r.settings.join == 1 && r.settings.tags == 0);
-    r = zb_settings_read(newest, 100);
-    EXPECT(is_wrong_at(r.answer, 12) && r.settings.timeout == 3000 && r.settings.join == 1 && r.settings.tags == 0);
+    const zb_settings s = {
+        .timeout = 3000, .join = 1, .tags = 2, .addr = {1024, 1026}, .width = {16, 32}, /* every sign, ttl and strict 0 */
+    };
+    uint8_t written[120] = {0};
+    EXPECT(strlen(text_of_the_document) == 75 && strlen(text_of_version_2) == 89 && strlen(text_of_version_3) == 101);
+    is_text_of(text_of_the_document, 8, &s);
+    is_text_of(text_of_version_2, 10, &s);
+    is_text_of(text_of_version_3, 12, &s);
+    is_text_of(text_written_of_the_document, 14, &s);
+    EXPECT(pair_settings_write(&s, 119).length == 119);
+    EXPECT_REFUSED(pair_settings_write(&s, 118), ZB_REFUSED_BUFFER);
+    EXPECT_REFUSED(pair_settings_write(&s, 101), ZB_REFUSED_BUFFER);
+    EXPECT_REFUSED(pair_settings_write(&s, 89), ZB_REFUSED_BUFFER);
+    EXPECT_REFUSED(pair_settings_write(&s, 75), ZB_REFUSED_BUFFER);
+    EXPECT(zb_settings_write(&s, written, 119).length == 119 && memcmp(written, text_written_of_the_document, 120) == 0);
 }
 
-/* A text with signs and ttls is written as it was read; with another sign or ttl it is another, of the same length. */
-static void text_with_ttls_comes_back(void)
+/* What is written of the value has the length of the text, and is that text or another. */
+static void is_written_so(const zb_settings *s, const char *text, bool same)
 {
-    uint8_t written[256] = {0};
-    size_t size = strlen(text_with_ttls);
-    zb_read r = zb_settings_read((const uint8_t *)text_with_ttls, size);
-    EXPECT(r.answer.outcome == ZB_DONE && r.settings.tags == 4 && r.settings.sign[1] == 0 && r.settings.sign[3] == 0);
-    EXPECT(r.settings.addr[2] == 1028 && r.settings.width[2] == 16 && r.settings.sign[2] == 1);
-    EXPECT(r.settings.ttl[0] == 500 && r.settings.ttl[1] == 60000 && r.settings.ttl[2] == 0 && r.settings.ttl[3] == 1);
-    EXPECT(pair_settings_write(&r.settings, size).length == size);
-    EXPECT_REFUSED(pair_settings_write(&r.settings, size - 1), ZB_REFUSED_BUFFER);
-    EXPECT(zb_settings_write(&r.settings, written, size).length == size && memcmp(written, text_with_ttls, size) == 0);
-    r.settings.sign[2] = 0;
-    EXPECT(pair_settings_write(&r.settings, size).length == size);
-    EXPECT(zb_settings_write(&r.settings, written, size).length == size && memcmp(written, text_with_ttls, size) != 0);
-    r.settings.sign[2] = 1;
-    r.settings.ttl[3] = 2;
-    EXPECT(pair_settings_write(&r.settings, size).length == size);
-    EXPECT(zb_settings_write(&r.settings, written, size).length == size && memcmp(written, text_with_ttls, size) != 0);
-    /* the text of version 2 with the same signs: the value without its ttls */
-    zb_read older = zb_settings_read((const uint8_t *)text_with_a_sign, strlen(text_with_a_sign));
-    memset(r.settings.ttl, 0, sizeof r.settings.ttl);
-    EXPECT(older.answer.outcome == ZB_DONE && memcmp(&older.settings, &r.settings, sizeof r.settings) == 0);
-    EXPECT(pair_settings_write(&older.settings, 256).length == strlen(text_with_a_sign) + 4 * strlen("ttl=0\n"));
+    uint8_t written[320] = {0};
+    size_t size = strlen(text);
+    EXPECT(pair_settings_write(s, size).length == size);
+    EXPECT_REFUSED(pair_settings_write(s, size - 1), ZB_REFUSED_BUFFER);
+    EXPECT(zb_settings_write(s, written, size).length == size && (memcmp(written, text, size) == 0) == same);
 }
 
-/* 256 tags with five digits each, of the two widths, from version 2 on with signs by turns and from version 3 on with the
-   largest ttl: the longest of a version. */
-static size_t put_longest(char *text, int version)
+/* A text with signs, ttls and stricts is written as it was read; with another of these it is another, of the same length. */
+static void text_with_stricts_comes_back(void)
+{
+    zb_settings s = {
+        .timeout = 3000, .join = 1, .tags = 4, .addr = {1024, 1026, 1028, 1029}, .width = {16, 32, 16, 32}, .sign = {0, 0, 1, 0},
+        .ttl = {500, 60000, 0, 1}, .strict = {1, 0, 1, 1},
+    };
+    is_text_of(text_with_stricts, 24, &s);
+    is_written_so(&s, text_with_stricts, true);
+    s.sign[2] = 0;
+    is_written_so(&s, text_with_stricts, false);
+    s.sign[2] = 1;
+    s.ttl[3] = 2;
+    is_written_so(&s, text_with_stricts, false);
+    s.ttl[3] = 1;
+    s.strict[1] = 1;
+    is_written_so(&s, text_with_stricts, false);
+    s.strict[1] = s.strict[3] = 0;
+    is_written_so(&s, text_with_stricts, false);
+    /* the texts of versions 3 and 2 with the same ttls and signs: the value without its stricts, and without its ttls */
+    memset(s.strict, 0, sizeof s.strict);
+    is_text_of(text_with_ttls, 20, &s);
+    EXPECT(pair_settings_write(&s, 320).length == strlen(text_with_ttls) + 4 * strlen("strict=0\n"));
+    memset(s.ttl, 0, sizeof s.ttl);
+    is_text_of(text_with_a_sign, 16, &s);
+    EXPECT(pair_settings_write(&s, 320).length == strlen(text_with_a_sign) + 4 * strlen("ttl=0\nstrict=0\n"));
+}
+
+/* 256 tags with five digits each, of the two widths, from version 2 on with signs by turns, from version 3 on with the
+   largest ttl and from version 4 on all of one strictness: the longest of a version. */
+static size_t put_longest(char *text, int version, unsigned strict)
 {
     size_t size = (size_t)sprintf(text, "version=%d\ntimeout=60000\njoin=1\ntags=256\n", version);
     for (int t = 0; t < 256; t++) {
@@ -1547,6 +1902,8 @@ static size_t put_longest(char *text, int version)
             size += (size_t)sprintf(text + size, "sign=%d\n", t % 2);
         if (version >= 3)
             size += (size_t)sprintf(text + size, "ttl=60000\n");
+        if (version >= 4)
+            size += (size_t)sprintf(text + size, "strict=%u\n", strict);
     }
     return size;
 }
@@ -1557,7 +1914,7 @@ static void longest_text(int version, size_t size, uint32_t lines, const zb_sett
 {
     static char text[ZB_MOST_TEXT + 2];
     static uint8_t written[ZB_MOST_TEXT];
-    EXPECT(put_longest(text, version) == size);
+    EXPECT(put_longest(text, version, s->strict[0]) == size);
     EXPECT(pair_settings_read((const uint8_t *)text, size).outcome == ZB_DONE);
     EXPECT(is_wrong_at(pair_settings_read((const uint8_t *)text, size + 1), lines + 1));
     EXPECT(is_wrong_at(pair_settings_read((const uint8_t *)text, size - 1), lines));
@@ -1566,14 +1923,16 @@ static void longest_text(int version, size_t size, uint32_t lines, const zb_sett
     EXPECT(pair_settings_write(s, length).length == length);
     EXPECT_REFUSED(pair_settings_write(s, length - 1), ZB_REFUSED_BUFFER);
     EXPECT(zb_settings_write(s, written, length).length == length);
-    if (version == 3)
+    if (version == 4)
         EXPECT(length == size && memcmp(written, text, size) == 0);
-    for (int other = 1; other <= 3; other++) {
+    for (int other = 1; other <= 4; other++) {
         text[8] = (char)('0' + other);
         if (other != version)
             EXPECT(is_wrong_at(pair_settings_read((const uint8_t *)text, size),
                                6 + (uint32_t)(other < version ? other : version)));
     }
+    text[8] = '5';
+    EXPECT(is_wrong_at(pair_settings_read((const uint8_t *)text, size), 1));
 }
 
 static void longest_texts(void)
@@ -1584,20 +1943,44 @@ static void longest_texts(void)
         s.width[t] = t % 2 ? 16 : 32;
         s.sign[t] = t % 2;
         s.ttl[t] = 60000;
+        s.strict[t] = 1;
     }
-    longest_text(3, 9512, 1028, &s, 9512);
+    longest_text(4, 11816, 1284, &s, 11816);
+    memset(s.strict, 0, sizeof s.strict);
+    longest_text(4, 11816, 1284, &s, 11816);
+    longest_text(3, 9512, 1028, &s, 11816);
     memset(s.ttl, 0, sizeof s.ttl);
-    longest_text(2, 6952, 772, &s, 8488);
+    longest_text(2, 6952, 772, &s, 10792);
     memset(s.sign, 0, sizeof s.sign);
-    longest_text(1, 5160, 516, &s, 8488);
+    longest_text(1, 5160, 516, &s, 10792);
+}
+
+/* A value that is refused leaves a fresh state beside the refusal: nobody attached, timeout 3000, joining on, no tags. */
+static void is_invalid(const zb_settings *bad)
+{
+    EXPECT_REFUSED(pair_settings_write(bad, ZB_MOST_TEXT), ZB_REFUSED_SETTINGS);
+    EXPECT_REFUSED(pair_settings_write(bad, 0), ZB_REFUSED_SETTINGS);
+    EXPECT_REFUSED(pair_fresh(bad), ZB_REFUSED_SETTINGS);
+    EXPECT_REFUSED(pair_detach(3), ZB_REFUSED_CLIENT);
+    EXPECT(pair_attach(3).outcome == ZB_DONE);
+    EXPECT(is_issued(request(3, 0, "00 01 00 00 00 06 01 03 04 00 00 01"), 0));
+    EXPECT(request(3, 0, "00 01 00 00 00 06 01 03 04 00 00 01").outcome == ZB_JOINED);
+    EXPECT(wrote(request(3, 0, "00 01 00 00 00 06 01 06 04 00 27 0F"), "00 01 00 00 00 06 01 06 04 00 27 0F"));
+    EXPECT(tick(2999).outcome == ZB_NOTHING_DUE && tick(3000).outcome == ZB_TIMED_OUT);
+}
+
+/* Valid, with a text of so many bytes. */
+static bool is_valid(const zb_settings *good, uint32_t length)
+{
+    return pair_fresh(good).outcome == ZB_DONE && pair_settings_write(good, length).length == length;
 }
 
 static void invalid_settings(void)
 {
-    enum { BAD = 18 };
-    zb_settings good = settings_of_the_document(), bad[BAD];
+    enum { BAD = 23 };
+    zb_settings bad[BAD];
     for (int n = 0; n < BAD; n++)
-        bad[n] = good;
+        bad[n] = settings_of_the_document();
     bad[0].timeout = 99;
     bad[1].timeout = 60001;
     bad[2].join = 2;
@@ -1616,30 +1999,35 @@ static void invalid_settings(void)
     bad[15].ttl[0] = 65535;
     bad[16].ttl[1] = 60001;
     bad[17].ttl[1] = 65535;
-    for (int n = 0; n < BAD; n++) {
-        EXPECT_REFUSED(pair_settings_write(&bad[n], ZB_MOST_TEXT), ZB_REFUSED_SETTINGS);
-        EXPECT_REFUSED(pair_settings_write(&bad[n], 0), ZB_REFUSED_SETTINGS);
-        EXPECT_REFUSED(pair_fresh(&bad[n]), ZB_REFUSED_SETTINGS);
-        /* the fresh state beside the refusal: nobody attached, timeout 3000, joining on, no tags */
-        EXPECT_REFUSED(pair_detach(3), ZB_REFUSED_CLIENT);
-        EXPECT(pair_attach(3).outcome == ZB_DONE);
-        EXPECT(is_issued(request(3, 0, "00 01 00 00 00 06 01 03 04 00 00 01"), 0));
-        EXPECT(request(3, 0, "00 01 00 00 00 06 01 03 04 00 00 01").outcome == ZB_JOINED);
-        EXPECT(wrote(request(3, 0, "00 01 00 00 00 06 01 06 04 00 27 0F"), "00 01 00 00 00 06 01 06 04 00 27 0F"));
-        EXPECT(tick(2999).outcome == ZB_NOTHING_DUE && tick(3000).outcome == ZB_TIMED_OUT);
-    }
-    good.addr[200] = 1; /* an unused place never makes a value invalid */
+    bad[18].strict[0] = 2;
+    bad[19].strict[0] = 256;
+    bad[20].strict[0] = 65535;
+    bad[21].strict[1] = 2;
+    bad[22].strict[1] = 65535;
+    for (int n = 0; n < BAD; n++)
+        is_invalid(&bad[n]);
+}
+
+/* An unused place never makes a value invalid. */
+static void valid_settings(void)
+{
+    zb_settings good = settings_of_the_document();
+    good.addr[200] = 1;
     good.sign[2] = 2;
     good.width[255] = 32;
     good.sign[255] = 1;
     good.ttl[2] = 60001;
     good.ttl[255] = 65535;
-    EXPECT(pair_fresh(&good).outcome == ZB_DONE && pair_settings_write(&good, 101).length == 101);
+    good.strict[2] = 2;
+    good.strict[255] = 65535;
+    EXPECT(is_valid(&good, 119));
     good.sign[0] = 1; /* of width 16 */
-    EXPECT(pair_fresh(&good).outcome == ZB_DONE && pair_settings_write(&good, 101).length == 101);
+    EXPECT(is_valid(&good, 119));
     good.ttl[0] = 1;
     good.ttl[1] = 60000;
-    EXPECT(pair_fresh(&good).outcome == ZB_DONE && pair_settings_write(&good, 105).length == 105);
+    EXPECT(is_valid(&good, 123));
+    good.strict[0] = good.strict[1] = 1; /* of any kind */
+    EXPECT(is_valid(&good, 123));
 }
 
 int main(void)
@@ -1652,11 +2040,13 @@ int main(void)
         closed_reads_end_as_before, a_hit, lives, keys_beside_each_other, the_longest_and_the_latest, what_an_issue_drops,
         what_drops_nothing, who_fills, a_reply_over_its_own_key, a_hit_before_a_join, refusals_before_a_hit, fresh_is_empty,
         the_64th_key_and_the_next, one_expired_in_the_middle, ties_to_the_lowest, which_place_a_reply_takes,
+        strict_of_width_16, strict_of_width_32, strict_with_a_sign, strict_beside_others, what_comes_before_a_strict_tag,
+        forbidden_writes_close_and_drop_nothing, strict_tags_are_read, echoes_of_strict_tags, every_strict_word,
         cursor_and_clock_stay_after_a_lost_link, struck_room_and_successor, left_by_all,
         due_is_not_joined, next_deadline, mismatched_reply_leaves_the_entry, refusals_of_attach_and_detach,
         refusals_of_request_before_the_frame, refusals_of_request_by_the_frame, lowest_refusal_of_request,
-        refusals_of_reply_and_tick, splitting, texts, texts_with_signs, texts_with_ttls, wrong_at_each_line,
-        text_of_75_bytes, text_with_ttls_comes_back, longest_texts, invalid_settings,
+        refusals_of_reply_and_tick, splitting, texts, texts_with_signs, texts_with_ttls, texts_with_stricts,
+        wrong_at_each_line, text_of_75_bytes, text_with_stricts_comes_back, longest_texts, invalid_settings, valid_settings,
     };
     pair_open(0);
     for (size_t n = 0; n < sizeof all / sizeof *all; n++)

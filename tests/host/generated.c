@@ -1,6 +1,7 @@
 /* Shows that the archive and a model in plain C, written from documents 01 and 02 alone, agree on over a million generated
-   calls, in every field, byte and number, that the ledger of demand 3 adds up, and that a request is a hit exactly when the
-   ledger of hits says so, and shows that reply; then prints what was reached.
+   calls, in every field, byte and number, that the ledger of demand 3 adds up, that a request is a hit exactly when the
+   ledger of hits says so, and shows that reply, and that a write gets exception 03 for a strict tag exactly when the ledger
+   of strict tags says so, and nothing but digits goes out at one; then prints what was reached.
    Arguments: the seed, and how many times the sessions are gone through. */
 #include "dice.h"
 #include "hits.h"
@@ -14,9 +15,9 @@
 #include <string.h>
 
 /* LATE: the clock begins near 2^63 - 1. CACHED: requests are about what is cached; CACHED_LONG: with fewer writes, and many
-   calls in one millisecond. PINS: some ids are never replied to, so that the cursor meets them again: pairs of
-   neighbours and 65,535, with or without 0 behind it. */
-enum special { PLAIN, LATE, CACHED, CACHED_LONG, PINS, PINS_WITH_0 };
+   calls in one millisecond. STRICT: half of the requests write tags, strict ones among them. PINS: some ids are never
+   replied to, so that the cursor meets them again: pairs of neighbours and 65,535, with or without 0 behind it. */
+enum special { PLAIN, LATE, CACHED, CACHED_LONG, STRICT, PINS, PINS_WITH_0 };
 
 /* A session from a fresh state on: how often each call comes, and what it is given. */
 typedef struct {
@@ -48,6 +49,9 @@ static const session sessions[] = {
     {"cached, ms", 40000, SETTINGS_CACHED,          {0, 60, 20, 600, 400, 10, 1, 0, 0, 0}, 0, 30, 1, CACHED},
     {"cached all", 60000, SETTINGS_CACHED_NO_JOIN,  {0, 60, 10, 900, 230, 5, 1, 0, 0, 0}, 0, 30, 2, CACHED},
     {"cached 64",  80000, SETTINGS_CACHED_LONG,     {0, 60, 10, 600, 400, 20, 1, 0, 0, 0}, 0, 30, 100, CACHED_LONG},
+    {"strict",     60000, SETTINGS_STRICT,          {0, 60, 10, 500, 450, 50, 1, 0, 2, 2}, 0, 20, 10, STRICT},
+    {"strict join", 40000, SETTINGS_STRICT,         {0, 60, 20, 600, 150, 50, 1, 0, 0, 0}, 24, 20, 10, STRICT},
+    {"strict full", 30000, SETTINGS_STRICT,         {0, 60, 30, 800, 180, 10, 1, 0, 0, 0}, 0, 20, 4, STRICT},
     {"noise",      30000, SETTINGS_ANY,             {0, 60, 10, 500, 400, 50, 1, 300, 20, 20}, 0, 2, 10, PLAIN},
     {"restarts",   30000, SETTINGS_ANY,             {20, 90, 10, 400, 200, 60, 1, 0, 0, 0}, 0, 20, 60, PLAIN},
     {"refused",    15000, SETTINGS_INVALID,         {20, 90, 10, 400, 200, 60, 1, 0, 0, 0}, 0, 20, 60, PLAIN},
@@ -141,6 +145,8 @@ static size_t some_request(const session *s, uint8_t *frame)
 {
     if (s->special == CACHED || s->special == CACHED_LONG)
         return make_cached_request(frame, &settings, s->special == CACHED ? 6 : 25, s->wrong);
+    if (s->special == STRICT && one_in(2))
+        return make_strict_request(frame, &settings, s->wrong);
     return make_request(frame, &settings, s->pool, s->wrong);
 }
 
@@ -216,6 +222,8 @@ static void do_read(void)
         reached(REACHED_TEXT_OLDER);
     if (a.outcome == ZB_DONE && has_line(text, size, "version=2\n") && !has_line(text, size, "tags=0\n"))
         reached(REACHED_TEXT_OF_VERSION_2);
+    if (a.outcome == ZB_DONE && has_line(text, size, "version=3\n") && !has_line(text, size, "tags=0\n"))
+        reached(REACHED_TEXT_OF_VERSION_3);
     if (a.outcome == ZB_DONE && has_line(text, size, "sign=1\n"))
         reached(REACHED_TEXT_SIGNED);
     if (a.line > 4 && (a.line - 4) % 3 == 0 && has_line(text, size, "version=2\n"))
@@ -224,19 +232,23 @@ static void do_read(void)
         reached(REACHED_TEXT_TTL);
     if (a.line > 4 && (a.line - 4) % 4 == 0 && has_line(text, size, "version=3\n"))
         reached(REACHED_TEXT_WRONG_TTL);
+    if (a.outcome == ZB_DONE && has_line(text, size, "strict=1\n"))
+        reached(REACHED_TEXT_STRICT);
+    if (a.line > 4 && (a.line - 4) % 5 == 0 && has_line(text, size, "version=4\n"))
+        reached(REACHED_TEXT_WRONG_STRICT);
 }
 
-/* Why a value is refused, where nothing but a sign or a ttl is wrong in it: with every sign and ttl 0 it is valid. */
+/* Why a value is refused, where nothing but a sign, a ttl or a strict is wrong in it: with each of them 0 it is valid. */
 static void why_refused(zb_settings s, zb_answer a)
 {
     static uint8_t text[MOST_TEXT];
-    bool above = false, wide = false, lasting = false;
+    bool above = false, wide = false, lasting = false, strict = false;
     for (uint32_t t = 0; t < ZB_MOST_TAGS && t < s.tags; t++) {
         above |= s.sign[t] > 1;
         wide |= s.sign[t] == 1 && s.width[t] == 32;
         lasting |= s.ttl[t] > 60000;
-        s.sign[t] = 0;
-        s.ttl[t] = 0;
+        strict |= s.strict[t] > 1;
+        s.sign[t] = s.ttl[t] = s.strict[t] = 0;
     }
     if (a.refusal != ZB_REFUSED_SETTINGS || model_settings_write(s, text, sizeof text).refusal)
         return;
@@ -246,6 +258,8 @@ static void why_refused(zb_settings s, zb_answer a)
         reached(REACHED_SIGN_32_REFUSED);
     if (lasting)
         reached(REACHED_TTL_REFUSED);
+    if (strict)
+        reached(REACHED_STRICT_REFUSED);
 }
 
 /* Also with a buffer that holds the text exactly, or lacks one byte. */
@@ -256,7 +270,7 @@ static void do_write(void)
     if (one_in(3))
         s = spoil_settings(s);
     size_t exact = model_settings_write(s, text, sizeof text).length;
-    const size_t lengths[] = {MOST_TEXT, ZB_MOST_TEXT, exact, exact ? exact - 1 : 0, 101, 100, 0};
+    const size_t lengths[] = {MOST_TEXT, ZB_MOST_TEXT, exact, exact ? exact - 1 : 0, 119, 118, 0};
     why_refused(s, pair_settings_write(&s, one_in(4) ? below(MOST_TEXT) : lengths[below(7)]));
 }
 

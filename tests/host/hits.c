@@ -19,6 +19,7 @@ static uint32_t took[CACHED];    /* for each place the number of the reply that 
 static uint16_t tag_of[65536];   /* for each register the number of the tag that it lies in, from 1 */
 static ledger_write excepted;    /* the last write that got an exception */
 static uint32_t excepted_behind; /* so many replies came before it */
+static bool excepted_strict;     /* it was for a strict tag */
 
 void hits_fresh(void)
 {
@@ -329,7 +330,7 @@ static void count_hit(const hits_reply *r, uint64_t now)
     if (behind_closed)
         reached(REACHED_HIT_BEHIND_CLOSED);
     if (excepted_behind > (uint32_t)(r - replies) && meets(&excepted, r->key))
-        reached(REACHED_KEPT_EXCEPTION);
+        reached(excepted_strict ? REACHED_STRICT_KEPT_HIT : REACHED_KEPT_EXCEPTION);
     look_at_last_write(r);
 }
 
@@ -441,7 +442,7 @@ void hits_refused(const uint8_t *frame, size_t size, zb_answer a)
                                                      : REACHED_HIT_REFUSED_3);
 }
 
-void hits_excepted(const uint8_t *frame, size_t size)
+void hits_excepted(const uint8_t *frame, size_t size, bool strict)
 {
     if (size < 12 || (frame[7] != 6 && frame[7] != 16))
         return;
@@ -451,4 +452,5 @@ void hits_excepted(const uint8_t *frame, size_t size)
     excepted.first = key.start;
     excepted.last = key.function == 6 || key.quantity == 0 ? key.start : (uint32_t)key.start + key.quantity - 1;
     excepted_behind = count;
+    excepted_strict = strict;
 }

@@ -4,6 +4,7 @@
 #include "hits.h"
 #include "pair.h"
 #include "reached.h"
+#include "strict.h"
 #include <stdio.h>
 #include <stdlib.h>
 #include <string.h>
@@ -56,6 +57,7 @@ void ledger_fresh(const zb_settings *settings)
     ledger.join = settings->join;
     ledger.last_id = 65535;
     hits_fresh();
+    strict_fresh();
 }
 
 static void move(uint32_t serial, enum group from, enum group to)
@@ -292,9 +294,11 @@ static void joined(uint32_t client, uint64_t now, const uint8_t *frame, zb_answe
         reached(REACHED_JOINED_WHEN_FULL);
     if (e->function < 3)
         reached(REACHED_BITS_JOINED);
+    strict_joined(e);
     accept(e, client, now, frame);
 }
 
+/* Other than for a strict tag. */
 static void got_exception(uint8_t function, zb_answer a)
 {
     if (a.code == 2)
@@ -422,6 +426,23 @@ static void hit(const equals *q)
         reached(REACHED_HIT_WHEN_FULL);
 }
 
+/* Why a request that is no hit joined nothing; it was issued, or got exception 04. */
+static void not_joined(const equals *q, zb_answer a)
+{
+    if (q->due)
+        reached(REACHED_DUE_NOT_JOINED);
+    if (q->by_write)
+        reached(REACHED_WRITE_CLOSED);
+    if (q->by_other)
+        reached(REACHED_OTHER_CLOSED);
+    if (a.outcome == ZB_EXCEPTION && q->by_write + q->by_other)
+        reached(REACHED_CLOSED_04);
+    if (a.outcome == ZB_ISSUED && q->full)
+        reached(REACHED_BEYOND_THE_PARTIES);
+    if (a.outcome == ZB_ISSUED && q->otherwise)
+        reached(REACHED_OTHER_TABLE);
+}
+
 void ledger_request(uint32_t client, uint64_t now, const uint8_t *frame, size_t size, zb_answer a)
 {
     if (a.refusal) {
@@ -430,9 +451,11 @@ void ledger_request(uint32_t client, uint64_t now, const uint8_t *frame, size_t 
         return;
     }
     ledger.clock = now;
+    bool strict = strict_request(frame, a);
     if (a.outcome == ZB_EXCEPTION) {
-        got_exception(frame[7], a);
-        hits_excepted(frame, size);
+        hits_excepted(frame, size, strict);
+        if (!strict)
+            got_exception(frame[7], a);
     }
     if (a.outcome == ZB_EXCEPTION && a.code != 4)
         return;
@@ -448,24 +471,13 @@ void ledger_request(uint32_t client, uint64_t now, const uint8_t *frame, size_t 
         joined(client, now, frame, a, &q);
         return;
     }
-    if (q.due)
-        reached(REACHED_DUE_NOT_JOINED);
-    if (q.by_write)
-        reached(REACHED_WRITE_CLOSED);
-    if (q.by_other)
-        reached(REACHED_OTHER_CLOSED);
-    if (a.outcome == ZB_EXCEPTION && q.by_write + q.by_other)
-        reached(REACHED_CLOSED_04);
+    not_joined(&q, a);
     if (a.outcome == ZB_EXCEPTION)
         return;
-    if (q.full)
-        reached(REACHED_BEYOND_THE_PARTIES);
     if (is_of_bits(frame[7]))
         passes(frame, a);
     if (frame[7] == 15 && frame[10] == 7 && frame[11] == 0xB0)
         reached(REACHED_MOST_COILS);
-    if (q.otherwise)
-        reached(REACHED_OTHER_TABLE);
     raw_counts_of_request(frame[7], a);
     signed_in_request(frame, a);
     issued(client, now, frame, size, a);
@@ -585,6 +597,7 @@ void ledger_reply(uint64_t now, const uint8_t *frame, zb_answer a)
         reached(REACHED_MOST_BITS);
     raw_counts_of_reply(frame[7], a);
     signed_in_reply(e, frame, a);
+    strict_reply(e, frame);
     if (frame[7] == 6)
         echo_comes_back(e, frame, a);
     hits_answered(e, now, frame, a, met_since(e) != NULL);

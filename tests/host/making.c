@@ -24,6 +24,12 @@ static void add_tag(zb_settings *s, uint32_t addr, uint32_t width, uint32_t sign
     s->tags++;
 }
 
+/* The tag that was added last is strict. */
+static void make_strict(zb_settings *s)
+{
+    s->strict[s->tags - 1] = 1;
+}
+
 static uint32_t some_ttl(void)
 {
     static const uint16_t ttls[] = {1, 2, 100, 3000, 59999, 60000};
@@ -38,11 +44,13 @@ static void add_any_tags(zb_settings *s)
     while (s->tags < wanted && addr <= 65535) {
         uint32_t width = addr < 65535 && one_in(2) ? 32 : 16;
         add_tag(s, addr, width, width == 16 && one_in(2), some_ttl());
+        if (one_in(3))
+            make_strict(s);
         addr += width / 16 + (one_in(2) ? 0 : below(gap));
     }
 }
 
-/* Neighbours with ttls of all sizes, and behind each tenth a register in no tag. */
+/* Neighbours with ttls of all sizes, and behind each tenth a register in no tag; each fourth is strict. */
 static void put_cached_tags(zb_settings *s)
 {
     static const uint16_t ttls[] = {60000, 9, 60000, 1, 40, 0, 60000, 300, 7, 25};
@@ -53,6 +61,7 @@ static void put_cached_tags(zb_settings *s)
         s->width[n] = (uint16_t)width;
         s->sign[n] = n % 3 == 2;
         s->ttl[n] = ttls[n % 10];
+        s->strict[n] = n % 4 == 1;
         addr += width / 16 + (n % 10 == 9);
     }
 }
@@ -67,6 +76,45 @@ static void put_long_cached_tags(zb_settings *s)
         s->sign[n] = n % 2;
         s->ttl[n] = n % 16 == 9 ? (uint16_t)(30 + n) : 60000;
     }
+}
+
+/* A strict and a lenient one of each kind, where the reads of a pool are, and far behind them many strict ones. */
+static void put_strict_tags(zb_settings *s)
+{
+    static const struct { uint16_t addr, width, sign, strict; } tags[] = {
+        {1020, 16, 0, 0}, {1021, 16, 0, 1}, {1022, 32, 0, 1}, {1024, 32, 0, 0}, {1026, 16, 1, 1},
+        {1027, 16, 1, 0}, {1028, 32, 0, 1}, {1030, 16, 0, 1}, {1032, 32, 0, 0}, {1034, 16, 1, 1},
+    };
+    for (size_t n = 0; n < sizeof tags / sizeof *tags; n++) {
+        add_tag(s, tags[n].addr, tags[n].width, tags[n].sign, 0);
+        s->strict[n] = tags[n].strict;
+    }
+    for (uint32_t addr = 1100; s->tags < 130; addr += s->width[s->tags - 1] / 16u) {
+        add_tag(s, addr, s->tags % 3 ? 16 : 32, s->tags % 3 == 1, 0);
+        make_strict(s);
+    }
+}
+
+/* Both ends of all addresses; two of width 32, of which a write cuts one at each end. */
+static void put_edge_tags(zb_settings *s)
+{
+    add_tag(s, 0, 32, 0, 0);
+    make_strict(s);
+    add_tag(s, 2, 16, 1, 0);
+    add_tag(s, 65532, 16, 0, 0);
+    make_strict(s);
+    add_tag(s, 65534, 32, 0, 0);
+    make_strict(s);
+}
+
+/* Each signed one beside a tag of another kind, and the first between two of width 32. */
+static void put_signed_tags(zb_settings *s)
+{
+    add_tag(s, 1024, 32, 0, 0);
+    add_tag(s, 1026, 16, 1, 0);
+    add_tag(s, 1027, 32, 0, 0);
+    add_tag(s, 1029, 16, 0, 0);
+    add_tag(s, 1030, 16, 1, 0);
 }
 
 zb_settings make_settings(enum settings_kind kind)
@@ -86,41 +134,61 @@ zb_settings make_settings(enum settings_kind kind)
     if (kind == SETTINGS_DENSE)
         for (uint32_t addr = 1000; s.tags < 256; addr += s.width[s.tags - 1] / 16u)
             add_tag(&s, addr, s.tags % 3 ? 32 : 16, s.tags % 6 == 0, 0);
-    if (kind == SETTINGS_EDGES) {
-        add_tag(&s, 0, 32, 0, 0);
-        add_tag(&s, 2, 16, 1, 0);
-        add_tag(&s, 65532, 16, 0, 0);
-        add_tag(&s, 65534, 32, 0, 0);
-    }
+    if (kind == SETTINGS_EDGES)
+        put_edge_tags(&s);
     if (kind == SETTINGS_TOP)
         for (uint32_t addr = 65280; s.tags < 256; addr++)
             add_tag(&s, addr, 16, addr % 2, 0);
-    if (kind == SETTINGS_SIGNED) {
-        /* each signed one beside a tag of another kind, and the first between two of width 32 */
-        add_tag(&s, 1024, 32, 0, 0);
-        add_tag(&s, 1026, 16, 1, 0);
-        add_tag(&s, 1027, 32, 0, 0);
-        add_tag(&s, 1029, 16, 0, 0);
-        add_tag(&s, 1030, 16, 1, 0);
-    }
+    if (kind == SETTINGS_SIGNED)
+        put_signed_tags(&s);
     if (kind == SETTINGS_CACHED || kind == SETTINGS_CACHED_NO_JOIN)
         put_cached_tags(&s);
     if (kind == SETTINGS_CACHED_LONG)
         put_long_cached_tags(&s);
+    if (kind == SETTINGS_STRICT)
+        put_strict_tags(&s);
     if (kind == SETTINGS_ANY)
         add_any_tags(&s);
     return kind == SETTINGS_INVALID ? spoil_settings(make_settings(SETTINGS_ANY)) : s;
+}
+
+/* One number of a tag is changed. */
+static void spoil_tag(zb_settings *s, uint32_t t)
+{
+    static const uint16_t widths[] = {0, 15, 17, 31, 33, 48, 65535};
+    static const uint16_t marks[] = {2, 3, 16, 255, 256, 65535}; /* for sign and strict */
+    static const uint16_t ttls[] = {60001, 60002, 65534, 65535};
+    switch (below(7)) {
+    case 0:
+        s->width[t] = widths[below(7)];
+        break;
+    case 1:
+        s->addr[t] = (uint16_t)(s->addr[t] - 1 - below(3));
+        break;
+    case 2:
+        s->sign[t] = marks[below(6)];
+        break;
+    case 3:
+        s->width[t] = 32;
+        s->sign[t] = 1;
+        break;
+    case 4:
+        s->ttl[t] = ttls[below(4)];
+        break;
+    case 5:
+        s->strict[t] = marks[below(6)];
+        break;
+    default:
+        s->addr[t] = 65535;
+        s->width[t] = 32;
+    }
 }
 
 /* One change, which makes most values invalid; some stay valid. */
 zb_settings spoil_settings(zb_settings s)
 {
     static const uint32_t timeouts[] = {0, 99, 60001, UINT32_MAX};
-    static const uint16_t widths[] = {0, 15, 17, 31, 33, 48, 65535};
-    static const uint16_t signs[] = {2, 3, 16, 255, 256, 65535};
-    static const uint16_t ttls[] = {60001, 60002, 65534, 65535};
-    uint32_t t = s.tags ? below(s.tags) : 0;
-    switch (below(9)) {
+    switch (below(10)) {
     case 0:
         s.timeout = timeouts[below(4)];
         break;
@@ -130,25 +198,8 @@ zb_settings spoil_settings(zb_settings s)
     case 2:
         s.tags = one_in(2) ? 257 : one_in(2) ? UINT32_MAX : s.tags + 1;
         break;
-    case 3:
-        s.width[t] = widths[below(7)];
-        break;
-    case 4:
-        s.addr[t] = (uint16_t)(s.addr[t] - 1 - below(3));
-        break;
-    case 5:
-        s.sign[t] = signs[below(6)];
-        break;
-    case 6:
-        s.width[t] = 32;
-        s.sign[t] = 1;
-        break;
-    case 7:
-        s.ttl[t] = ttls[below(4)];
-        break;
     default:
-        s.addr[t] = 65535;
-        s.width[t] = 32;
+        spoil_tag(&s, s.tags ? below(s.tags) : 0);
     }
     return s;
 }
@@ -190,6 +241,8 @@ static size_t put_text(char *text, const zb_settings *s, int version)
             size += (size_t)sprintf(text + size, "sign=%u\n", s->sign[t]);
         if (version > 2)
             size += (size_t)sprintf(text + size, "ttl=%u\n", s->ttl[t]);
+        if (version > 3)
+            size += (size_t)sprintf(text + size, "strict=%u\n", s->strict[t]);
     }
     return size;
 }
@@ -206,13 +259,14 @@ static uint8_t *line_with(const char *key, uint8_t *text, size_t size)
     return NULL;
 }
 
-/* A sign line says something else, or a tag of width 32 is signed; nothing where there is no such line. */
-static void spoil_sign(uint8_t *text, size_t size)
+/* A line with this key says something else than 0 or 1, or 1: a tag of width 32 may be signed so. Nothing where there is no
+   such line. */
+static void spoil_mark(const char *key, uint8_t *text, size_t size)
 {
     static const char digits[] = "1112379";
-    uint8_t *line = line_with("sign=", text, size);
+    uint8_t *line = line_with(key, text, size);
     if (line)
-        line[5] = (uint8_t)digits[below(7)];
+        line[strlen(key)] = (uint8_t)digits[below(7)];
 }
 
 /* A ttl has a digit more in front, at times a zero; nothing where there is no such line. */
@@ -230,18 +284,21 @@ static size_t spoil_ttl(uint8_t *text, size_t size)
 size_t make_text(uint8_t *text)
 {
     zb_settings s = make_settings(one_in(8) ? (enum settings_kind)below(SETTINGS_ANY) : SETTINGS_ANY);
-    size_t size = put_text((char *)text, &s, one_in(4) ? 1 : one_in(3) ? 2 : 3);
+    size_t size = put_text((char *)text, &s, (int)(1 + below(4)));
     if (one_in(3))
         return size;
-    switch (below(8)) {
+    switch (below(9)) {
     case 0:
-        text[8] = (uint8_t)('0' + below(5)); /* another version's number over its lines */
+        text[8] = (uint8_t)('0' + below(6)); /* another version's number over its lines */
         return size;
     case 1:
-        spoil_sign(text, size);
+        spoil_mark("sign=", text, size);
         return size;
     case 2:
         return spoil_ttl(text, size);
+    case 3:
+        spoil_mark("strict=", text, size);
+        return size;
     default:
         for (uint32_t times = 1 + below(2); times > 0; times--)
             size = spoil_text(text, size);
@@ -601,6 +658,75 @@ size_t make_cached_request(uint8_t *frame, const zb_settings *s, uint32_t writes
     } else {
         size = make_again(frame, r->key);
     }
+    return one_in(wrong) ? spoil_frame(frame, size) : size;
+}
+
+/* A number in the tag's range. */
+static uint32_t number_for(const zb_settings *s, uint32_t tag)
+{
+    if (s->sign[tag])
+        return (below(1999) - 999) & 0xFFFF;
+    return s->width[tag] == 32 ? below(100000000) : below(10000);
+}
+
+/* A number at an edge of the tag's range, or of the bits that it has. */
+static uint32_t edge_for(const zb_settings *s, uint32_t tag)
+{
+    static const uint32_t wide[] = {0,      99999998, 99999999, 100000000,  100000001,  9999,
+                                    0xFFFF, 0x10000,  10000,    0x05F60000, 0xFFFFFFFF, 0x99999999};
+    static const uint16_t narrow[] = {0, 9998, 9999, 9999, 10000, 10000, 10001, 0x9999, 0xFFFF};
+    static const uint16_t with_sign[] = {0,      1,      998,    999,    1000,   1001,   0xFFFF, 0xFC1A,
+                                         0xFC19, 0xFC18, 0xFC17, 0x8000, 0x8000, 0x7FFF, 0xF000, 0x0999};
+    if (s->sign[tag])
+        return with_sign[below(16)];
+    return s->width[tag] == 32 ? wide[below(12)] : narrow[below(9)];
+}
+
+/* A 06 to a register of the tag. */
+static size_t make_tag_single(uint8_t *frame, const zb_settings *s, uint32_t tag)
+{
+    frame[7] = 6;
+    put_word(frame + 8, s->addr[tag] + below(s->width[tag] / 16u));
+    put_word(frame + 10, one_in(2) ? number_for(s, tag) : edge_for(s, tag));
+    return finish_request(frame, 5);
+}
+
+/* The tag's value into the registers from start on, as far as there are so many; mostly in its range. */
+static void put_value(uint8_t *words, uint32_t start, uint32_t quantity, const zb_settings *s, uint32_t tag, bool at_edge)
+{
+    uint32_t value = at_edge ? edge_for(s, tag) : number_for(s, tag);
+    for (uint32_t k = 0; k < s->width[tag] / 16u; k++, value >>= 16) {
+        uint32_t at = s->addr[tag] + k - start;
+        if (at < quantity)
+            put_word(words + 2 * at, value & 0xFFFF);
+    }
+}
+
+/* A 16 of neighbouring tags, at times of as many as it has room for, or a register too early or too late at an end. */
+static size_t make_tags_write(uint8_t *frame, const zb_settings *s, uint32_t first)
+{
+    uint32_t most = one_in(10) ? 122 : 1 + below(6), last = first, edges = one_in(2) ? 0 : 1 + below(3);
+    while (last + 1 < s->tags && s->addr[last + 1] + s->width[last + 1] / 16u - s->addr[first] <= most)
+        last++;
+    uint32_t start = s->addr[first] + (one_in(6) ? below(3) - 1 : 0);
+    uint32_t behind = s->addr[last] + s->width[last] / 16u + (one_in(6) ? below(3) - 1 : 0);
+    uint32_t quantity = behind > start ? behind - start : 1;
+    frame[7] = 16;
+    put_word(frame + 8, start);
+    put_word(frame + 10, quantity);
+    frame[12] = (uint8_t)(2 * quantity);
+    for (uint32_t k = 0; k < quantity; k++)
+        put_word(frame + 13 + 2 * k, some_word());
+    for (uint32_t t = first ? first - 1 : 0; t < s->tags && s->addr[t] < behind; t++)
+        put_value(frame + 13, start, quantity, s, t, edges && one_in(edges));
+    return finish_request(frame, 6 + 2 * quantity);
+}
+
+size_t make_strict_request(uint8_t *frame, const zb_settings *s, uint32_t wrong)
+{
+    uint32_t tag = below(one_in(2) && s->tags > 10 ? 10 : s->tags);
+    size_t size = one_in(3) ? make_tag_single(frame, s, tag) : make_tags_write(frame, s, tag);
+    frame[6] = one_in(8) ? 2 : 1;
     return one_in(wrong) ? spoil_frame(frame, size) : size;
 }
 

@@ -1,5 +1,5 @@
 /* An ordinary proxy core in C, written from document 01 alone and section by section in its order, with requests #101,
-   #102, #105, #106 and #107 of document 02. */
+   #102, #105, #106, #107 and #108 of document 02. */
 #include "model.h"
 #include <stdio.h>
 #include <stdlib.h>
@@ -269,7 +269,7 @@ static uint32_t most_of(const model_entry *asked)
     return asked->bits ? 1968 : 123;
 }
 
-/* Exception 03 or 02, or 0 where the request is legal. */
+/* Document 01's exception 03 or 02, or 0 where there is none. */
 static uint8_t exception_for(const model_entry *asked, const uint8_t *pdu)
 {
     if (asked->asked == ASKED_SINGLE_WRITE)
@@ -281,6 +281,45 @@ static uint8_t exception_for(const model_entry *asked, const uint8_t *pdu)
     if (asked->asked == ASKED_MULTIPLE_WRITE && pdu[5] != bytes_of(asked))
         return 3;
     return asked->start + asked->quantity > 65536 ? 2 : 0;
+}
+
+/* #108: whether a client's value for a whole tag is one of its kind. */
+static bool is_in_range(uint32_t width, uint32_t sign, const uint8_t *words)
+{
+    uint32_t low = word_at(words);
+    if (sign)
+        return low <= 999 || low >= 65536 - 999;
+    if (width == 16)
+        return low <= 9999;
+    return word_at(words + 2) * 65536 + low <= 99999999;
+}
+
+/* #108: a strict tag that the registers cover partly, or whose value is outside its range. */
+static bool is_forbidden(const zb_settings *settings, uint32_t start, uint32_t quantity, const uint8_t *words)
+{
+    for (uint32_t t = 0; t < settings->tags; t++) {
+        uint32_t first = settings->addr[t], last = first + settings->width[t] / 16u - 1;
+        bool has_first = first >= start && first < start + quantity;
+        bool has_last = last >= start && last < start + quantity;
+        if (!settings->strict[t] || (!has_first && !has_last))
+            continue;
+        if (!has_first || !has_last)
+            return true;
+        if (!is_in_range(settings->width[t], settings->sign[t], words + 2 * (first - start)))
+            return true;
+    }
+    return false;
+}
+
+/* #108: exception 03 for a strict tag comes behind the others, to 06 and 16 alone. */
+static uint8_t exception_by_tags(const zb_settings *settings, const model_entry *asked, const uint8_t *pdu)
+{
+    bool forbidden = false;
+    if (asked->function == WRITE_SINGLE)
+        forbidden = is_forbidden(settings, asked->start, 1, pdu + 3);
+    if (asked->function == WRITE_MULTIPLE)
+        forbidden = is_forbidden(settings, asked->start, asked->quantity, pdu + 6);
+    return forbidden ? 3 : 0;
 }
 
 static bool can_be_joined(const model_entry *e, const model_entry *asked, uint64_t now)
@@ -446,6 +485,8 @@ zb_answer model_request(model_state *st, uint32_t client, uint64_t now,
     st->clock = now;
     model_entry asked = asked_by(frame);
     uint8_t code = exception_for(&asked, frame + HEADER);
+    if (!code)
+        code = exception_by_tags(&st->settings, &asked, frame + HEADER);
     if (code)
         return exception_to_caller(frame, code, out);
     const model_cached *c = cached_for(st, &asked);
@@ -682,7 +723,7 @@ static bool is_valid(const zb_settings *s)
             return false;
         if (s->sign[t] > 1 || (s->sign[t] == 1 && s->width[t] == 32))
             return false;
-        if (s->ttl[t] > 60000)
+        if (s->ttl[t] > 60000 || s->strict[t] > 1)
             return false;
         least = s->addr[t] + s->width[t] / 16u;
     }
@@ -734,7 +775,7 @@ static bool read_line(reader *r, const char *key, uint32_t least, uint32_t most,
 
 static bool read_tag(reader *r, zb_settings *s, uint32_t t, uint32_t version, uint32_t *least)
 {
-    uint32_t addr, width, sign = 0, ttl = 0;
+    uint32_t addr, width, sign = 0, ttl = 0, strict = 0;
     if (!read_line(r, "addr=", *least, 65535, &addr))
         return false;
     if (!read_line(r, "width=", 16, 32, &width) || (width != 16 && width != 32))
@@ -745,10 +786,13 @@ static bool read_tag(reader *r, zb_settings *s, uint32_t t, uint32_t version, ui
         return false;
     if (version >= 3 && !read_line(r, "ttl=", 0, 60000, &ttl))
         return false;
+    if (version >= 4 && !read_line(r, "strict=", 0, 1, &strict))
+        return false;
     s->addr[t] = (uint16_t)addr;
     s->width[t] = (uint16_t)width;
     s->sign[t] = (uint16_t)sign;
     s->ttl[t] = (uint16_t)ttl;
+    s->strict[t] = (uint16_t)strict;
     *least = addr + width / 16;
     return true;
 }
@@ -756,7 +800,7 @@ static bool read_tag(reader *r, zb_settings *s, uint32_t t, uint32_t version, ui
 static bool read_text(reader *r, zb_settings *s)
 {
     uint32_t version, least = 0;
-    if (!read_line(r, "version=", 1, 3, &version) || !read_line(r, "timeout=", 100, 60000, &s->timeout)
+    if (!read_line(r, "version=", 1, 4, &version) || !read_line(r, "timeout=", 100, 60000, &s->timeout)
         || !read_line(r, "join=", 0, 1, &s->join) || !read_line(r, "tags=", 0, 256, &s->tags))
         return false;
     for (uint32_t t = 0; t < s->tags; t++)
@@ -784,11 +828,11 @@ zb_answer model_settings_write(zb_settings from, uint8_t *text, size_t text_len)
     char whole[ZB_MOST_TEXT + 1];
     if (!is_valid(&from))
         return refused(ZB_REFUSED_SETTINGS);
-    size_t length = (size_t)sprintf(whole, "version=3\ntimeout=%u\njoin=%u\ntags=%u\n",
+    size_t length = (size_t)sprintf(whole, "version=4\ntimeout=%u\njoin=%u\ntags=%u\n",
                                     (unsigned)from.timeout, (unsigned)from.join, (unsigned)from.tags);
     for (uint32_t t = 0; t < from.tags; t++)
-        length += (size_t)sprintf(whole + length, "addr=%u\nwidth=%u\nsign=%u\nttl=%u\n", from.addr[t], from.width[t],
-                                  from.sign[t], from.ttl[t]);
+        length += (size_t)sprintf(whole + length, "addr=%u\nwidth=%u\nsign=%u\nttl=%u\nstrict=%u\n", from.addr[t],
+                                  from.width[t], from.sign[t], from.ttl[t], from.strict[t]);
     if (length > text_len)
         return refused(ZB_REFUSED_BUFFER);
     memcpy(text, whole, length);

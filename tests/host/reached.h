@@ -134,17 +134,58 @@ extern const char *const call_names[CALLS];
     X(KEPT_OTHER, "a hit behind an \"other\" for another unit") \
     X(KEPT_EXCEPTION, "a hit behind a write over it with an exception") \
     X(MISS_LOST, "a miss behind a lost link") \
+    X(STRICT_9999_BY_06, "9,999 to a strict tag by 06 goes out") \
+    X(STRICT_10000_BY_06, "10,000 to it gets exception 03") \
+    X(STRICT_9999_BY_16, "9,999 to a strict tag by 16 goes out") \
+    X(STRICT_10000_BY_16, "10,000 to it gets exception 03, by 16") \
+    X(LENIENT_9999_BY_06, "9,999 to a lenient tag by 06 goes out") \
+    X(LENIENT_10000_BY_06, "10,000 to it goes out raw") \
+    X(LENIENT_9999_BY_16, "9,999 to a lenient tag by 16 goes out") \
+    X(LENIENT_10000_BY_16, "10,000 to it goes out raw, by 16") \
+    X(STRICT_LOW_BY_06, "06 at a strict width-32 tag's address gets 03") \
+    X(STRICT_HIGH_BY_06, "06 at the register behind it gets 03") \
+    X(STRICT_CUT_FIRST, "16 that begins inside a strict tag gets 03") \
+    X(STRICT_CUT_LAST, "16 that ends inside one gets 03") \
+    X(STRICT_99999999, "99,999,999 to a strict tag goes out") \
+    X(STRICT_100000000, "100,000,000 to it gets exception 03") \
+    X(STRICT_999_BY_06, "999 to a strict signed tag by 06 goes out") \
+    X(STRICT_1000_BY_06, "1,000 to it gets exception 03") \
+    X(STRICT_MINUS_999_BY_06, "-999 to it goes out") \
+    X(STRICT_MINUS_1000_BY_06, "-1,000 to it gets exception 03") \
+    X(STRICT_8000_BY_06, "-32,768 to it gets exception 03") \
+    X(STRICT_999_BY_16, "999 to a strict signed tag by 16 goes out") \
+    X(STRICT_1000_BY_16, "1,000 to it gets exception 03, by 16") \
+    X(STRICT_MINUS_999_BY_16, "-999 to it goes out, by 16") \
+    X(STRICT_MINUS_1000_BY_16, "-1,000 to it gets exception 03, by 16") \
+    X(STRICT_8000_BY_16, "-32,768 to it gets exception 03, by 16") \
+    X(STRICT_SECOND, "a strict tag behind a right one is wrong") \
+    X(STRICT_BESIDE_RAW, "exception 03 beside a lenient tag that is wrong") \
+    X(RAW_BESIDE_STRICT, "a lenient tag goes out raw beside a strict one") \
+    X(STRICT_MANY, "16 with 60 strict tags goes out") \
+    X(STRICT_BEHIND_02, "a strict tag is wrong in a write that gets 02") \
+    X(STRICT_BEHIND_03, "in one that gets 03 for quantity or byte count") \
+    X(STRICT_WHEN_FULL, "a strict tag is wrong while every place is taken") \
+    X(STRICT_KEPT_JOIN, "a read is joined, a write over it was forbidden") \
+    X(STRICT_KEPT_HIT, "a hit, and a write over it was forbidden") \
+    X(STRICT_READ_CUT, "a read cuts a strict tag and is answered") \
+    X(STRICT_READ_RAW, "a strict tag comes back raw for its value") \
+    X(STRICT_ECHO, "an echo 06 of a strict tag is decoded") \
+    X(STRICT_ECHO_RAW, "an echo 06 of a strict tag comes back raw") \
     X(TEXT_256, "a settings text of 256 tags is read") \
     X(TEXT_WRONG_DEEP, "a settings text wrong behind line 12") \
     X(TEXT_OLDER, "a settings text of version 1 with tags is read") \
     X(TEXT_OF_VERSION_2, "a settings text of version 2 with tags is read") \
+    X(TEXT_OF_VERSION_3, "a settings text of version 3 with tags is read") \
     X(TEXT_SIGNED, "a settings text with a signed tag is read") \
     X(TEXT_WRONG_SIGN, "a settings text wrong at a sign line") \
     X(TEXT_TTL, "a settings text with a ttl of 60,000 is read") \
     X(TEXT_WRONG_TTL, "a settings text wrong at a ttl line") \
+    X(TEXT_STRICT, "a settings text with a strict tag is read") \
+    X(TEXT_WRONG_STRICT, "a settings text wrong at a strict line") \
     X(SIGN_REFUSED, "a sign that is not 0 or 1 is refused") \
     X(SIGN_32_REFUSED, "sign 1 with width 32 is refused") \
     X(TTL_REFUSED, "a ttl above 60,000 is refused") \
+    X(STRICT_REFUSED, "a strict that is not 0 or 1 is refused") \
     X(FULL_WIDTH_CLIENT, "client 259 or 2^32 - 1 is refused") \
     X(CLOCK_BACK, "a time below the clock is refused") \
     X(TIME_TOO_LARGE, "a time above 2^63 - 1 is refused")

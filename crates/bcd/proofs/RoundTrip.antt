@@ -9,7 +9,7 @@ use native.Mathlib.Omega.{arith}
 use lib.Dec.{ltb}
 use borrow.Author.Tests.{lt-ltb, le-ltb, ltb-true, ltb-false}
 use Rattle.numbers.specs.Numbers.{digitsPerRegister, signedDigits}
-use Rattle.laws.proofs.Choice.{and-left, and-right, or-either}
+use Rattle.laws.proofs.Choice.{true-or, lt-or, and-left, and-right, or-either, never}
 use Rattle.bcd.specs.declared.Kind.{Kind}
 use Rattle.bcd.specs.declared.Kind.the-variants.{Width16, Width32, Signed16}
 use Rattle.bcd.specs.declared.Encoded.the-variants.{Bcd, OutOfRange}
@@ -48,6 +48,20 @@ pub digits-decode-refuses : (n w : ℕ) → (decodedDigits n w ≡ NoNumber) ↔
 unfolding decimal
 digits-decode-refuses n w =
     (λ e. above-some 16 10 n w (was-other n w e), λ s. decoded-other n w (some-above 16 10 n w (s .0) (s .1) (s .2)))
+
+-- Digits are a number exactly if none of the n nibbles is above 9.
+pub digits-decode-accepts : (n w : ℕ) → ((v : ℕ) × (decodedDigits n w ≡ Binary v)) ↔ ((i : ℕ) → i < n → nibble i w ≤ 9)
+unfolding decimal
+digits-decode-accepts n w = (
+  λ r i l.
+      ⊎-elim (λ (h : 9 < nibble i w). never (cc (r .1, digits-decode-refuses n w .1 (i, l, h))))
+      (λ (h : nibble i w ≤ 9). h)
+      (lt-or 9 (nibble i w)),
+  λ f.
+      ⊎-elim (λ (t : decimal n w ≡ true). (unpacked n w, decoded-decimal n w t))
+      (λ (t : decimal n w ≡ false). let s = above-some 16 10 n w t in absurd (omega (arith, f (s .0) (s .1), s .2)))
+      (true-or (decimal n w)),
+)
 
 -- What a value is encoded to has n nibbles.
 pub digits-encoded-below : (n v w : ℕ) → encodedDigits n v ≡ Bcd w → w < 16 ^ n

@@ -210,6 +210,40 @@ module _ (n : ℕ) where
   read-refused w (ofMinus u z l q s) e = never (cc)
   read-refused w (ofNeither f s) e = f
 
+  read-digits : (w v : ℕ) → decodedSigned n w ≡ Binary v → (i : ℕ) → i < n → nibble i w ≤ 9
+  read-digits w v e i l =
+      ⊎-elim (λ (h : 9 < nibble i w). never (cc (neither-read w (inl (i, l, h)))))
+      (λ (h : nibble i w ≤ 9). h)
+      (lt-or 9 (nibble i w))
+
+  read-sign : (w v : ℕ) → decodedSigned n w ≡ Binary v → (nibble n w ≡ 0) ⊎ ((nibble n w ≡ minus) × (1 ≤ w % 16 ^ n))
+  read-sign w v e =
+      ⊎-elim
+      (λ (z : nibble n w ≡ 0). inl z)
+      (λ (z : nibble n w ≡ 0 → ⊥). ⊎-elim
+      (λ (m : nibble n w ≡ minus). inr (
+        m,
+        ⊎-elim
+            (λ (h : 0 < w % 16 ^ n). h)
+            (λ (h : w % 16 ^ n ≤ 0).
+            let y : w % 16 ^ n ≡ 0 = omega arith in
+            never (cc (neither-read w (inr (inr (word-parts w ∙ rw (m, y) (add-zero (minus * 16 ^ n))))))))
+            (lt-or 0 (w % 16 ^ n)),
+      ))
+      (λ (m : nibble n w ≡ minus → ⊥). never (cc (neither-read w (inr (inl (z, m))))))
+      (eq-or (nibble n w) minus))
+      (eq-or (nibble n w) 0)
+
+  read-accepted : (w : ℕ) → Worded n w → ((i : ℕ) → i < n → nibble i w ≤ 9) → (nibble n w ≡ 0) ⊎ ((nibble n w ≡ minus) × (1 ≤ w % 16 ^ n))
+      → (v : ℕ) × (decodedSigned n w ≡ Binary v)
+  read-accepted w (ofPlus u l q s) d g = (u, s)
+  read-accepted w (ofMinus u z l q s) d g = (16 ^ suc n - u, s)
+  read-accepted w (ofNeither (inl h) s) d g = absurd (omega (arith, d (h .0) (h .1), h .2))
+  read-accepted w (ofNeither (inr (inl h)) s) d g = absurd (⊎-elim (h .0) (λ m. h .1 (m .0)) g)
+  read-accepted w (ofNeither (inr (inr q)) s) d g =
+      let p = parts w minus 0 some (rw (zero-add (minus * 16 ^ n)) q) in
+      absurd (⊎-elim (λ (z : nibble n w ≡ 0). omega (arith, p .0)) (λ (m : (nibble n w ≡ minus) × (1 ≤ w % 16 ^ n)). omega (arith, m .1, p .1)) g)
+
   -- What a value is encoded to decodes to that value.
   pub signed-encode-decode : (v w : ℕ) → encodedSigned n v ≡ Bcd w → decodedSigned n w ≡ Binary v
   signed-encode-decode v w e = there v w (valued v) e .1
@@ -229,6 +263,11 @@ module _ (n : ℕ) where
   -- A word is refused exactly if a digit is above 9, or the sign is none, or it is minus 0.
   pub signed-decode-refuses : (w : ℕ) → (decodedSigned n w ≡ NoNumber) ↔ NoSigned n w
   signed-decode-refuses w = (read-refused w (worded w), neither-read w)
+
+  -- A word is a number exactly if no digit is above 9 and the sign is plus, or it is minus and the digits are not all 0.
+  pub signed-decode-accepts : (w : ℕ)
+      → ((v : ℕ) × (decodedSigned n w ≡ Binary v)) ↔ (((i : ℕ) → i < n → nibble i w ≤ 9) × ((nibble n w ≡ 0) ⊎ ((nibble n w ≡ minus) × (1 ≤ w % 16 ^ n))))
+  signed-decode-accepts w = (λ r. (read-digits w (r .0) (r .1), read-sign w (r .0) (r .1)), λ d. read-accepted w (worded w) (d .0) (d .1))
 
   -- What a value is encoded to has n + 1 nibbles.
   pub signed-encoded-below : (v w : ℕ) → encodedSigned n v ≡ Bcd w → w < 16 ^ suc n

@@ -20,6 +20,7 @@ use Rattle.pdu.specs.Reads.{sameRead, equalReads}
 use Rattle.rewrite.specs.Registers.{registersAt, laidAt}
 use Rattle.rewrite.specs.Rewriting.{turned, verdict, laidBy, rewrittenFrom, partials, values, rewriting}
 use Rattle.rewrite.specs.Frames.{forwarded, reencoded, returnedBy, returned}
+use Rattle.rewrite.specs.Legal.{forbids, someForbids, forbidden, faultUnder}
 use Rattle.cache.specs.Cache.{keptFrom, droppedBy}
 use Rattle.book.specs.Book.{liveIn}
 use Rattle.machine.specs.Machine.{Machine, made}
@@ -32,9 +33,9 @@ use Rattle.machine.specs.Outcomes.{granted, outcome}
 use Rattle.machine.specs.declared.Answer.{Answer}
 use Rattle.machine.specs.declared.Answer.the-variants.{Issued, Joined, Answered, TimedOut, NothingDue, Done as Finished}
 
--- the document's settings: timeout 3000, join 1, a tag of width 16 at 1,024 and one of width 32 at 1,026, both without a sign and a ttl
+-- the document's settings: timeout 3000, join 1, a tag of width 16 at 1,024 and one of width 32 at 1,026, both without a sign and a ttl and not strict
 abbrev pub tag : ℕ → ℕ → Tag
-tag a w = record { address = a; width = w; sign = 0; ttl = 0 }
+tag a w = record { address = a; width = w; sign = 0; ttl = 0; strict = 0 }
 
 abbrev pub site : Value
 site = record { timeout = 3000; join = 1; tags = tag 1024 16 ∷ tag 1026 32 ∷ [] }
@@ -85,7 +86,7 @@ unfoldable pub shown : Example → Given
 unfolding played outcome granted rows lowest admitted served missed exhausted excepted hitOn joinedTo issuedTo sameTable meets spoils sameRead equalReads keptFrom droppedBy alike joins closing answered answeredTo ticked expiredTo outOf listOf
     forwarded reencoded returned returnedBy rewriting partials values rewrittenFrom laidBy verdict turned registersAt laidAt filter tab best first with
     digits value below packed unpacked decimal encodedDigits decodedDigits registers encoded decoded wordsOf numberOf kindOf
-    classOf badFunction badLength badValue badAddress askedBy faultOf shaped answering misframed exception liveIn flatMap
+    classOf badFunction badLength badValue badAddress askedBy faultOf forbids someForbids forbidden faultUnder shaped answering misframed exception liveIn flatMap
 shown e =
     let d = played (made site) ready (attach 3 ∷ attach 5 ∷ (e .calls)) in
     given (d .says) (d .written) (d .listed)

@@ -16,7 +16,7 @@ use Rattle.laws.proofs.Choice.{eq-or, never}
 use Rattle.wire.specs.Frame.{idOf, laid, exception}
 use Rattle.wire.proofs.FrameLaws.{framed, length-laid}
 use Rattle.settings.specs.Grammar.{Tag}
-use Rattle.pdu.specs.Requests.{askedOf, faultOf, checkedOf, legal}
+use Rattle.pdu.specs.Requests.{askedOf}
 use Rattle.pdu.specs.Replies.{What}
 use Rattle.pdu.specs.declared.Table.the-variants.{Bits, Registers}
 use Rattle.pdu.specs.declared.Asked.{Asked}
@@ -24,11 +24,15 @@ use Rattle.pdu.specs.declared.Asked.the-variants.{Read, SingleWrite, MultipleWr
 use Rattle.pdu.specs.declared.Checked.the-variants as check
 use Rattle.pdu.specs.declared.ProxyId.{ProxyId}
 use Rattle.pdu.proofs.SpoilingLaws.{spoils-itself}
-use Rattle.pdu.proofs.RequestLaws.{RequestRoom, legal-room, legal-checked, excepted-codes, known}
+use Rattle.pdu.proofs.RequestLaws.{RequestRoom, legal-room, known}
 use Rattle.rewrite.specs.declared.Way.the-variants.{ToBcd}
 use Rattle.rewrite.specs.Frames.{forwarded}
+use Rattle.rewrite.specs.Legal.{faultUnder, checkedUnder, legal}
+use Rattle.rewrite.specs.Strict.{Carries}
+use Rattle.rewrite.specs.Strict.Carries.{single, multiple}
 use Rattle.rewrite.specs.Plain.{OfBits, Rewrites}
 use Rattle.rewrite.specs.Plain.OfBits.{coils-read, discrete-read, coil-written, coils-written}
+use Rattle.rewrite.proofs.LegalLaws.{legal-checked, checked-codes}
 use Rattle.rewrite.proofs.FrameLaws.{length-forwarded, stands-under}
 use Rattle.rewrite.proofs.TurnedLaws.{stands-rewritten}
 use Rattle.cache.specs.Cache.{Cached, inCache}
@@ -46,8 +50,7 @@ use Rattle.machine.specs.Outcomes.{outcome}
 use Rattle.machine.specs.Spelled.{spelled, asking}
 use Rattle.machine.specs.Cached.{NoHit}
 use Rattle.machine.specs.declared.Answer.the-variants as answer
-use Rattle.machine.specs.Requested.{MayJoin, NoneToJoin, Carries, Hits, Issues, Joins, Excepts}
-use Rattle.machine.specs.Requested.Carries.{single, multiple}
+use Rattle.machine.specs.Requested.{MayJoin, NoneToJoin, Hits, Issues, Joins, Excepts}
 use Rattle.machine.specs.Answered.{showing}
 use Rattle.machine.proofs.SpelledLaws.{party-spelled, asked-spelled, wanted-spelled}
 use Rattle.machine.proofs.OutcomeLaws.{clocked-at, not-refused}
@@ -224,14 +227,14 @@ module _ (m : Machine) (c t : ℕ) (f o : List ℕ) (g : Good rules (m .book)) (
         rule = refl;
       }
 
-  excepted-is : (n : ℕ) → ((n ≡ 4 → ⊥) → checkedOf f ≡ check.Excepted n) → Excepts m t f o (excepted (clocked m t) n f o)
+  excepted-is : (n : ℕ) → ((n ≡ 4 → ⊥) → checkedUnder (settings m .tags) f ≡ check.Excepted n) → Excepts m t f o (excepted (clocked m t) n f o)
   unfolding excepted exception
   excepted-is n checked =
       let room = fits-in in
       let low = known (getD f 7 0) .0 (request-passes m c t f o h .2) in
       record {
         code = n;
-        codes = ⊎-elim (λ e. inr (inr e)) (λ z. ⊎-elim (λ e. inr (inl e)) inl (excepted-codes f n (checked z))) (eq-or n 4);
+        codes = ⊎-elim (λ e. inr (inr e)) (λ z. ⊎-elim (λ e. inr (inl e)) inl (checked-codes (settings m .tags) f n (checked z))) (eq-or n 4);
         checked = checked;
         says = refl;
         frame = λ bytes. let b = own-bytes (getD f 0 0) (getD f 1 0) (getD f 7 0) (bytes 1) (omega arith) in cc (b .0, b .1, b .2);
@@ -246,7 +249,7 @@ module _ (m : Machine) (c t : ℕ) (f o : List ℕ) (g : Good rules (m .book)) (
       }
 
   one-of-four : {d : Outcome} → Comes m c t f o d → Hits m c t f o d ⊎ (Issues m c t f o d ⊎ (Joins m c t f o d ⊎ Excepts m t f o d))
-  one-of-four (faulty z) = inr (inr (inr (excepted-is (faultOf f) (λ n. fault-checked m c t f o h z))))
+  one-of-four (faulty z) = inr (inr (inr (excepted-is (faultUnder (settings m .tags) f) (λ n. fault-checked m c t f o h z))))
   one-of-four (hitting z k e there same young) = inl (hit-is z k e there same young)
   one-of-four (joining z no-hit k e there may smallest) = inr (inr (inl (joined-is z no-hit k e there may smallest)))
   one-of-four (full z no-hit alone all) = inr (inr (inr (excepted-is deviceFailure (λ n. absurd (n refl)))))

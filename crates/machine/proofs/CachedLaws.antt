@@ -17,12 +17,12 @@ use Rattle.wire.specs.Frame.{misframed, laid}
 use Rattle.wire.proofs.FrameLaws.{framed, length-laid, laid-framed}
 use Rattle.settings.specs.Grammar.{Tag}
 use Rattle.settings.specs.TagWords.{Ascending}
-use Rattle.pdu.specs.Requests.{faultOf}
 use Rattle.pdu.specs.Replies.{What, answering, excepts}
 use Rattle.pdu.specs.Reads.{equalReads}
 use Rattle.pdu.specs.Spoiling.{spoils}
 use Rattle.pdu.specs.declared.ProxyId.{ProxyId}
 use Rattle.pdu.proofs.ReadLaws.{equal-self}
+use Rattle.rewrite.specs.Legal.{faultUnder}
 use Rattle.rewrite.specs.Frames.{returned}
 use Rattle.rewrite.specs.declared.Way.{Way}
 use Rattle.rewrite.specs.declared.Way.the-variants.{ToBinary}
@@ -226,9 +226,9 @@ granted-change m (attach c) h = same refl (λ i n p v s. never (cc)) (λ e. neve
 granted-change m (detach c) h = same refl (λ i n p v s. never (cc)) (λ e. never (cc)) (λ g. never (cc (g .is)))
 granted-change m (request c t f o) h =
     ⊎-elim
-    (λ (z : eqb (faultOf f) 0 ≡ true). rw z (served-change m c t f o))
-    (λ (z : eqb (faultOf f) 0 ≡ false). rw z (same refl (λ i n p v s. never (cc)) (λ e. never (cc)) (λ g. never (cc (g .is)))))
-    (true-or (eqb (faultOf f) 0))
+    (λ (z : eqb (faultUnder (settings m .tags) f) 0 ≡ true). rw z (served-change m c t f o))
+    (λ (z : eqb (faultUnder (settings m .tags) f) 0 ≡ false). rw z (same refl (λ i n p v s. never (cc)) (λ e. never (cc)) (λ g. never (cc (g .is)))))
+    (true-or (eqb (faultUnder (settings m .tags) f) 0))
 granted-change m (reply t f o l) h = reply-change m t f o l h
 granted-change m (tick t o l) h = tick-change m t (duePlace rules (clocked m t .book)) o l (at (clocked m t .book) (duePlace rules (clocked m t .book)))
 granted-change m linkLost h = empties refl refl

@@ -5,11 +5,12 @@
 use Prim.Native.Nat.{ℕ, suc, _+_, _*_, _-_, _≤_, _<_}
 use mathlib.Core.Path.{_≡_, refl, ap, sym, _∙_}
 use mathlib.Core.Logic.{⊎-elim, _⊎_, _↔_}
-use mathlib.Core.Bool.{true, false}
+use mathlib.Core.Bool.{true, false, cond, not, _&&_}
 use mathlib.Core.Option.{some, Option·getD, Option·some-injective}
 use mathlib.Core.List.{List, [], _∷_, _++_, append-assoc, List·Memᴰ, List·Memᴰ·head, Memᴰ·append-right}
 use native.Mathlib.Omega.{arith}
 use lib.ListN.{length, getD, take}
+use lib.Dec.{eqb}
 use borrow.Author.Tests.{eqb-true}
 use Rattle.numbers.specs.Numbers.{places, ids, distance, latestTime}
 use Rattle.laws.specs.Lists.{filter, lastGiven, lastOf}
@@ -18,23 +19,27 @@ use Rattle.laws.specs.Bytes.{over}
 use Rattle.laws.proofs.BitLaws.{has-none}
 use Rattle.laws.proofs.FilterLaws.{filter-in}
 use Rattle.laws.proofs.LastLaws.{last-of-exactly}
-use Rattle.wire.specs.Frame.{laid}
-use Rattle.wire.specs.Frame.{idOf, laid}
+use Rattle.wire.specs.Frame.{idOf, functionOf, misframed, laid}
 use Rattle.bcd.specs.Bcd.{inRange}
 use Rattle.bcd.specs.Words.{numberOf}
 use Rattle.settings.specs.Grammar.{Value, Tag, valid}
 use Rattle.settings.specs.TagWords.{kindOf}
 use Rattle.settings.proofs.TagLaws.{valid-ascends}
-use Rattle.pdu.specs.Requests.{legal}
+use Rattle.pdu.specs.Requests.{classOf, badFunction, badLength, askedOf, faultOf, checkedOf}
 use Rattle.pdu.specs.Replies.{What, excepts}
 use Rattle.pdu.specs.Spoiling.{spoils}
 use Rattle.pdu.specs.declared.ProxyId.{ProxyId}
 use Rattle.pdu.specs.declared.Table.the-variants.{Registers}
 use Rattle.pdu.specs.declared.Asked.the-variants.{Read}
+use Rattle.pdu.specs.declared.Checked.the-variants as check
 use Rattle.rewrite.specs.Registers.{registersAt}
 use Rattle.rewrite.specs.Rewriting.{ownIn, Rewritten}
-use Rattle.rewrite.specs.Plain.{Whole, OfBits}
+use Rattle.rewrite.specs.Plain.{Has, InRun, Whole, OfBits}
+use Rattle.rewrite.specs.Legal.{legal}
+use Rattle.rewrite.specs.Strict.{Carries, Violates, HasDigits}
+use Rattle.rewrite.specs.Strict.Carries.{single}
 use Rattle.rewrite.proofs.FrameLaws.{returned-bits}
+use Rattle.rewrite.proofs.StrictLaws.{strictless}
 use Rattle.cache.specs.Cache.{Cached, inCache}
 use Rattle.cache.specs.Plain.{Keyed, Fresh, Takes}
 use Rattle.cache.proofs.CacheLaws.{fresh-taken}
@@ -48,12 +53,12 @@ use Rattle.book.proofs.History.{ids-come-round-late, after-on, after-one, histo
 use Rattle.book.proofs.SpacedLaws.{apart-exactly}
 use Rattle.book.proofs.TracedLaws.{traced}
 use Rattle.book.proofs.LedgerLaws.{successor, successor-of-lost}
-use Rattle.machine.specs.Machine.{Machine, Note, made, rules, settings}
+use Rattle.machine.specs.Machine.{Machine, Note, made, rules, settings, clocked}
 use Rattle.machine.specs.Calls.{Call, Outcome, done, outOf, listOf, timeOf}
 use Rattle.machine.specs.Calls.Call.{attach, detach, request, reply, tick, linkLost}
 use Rattle.machine.specs.Refusals.{rows, lowest, refusal}
 use Rattle.machine.specs.Numbers.{numbers, Tells}
-use Rattle.machine.specs.Requests.{wanted, partyOf}
+use Rattle.machine.specs.Requests.{wanted, partyOf, excepted, served, admitted}
 use Rattle.machine.specs.Outcomes.{granted, outcome}
 use Rattle.machine.specs.Granted.{grantedCalls, concerns}
 use Rattle.machine.specs.Waiting.{nextDeadline, Waits}
@@ -64,8 +69,7 @@ use Rattle.machine.specs.Cached.{NoHit, Fills, KeptFor, Put, LastReply, 
 use Rattle.machine.specs.declared.Answer.{Answer}
 use Rattle.machine.specs.declared.Answer.the-variants as answer
 use Rattle.machine.specs.RefusalTable.{table, Applies}
-use Rattle.machine.specs.Requested.{NoneToJoin, Carries, Hits, Issues, Joins, Excepts, Accepts, Stands}
-use Rattle.machine.specs.Requested.Carries.{single}
+use Rattle.machine.specs.Requested.{NoneToJoin, Hits, Issues, Joins, Excepts, Accepts, Stands}
 use Rattle.machine.specs.Answered.{Answers, Expires, showing, Lent, tickAt, ticksAt}
 use Rattle.machine.specs.PartysFrames.{PartysFrame, EachItsFrame}
 use Rattle.machine.proofs.RefusalLaws.{refused-exactly}
@@ -75,6 +79,7 @@ use Rattle.machine.proofs.SpelledLaws.{asked-spelled, kept-as-asked, as
 use Rattle.machine.proofs.RequestLaws.{codeOf, no-other-exception, exception-04 as said-exactly}
 use Rattle.machine.proofs.Follows.{same-entry}
 use Rattle.machine.proofs.AskLaws.{bits-carry-none, request-comes-to, hit-is-said, issue-is, join-is, exception-is}
+use Rattle.machine.proofs.StrictLaws.{forbids-exactly, only-forbids, sends-digits, legal-as-before, admitted-as-before}
 use Rattle.machine.proofs.PartyLaws.{accepted-stands}
 use Rattle.machine.proofs.AnswerLaws.{reply-answers, tick-expires, idle-is, idle-when}
 use Rattle.machine.proofs.ReadBack.{comes-back}
@@ -128,6 +133,9 @@ module _ (v : Value) (xs : List Call) where
   -- The settings in force are those that the machine was made with, whatever was called.
   pub the-settings-in-force-stay : settings (afterCalls v xs) ≡ v
   the-settings-in-force-stay = in-force v xs
+
+  tags-stay : settings (afterCalls v xs) .tags ≡ v .tags
+  tags-stay = ap (λ (y : Value). y .tags) the-settings-in-force-stay
 
   -- Tender 1: a call refuses by the numbers in document 01. It says the refusal n exactly if row n of the document's table applies to it and no lower row does; the
   -- table in plain words is `table` of specs/RefusalTable.antt.
@@ -395,6 +403,44 @@ module _ (v : Value) (xs : List Call) where
       let h = a-hit-is-this c t f o n p w e in
       let same : p ≡ h .cached .partial = cc (h .says) in
       same ∙ none-cut-cached v (valid-ascends v right) xs (h .place) (h .cached) (h .there)
+
+  -- Request #108: "If a write covers a strict tag partly, or its value is outside the range, the client gets exception 03 and nothing is issued." A write 06 or 16 that is not refused and whose
+  -- bytes give neither exception 03 nor 02 gets exception 03 exactly if some strict tag has a register in the write and another outside it, or lies in it with a value outside its range, in
+  -- plain numbers (`Violates`). That nothing is issued, closed or dropped then, and that the buffer has the nine bytes of the exception, is `an-exception-is-this`.
+  pub a-strict-tag-forbids-exactly : (c t : ℕ) (f o : List ℕ) → refusal (afterCalls v xs) (request c t f o) ≡ 0 → ((k : ℕ) → getD f k 0 < 256) → checkedOf f ≡ check.Legal (askedOf f)
+      → (base start quantity : ℕ) → Carries (asking f .asked) base start quantity
+      → (outcome (afterCalls v xs) (request c t f o) .says ≡ answer.Excepted 3) ↔ Violates (v .tags) f base start quantity
+  a-strict-tag-forbids-exactly c t f o h bytes fine base start quantity carries =
+      forbids-exactly (afterCalls v xs) (v .tags) tags-stay c t f o good (stocked v xs) h bytes fine base start quantity carries
+
+  -- "The check follows exception 02 in 01's order": a request that is not refused gets exception 03 exactly if its bytes give that, or they give neither 03 nor 02 and it is a write of
+  -- registers that a strict tag forbids. No read, no write of coils and no other function is forbidden, and bytes that give 02 do not get 03.
+  pub only-a-strict-tag-forbids : (c t : ℕ) (f o : List ℕ) → refusal (afterCalls v xs) (request c t f o) ≡ 0 → ((k : ℕ) → getD f k 0 < 256)
+      → (outcome (afterCalls v xs) (request c t f o) .says ≡ answer.Excepted 3)
+      ↔ ((checkedOf f ≡ check.Excepted 3)
+      ⊎ ((checkedOf f ≡ check.Legal (askedOf f))
+      × ((base : ℕ) × (start : ℕ) × (quantity : ℕ) × Carries (asking f .asked) base start quantity × Violates (v .tags) f base start quantity)))
+  only-a-strict-tag-forbids c t f o h bytes = only-forbids (afterCalls v xs) (v .tags) tags-stay c t f o good (stocked v xs) h bytes
+
+  -- "No frame to the device ever holds, at a strict tag, a word its kind does not allow, for the register writes 06 and 16." In a frame that goes out of a write, a strict tag of which any
+  -- register is written lies wholly in the write and has there digits that its kind allows, and these decode to the number that the client wrote there (`HasDigits`): function, addresses and
+  -- quantity as the written frame has them.
+  pub what-goes-out-at-a-strict-tag : valid v ≡ true → (c t : ℕ) (f o : List ℕ) (i : ProxyId) (n p w : ℕ) → outcome (afterCalls v xs) (request c t f o) .says ≡ answer.Issued i n p w
+      → ((k : ℕ) → getD f k 0 < 256) → (base start quantity : ℕ) → Carries (asking (outcome (afterCalls v xs) (request c t f o) .written) .asked) base start quantity
+      → (tag : Tag) → List·Memᴰ tag (v .tags) → tag .strict ≡ 1 → (x : ℕ) → Has tag x → InRun start quantity x
+      → HasDigits tag f (outcome (afterCalls v xs) (request c t f o) .written) base start quantity
+  what-goes-out-at-a-strict-tag right c t f o i n p w e =
+      sends-digits (afterCalls v xs) (v .tags) tags-stay c t f o _ (an-issue-is-this c t f o i n p w e) (valid-ascends v right)
+
+  -- "Lenient tags keep today's counts." Where no tag is strict, what a request comes to that is not refused, and which request is legal, are as they were: its bytes alone decide. Where some
+  -- are, the counts of what is issued are still those of `Rewrites`, which does not ask whether a tag is strict (`an-issue-is-this`).
+  pub without-a-strict-tag-as-before : ((tag : Tag) → List·Memᴰ tag (v .tags) → tag .strict ≡ 1 → ⊥) → (c t : ℕ) (f o : List ℕ)
+      → (admitted (afterCalls v xs) c t f o
+      ≡ cond (eqb (faultOf f) 0) (served (clocked (afterCalls v xs) t) c f o) (excepted (clocked (afterCalls v xs) t) (faultOf f) f o))
+      × (legal v f ≡ (not (misframed f) && (not (badFunction (functionOf f)) && (not (badLength (classOf (functionOf f)) f) && eqb (faultOf f) 0))))
+  without-a-strict-tag-as-before none c t f o =
+      let lenient = strictless (v .tags) none in
+      (admitted-as-before v lenient (afterCalls v xs) the-settings-in-force-stay c t f o, legal-as-before v lenient f)
 
   -- Document 01: link lost returns the former set, client by client those that were attached, and nobody is attached after it.
   pub link-lost-says-who-was-attached : (s : ℕ) × (outcome (afterCalls v xs) linkLost .says ≡ answer.Lost s)

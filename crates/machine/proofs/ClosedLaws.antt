@@ -17,11 +17,11 @@ use Rattle.laws.proofs.Choice.{true-or, or-left}
 use Rattle.laws.proofs.ListLaws.{grown}
 use Rattle.laws.proofs.LastLaws.{last-yes, last-no, last-behind, last-of-exactly}
 use Rattle.settings.specs.Grammar.{Value}
-use Rattle.pdu.specs.Requests.{faultOf, legal}
 use Rattle.pdu.specs.Replies.{What}
 use Rattle.pdu.specs.Spoiling.{spoils}
 use Rattle.pdu.specs.declared.ProxyId.{ProxyId}
 use Rattle.pdu.proofs.SpoilingLaws.{spoils-itself}
+use Rattle.rewrite.specs.Legal.{faultUnder, legal}
 use Rattle.book.specs.Book.{Party, Live, Event, Move, Good, Fits, newEntry, liveIn, added, struck, marked, at, apply, tell}
 use Rattle.book.specs.Book.Move.{rest, pass, join, issue, reply as replies, expire, strike, wipe, mark, adopt}
 use Rattle.book.specs.Book.Event.{passed, joined, issued, replied, expired, left}
@@ -164,7 +164,7 @@ paired m x = both (eqb (refusal m x) 0) (granted x) done
     granted (attach c) = done
     granted (detach c) = plain tt done
     granted (request c t f o) =
-        plain tt (both (eqb (faultOf f) 0)
+        plain tt (both (eqb (faultUnder (settings m .tags) f) 0)
         (both (hits (clocked m t) f) done
         (both (canJoin (clocked m t) f) (joined (clocked m t) (joiningPlace (clocked m t) f) c f (at (clocked m t .book) (joiningPlace (clocked m t) f))) (both (exhausted (clocked m t) c) done (closing-all done))))
         done)

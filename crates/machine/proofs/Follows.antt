@@ -16,8 +16,8 @@ use Rattle.laws.specs.Bytes.{over}
 use Rattle.laws.proofs.Choice.{true-or, eq-or}
 use Rattle.settings.specs.Grammar.{Value}
 use Rattle.wire.specs.Frame.{idOf}
-use Rattle.pdu.specs.Requests.{faultOf}
 use Rattle.pdu.specs.Replies.{What, what}
+use Rattle.rewrite.specs.Legal.{faultUnder}
 use Rattle.cache.specs.Cache.{Cached, inCache}
 use Rattle.book.specs.Book.{Party, Live, Move, Good, at}
 use Rattle.book.specs.Book.Move.{pass, join, issue, reply as replies, expire, strike, wipe, mark}
@@ -68,7 +68,7 @@ ending x (some e) = x e ∷ []
 unfoldable pub grantedMoves : Machine → Call → Moves
 grantedMoves m (attach c) = []
 grantedMoves m (detach c) = strike c ∷ []
-grantedMoves m (request c t f o) = pass t ∷ cond (eqb (faultOf f) 0) (serving (clocked m t) c f) []
+grantedMoves m (request c t f o) = pass t ∷ cond (eqb (faultUnder (settings m .tags) f) 0) (serving (clocked m t) c f) []
 grantedMoves m (reply t f o l) = pass t ∷ ending (replies (idPlace rules (m .book) (idOf f))) (entryFor m f)
 grantedMoves m (tick t o l) = pass t ∷ ending (expire (duePlace rules (clocked m t .book))) (at (clocked m t .book) (duePlace rules (clocked m t .book)))
 grantedMoves m linkLost = wipe ∷ []
@@ -121,9 +121,9 @@ granted-follows m (attach c) h = refl
 granted-follows m (detach c) h = refl
 granted-follows m (request c t f o) h =
     ⊎-elim
-    (λ (z : eqb (faultOf f) 0 ≡ true). rw z (served-follows (clocked m t) c f o))
-    (λ (z : eqb (faultOf f) 0 ≡ false). rw z refl)
-    (true-or (eqb (faultOf f) 0))
+    (λ (z : eqb (faultUnder (settings m .tags) f) 0 ≡ true). rw z (served-follows (clocked m t) c f o))
+    (λ (z : eqb (faultUnder (settings m .tags) f) 0 ≡ false). rw z refl)
+    (true-or (eqb (faultUnder (settings m .tags) f) 0))
 granted-follows m (reply t f o l) h = let e = reply-finds m t f o l h in rw (e .1) refl
 granted-follows m (tick t o l) h = due (at (clocked m t .book) (duePlace rules (clocked m t .book)))
   where
@@ -182,9 +182,9 @@ granted-fits m (detach c) g h = (tt, tt)
 granted-fits m (request c t f o) g h = (
   tt,
   ⊎-elim
-      (λ (z : eqb (faultOf f) 0 ≡ true). rw z (served-fits (clocked m t) c f (good-move rules (m .book) (pass t) g tt)))
-      (λ (z : eqb (faultOf f) 0 ≡ false). rw z tt)
-      (true-or (eqb (faultOf f) 0)),
+      (λ (z : eqb (faultUnder (settings m .tags) f) 0 ≡ true). rw z (served-fits (clocked m t) c f (good-move rules (m .book) (pass t) g tt)))
+      (λ (z : eqb (faultUnder (settings m .tags) f) 0 ≡ false). rw z tt)
+      (true-or (eqb (faultUnder (settings m .tags) f) 0)),
 )
 granted-fits m (reply t f o l) g h = let e = reply-finds m t f o l h in (tt, rw (e .1) (e .1, tt))
 granted-fits m (tick t o l) g h = (tt, due-fits (clocked m t .book) (good-move rules (m .book) (pass t) g tt) (at (clocked m t .book) (duePlace rules (clocked m t .book))) refl)
@@ -267,9 +267,9 @@ lost-tells : (v : Value) (m : Machine) → told v linkLost (seenOf (granted m li
 unfolding told
 lost-tells v m = refl
 
-excepted-tells : (v : Value) (m : Machine) (c t : ℕ) (f o : List ℕ) → told v (request c t f o) (seenOf (excepted m (faultOf f) f o)) ≡ passed t ∷ []
+excepted-tells : (v : Value) (m : Machine) (c t : ℕ) (f o : List ℕ) (n : ℕ) → told v (request c t f o) (seenOf (excepted m n f o)) ≡ passed t ∷ []
 unfolding told excepted numbers
-excepted-tells v m c t f o = refl
+excepted-tells v m c t f o n = refl
 
 granted-honest : (v : Value) (m : Machine) (x : Call) → Good rules (m .book) → settings m ≡ v → refusal m x ≡ 0 → told v x (seenOf (granted m x)) ≡ tells (grantedMoves m x)
 unfolding granted grantedMoves tells admitted answered ticked
@@ -277,9 +277,9 @@ granted-honest v m (attach c) g s h = attach-tells v m c
 granted-honest v m (detach c) g s h = detach-tells v m c
 granted-honest v m (request c t f o) g s h =
     ⊎-elim
-    (λ (z : eqb (faultOf f) 0 ≡ true). rw z (served-honest v (clocked m t) c t f o (good-move rules (m .book) (pass t) g tt) s (clocked-at m (request c t f o) t h refl)))
-    (λ (z : eqb (faultOf f) 0 ≡ false). rw z (excepted-tells v (clocked m t) c t f o))
-    (true-or (eqb (faultOf f) 0))
+    (λ (z : eqb (faultUnder (settings m .tags) f) 0 ≡ true). rw z (served-honest v (clocked m t) c t f o (good-move rules (m .book) (pass t) g tt) s (clocked-at m (request c t f o) t h refl)))
+    (λ (z : eqb (faultUnder (settings m .tags) f) 0 ≡ false). rw z (excepted-tells v (clocked m t) c t f o _))
+    (true-or (eqb (faultUnder (settings m .tags) f) 0))
 granted-honest v m (reply t f o l) g s h = let e = reply-finds m t f o l h in rw (e .1) (replied-honest v m (clocked m t) (idPlace rules (m .book) (idOf f)) t f o l (e .0))
 granted-honest v m (tick t o l) g s h = ticked-honest v (clocked m t) (duePlace rules (clocked m t .book)) t o l (at (clocked m t .book) (duePlace rules (clocked m t .book)))
 granted-honest v m linkLost g s h = lost-tells v m
@@ -319,9 +319,9 @@ granted-rule m (attach c) h = refl
 granted-rule m (detach c) h = refl
 granted-rule m (request c t f o) h =
     ⊎-elim
-    (λ (z : eqb (faultOf f) 0 ≡ true). rw z (served-rule (clocked m t) c f o))
-    (λ (z : eqb (faultOf f) 0 ≡ false). rw z refl)
-    (true-or (eqb (faultOf f) 0))
+    (λ (z : eqb (faultUnder (settings m .tags) f) 0 ≡ true). rw z (served-rule (clocked m t) c f o))
+    (λ (z : eqb (faultUnder (settings m .tags) f) 0 ≡ false). rw z refl)
+    (true-or (eqb (faultUnder (settings m .tags) f) 0))
 granted-rule m (reply t f o l) h = let e = reply-finds m t f o l h in rw (e .1) refl
 granted-rule m (tick t o l) h = expired-rule (clocked m t) (duePlace rules (clocked m t .book)) o l (at (clocked m t .book) (duePlace rules (clocked m t .book)))
 granted-rule m linkLost h = refl

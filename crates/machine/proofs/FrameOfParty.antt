@@ -15,11 +15,12 @@ use Rattle.laws.proofs.Choice.{true-or, eq-or, lt-or}
 use Rattle.settings.specs.Grammar.{Value}
 use Rattle.wire.specs.Frame.{functionOf, idOf, misframed, laid, exception}
 use Rattle.wire.proofs.FrameLaws.{framed, exception-framed, length-laid, laid-framed}
-use Rattle.pdu.specs.Requests.{badFunction, faultOf}
+use Rattle.pdu.specs.Requests.{badFunction}
 use Rattle.pdu.specs.Replies.{What, answering}
 use Rattle.pdu.specs.Plain.{Known}
 use Rattle.pdu.proofs.RequestLaws.{known}
 use Rattle.pdu.proofs.ReplyLaws.{excepts-exact, answers-exact, exception-excepts}
+use Rattle.rewrite.specs.Legal.{faultUnder}
 use Rattle.rewrite.specs.Frames.{returned}
 use Rattle.rewrite.proofs.FrameLaws.{length-returned, returned-framed, returned-answers, laid-answers}
 use Rattle.cache.specs.Cache.{Cached, inCache}
@@ -156,9 +157,9 @@ granted-known m (attach c) h a = a
 granted-known m (detach c) h a = map-each (λ e. Known (e .what .function)) (m .book .places) (struck c) a
 granted-known m (request c t f o) h a =
     ⊎-elim
-    (λ (z : eqb (faultOf f) 0 ≡ true). rw z (served-known (clocked m t) c f o (request-known m c t f o h) a))
-    (λ (z : eqb (faultOf f) 0 ≡ false). rw z a)
-    (true-or (eqb (faultOf f) 0))
+    (λ (z : eqb (faultUnder (settings m .tags) f) 0 ≡ true). rw z (served-known (clocked m t) c f o (request-known m c t f o h) a))
+    (λ (z : eqb (faultUnder (settings m .tags) f) 0 ≡ false). rw z a)
+    (true-or (eqb (faultUnder (settings m .tags) f) 0))
 granted-known m (reply t f o l) h a = let e = reply-finds m t f o l h in rw (e .1) (ended-known (m .book .places) _ a)
 granted-known m (tick t o l) h a = due (at (clocked m t .book) (duePlace rules (clocked m t .book)))
   where

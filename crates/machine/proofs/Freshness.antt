@@ -17,16 +17,17 @@ use Rattle.laws.proofs.LastLaws.{last-of-exactly}
 use Rattle.wire.specs.Frame.{idOf}
 use Rattle.settings.specs.Grammar.{Value}
 use Rattle.settings.specs.TagWords.{Ascending}
-use Rattle.pdu.specs.Requests.{faultOf, legal}
+use Rattle.pdu.specs.Requests.{faultOf}
 use Rattle.pdu.specs.Replies.{What, excepts}
 use Rattle.pdu.specs.Spoiling.{spoils}
 use Rattle.pdu.specs.declared.ProxyId.{ProxyId}
 use Rattle.pdu.specs.declared.Table.{Table}
 use Rattle.pdu.specs.declared.Table.the-variants.{Registers}
 use Rattle.pdu.specs.declared.Asked.the-variants.{Read}
-use Rattle.pdu.proofs.RequestLaws.{legal-checked}
 use Rattle.pdu.proofs.ReadLaws.{equal-fault}
 use Rattle.pdu.proofs.ReplyLaws.{answers-exact, excepts-exact}
+use Rattle.rewrite.specs.Legal.{faultUnder, legal}
+use Rattle.rewrite.proofs.LegalLaws.{faultless-exactly, legal-checked, checked-legal, read-fault}
 use Rattle.cache.specs.Cache.{Cached, inCache}
 use Rattle.cache.specs.Life.{lifeBy}
 use Rattle.cache.specs.Plain.{Takes, Cacheable}
@@ -376,7 +377,7 @@ module _ (v : Value) where
       let says = o .says .3 in
       let x = issue-is m (o .client) (o .time) (o .frame) (o .out) (good v (o .before)) (stocked v (o .before)) _ _ _ _ says in
       let h = not-refused m (request (o .client) (o .time) (o .frame) (o .out)) _ refl says in
-      (o .frame, o .spells .0, eqb-true (faultOf (o .frame)) 0 (sym (legal-faultless m (o .client) (o .time) (o .frame) (o .out) h) ∙ x .is-legal))
+      (o .frame, o .spells .0, eqb-true (faultOf (o .frame)) 0 (faultless-exactly (settings m .tags) (o .frame) .0 (sym (legal-faultless m (o .client) (o .time) (o .frame) (o .out) h) ∙ x .is-legal) .0))
 
   -- A reply that filled for what a request asks, is younger than its life and was left there since is shown by a hit, if the request is not refused.
   pub then-hit : (xs : List Call) (c t : ℕ) (f o : List ℕ) (s : LastReply A T xs t (asking f)) → refusal (A xs) (request c t f o) ≡ 0
@@ -399,7 +400,7 @@ module _ (v : Value) where
       let young : t - e .filled < e .life = (let y = s .young in omega arith) in
       let asked = was-legal (s .before) (s .fills .entry .id) (asking f) (s .fills .entry .deadline) (s .fills .unclosed) in
       let is-legal : legal (settings m) f ≡ true =
-      legal-faultless m c t f o h ∙ eq-eqb (faultOf f) 0 (faulty-alike f (asked .0) Registers (s .fills .start) (s .fills .quantity) (asked .1) (s .fills .reads) ∙ asked .2) in
+      legal-faultless m c t f o h ∙ eq-eqb (faultUnder (settings m .tags) f) 0 (read-fault (settings m .tags) f (asked-spelled f ∙ s .fills .reads) ∙ faulty-alike f (asked .0) Registers (s .fills .start) (s .fills .quantity) (asked .1) (s .fills .reads) ∙ asked .2) in
       ⊎-elim
       (λ (x : Hits m c t f o (outcome m (request c t f o))).
       let k : x .place ≡ placeOf g = stocked v xs .sorted .once (x .place) (placeOf g) (x .cached) e (x .there) there (x .same ∙ sym (b .1)) in
@@ -410,7 +411,7 @@ module _ (v : Value) where
       (λ (x : Joins m c t f o (outcome m (request c t f o))). absurd (x .no-hit (placeOf g) e there (b .1) young))
       (λ (x : Excepts m t f o (outcome m (request c t f o))). absurd (⊎-elim
       (λ (z : x .code ≡ 4). exception-04 m c t f o (good v xs) (stocked v xs .sorted) .0 (x .says ∙ ap answer.Excepted z) .2 (placeOf g) e there (b .1) young)
-      (λ (z : x .code ≡ 4 → ⊥). never (cc (x .checked z, legal-checked (settings m) f .0 is-legal .1)))
+      (λ (z : x .code ≡ 4 → ⊥). let l = legal-checked (settings m) f .0 is-legal in never (cc (x .checked z, checked-legal (settings m .tags) f _ .1 (l .1, l .2))))
       (eq-or (x .code) 4)))))
       (request-comes-to m c t f o (good v xs) (stocked v xs) h)
 

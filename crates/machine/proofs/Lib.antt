@@ -21,4 +21,5 @@ pub mod SizeLaws
 pub mod FrameOfParty
 pub mod ClosedLaws
 pub mod Freshness
+pub mod StrictLaws
 pub mod Claims

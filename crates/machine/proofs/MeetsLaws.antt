@@ -7,14 +7,15 @@ use mathlib.Core.Bool.{true}
 use mathlib.Core.List.{List}
 use lib.ListN.{getD}
 use Rattle.settings.specs.Grammar.{Value}
-use Rattle.pdu.specs.Requests.{askedOf, legal}
+use Rattle.pdu.specs.Requests.{askedOf}
 use Rattle.pdu.specs.Replies.{What}
 use Rattle.pdu.specs.Spoiling.{spoils}
 use Rattle.pdu.specs.declared.Table.{Table}
 use Rattle.pdu.specs.declared.Table.the-variants.{Bits, Registers}
 use Rattle.pdu.specs.Plain.{Reading, Writing, Neither, Common, Meeting, Ranging}
-use Rattle.pdu.proofs.RequestLaws.{legal-checked}
 use Rattle.pdu.proofs.SpoilingLaws.{legal-ranges, spoils-exactly}
+use Rattle.rewrite.specs.Legal.{legal}
+use Rattle.rewrite.proofs.LegalLaws.{legal-checked}
 use Rattle.book.specs.Book.{Party}
 use Rattle.machine.specs.Spelled.{asking, AskedBy}
 use Rattle.machine.specs.Closed.{numberAt, Meets}

@@ -12,13 +12,13 @@ use lib.Dec.{eqb, ltb}
 use borrow.Author.Tests.{eq-eqb, ltb-true, ltb-false}
 use Rattle.numbers.specs.Numbers.{latestTime, deviceFailure}
 use Rattle.laws.proofs.Choice.{true-or, eq-or, or-right}
-use Rattle.pdu.specs.Requests.{faultOf}
 use Rattle.pdu.specs.Replies.{What}
+use Rattle.rewrite.specs.Legal.{faultUnder}
 use Rattle.cache.specs.Cache.{Cached}
 use Rattle.cache.proofs.CacheLaws.{hit-found}
 use Rattle.book.specs.Book.{Live, Good, at}
 use Rattle.book.specs.Desk.{duePlace}
-use Rattle.machine.specs.Machine.{Machine, Note, rules, clocked}
+use Rattle.machine.specs.Machine.{Machine, Note, rules, settings, clocked}
 use Rattle.machine.specs.Calls.{Call, Outcome, done, outOf, listOf, timeOf}
 use Rattle.machine.specs.Calls.Call.{attach, detach, request, reply, tick, linkLost}
 use Rattle.machine.specs.Refusals.{rows, refusal, entryFor, isUntimely, isDead}
@@ -96,9 +96,9 @@ granted-no-refusal m (attach c) h = refl
 granted-no-refusal m (detach c) h = refl
 granted-no-refusal m (request c t f o) h =
     ⊎-elim
-    (λ (z : eqb (faultOf f) 0 ≡ true). rw z (served-cases (λ d. isRefusal (d .says) ≡ false) (clocked m t) c f o refl (λ k e. refl) refl (λ e. refl)))
-    (λ (z : eqb (faultOf f) 0 ≡ false). rw z refl)
-    (true-or (eqb (faultOf f) 0))
+    (λ (z : eqb (faultUnder (settings m .tags) f) 0 ≡ true). rw z (served-cases (λ d. isRefusal (d .says) ≡ false) (clocked m t) c f o refl (λ k e. refl) refl (λ e. refl)))
+    (λ (z : eqb (faultUnder (settings m .tags) f) 0 ≡ false). rw z refl)
+    (true-or (eqb (faultUnder (settings m .tags) f) 0))
 granted-no-refusal m (reply t f o l) h = let e = reply-finds m t f o l h in rw (e .1) refl
 granted-no-refusal m (tick t o l) h = expired-cases (λ d. isRefusal (d .says) ≡ false) (clocked m t) o l (λ k. refl) (λ k e. refl) (duePlace rules (clocked m t .book)) (at (clocked m t .book) (duePlace rules (clocked m t .book)))
 granted-no-refusal m linkLost h = refl
@@ -173,9 +173,9 @@ granted-clock m (attach c) t h e = no-time e
 granted-clock m (detach c) t h e = no-time e
 granted-clock m (request c u f o) t h e =
     ⊎-elim
-    (λ (z : eqb (faultOf f) 0 ≡ true). rw z (served-clock m c u f o))
-    (λ (z : eqb (faultOf f) 0 ≡ false). rw z refl)
-    (true-or (eqb (faultOf f) 0)) ∙ clocked-at m (request c u f o) u h refl ∙ same-time e
+    (λ (z : eqb (faultUnder (settings m .tags) f) 0 ≡ true). rw z (served-clock m c u f o))
+    (λ (z : eqb (faultUnder (settings m .tags) f) 0 ≡ false). rw z refl)
+    (true-or (eqb (faultUnder (settings m .tags) f) 0)) ∙ clocked-at m (request c u f o) u h refl ∙ same-time e
 granted-clock m (reply u f o l) t h e =
     let x = reply-finds m u f o l h in
     rw (x .1) refl ∙ clocked-at m (reply u f o l) u h refl ∙ same-time e

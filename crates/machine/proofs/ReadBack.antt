@@ -17,12 +17,13 @@ use Rattle.rewrite.specs.declared.Way.the-variants.{ToBcd, ToBinary}
 use Rattle.rewrite.specs.Registers.{registersAt}
 use Rattle.rewrite.specs.Rewriting.{ownIn, rewriting}
 use Rattle.rewrite.specs.Plain.{Whole}
+use Rattle.rewrite.specs.Strict.{Carries}
 use Rattle.rewrite.proofs.ReadBack.{read-back-frames}
 use Rattle.machine.specs.Machine.{Machine, settings}
 use Rattle.machine.specs.Calls.Call.{request, reply}
 use Rattle.machine.specs.Outcomes.{outcome}
 use Rattle.machine.specs.Spelled.{asking}
-use Rattle.machine.specs.Requested.{Carries, Issues}
+use Rattle.machine.specs.Requested.{Issues}
 use Rattle.machine.specs.Answered.{Answers}
 
 registers-ext : (k n : ℕ) (d e : List ℕ) → ((j : ℕ) → k ≤ j → j < k + 2 * n → getD d j 0 ≡ getD e j 0) → registersAt k n d ≡ registersAt k n e

@@ -14,9 +14,11 @@ use Rattle.numbers.specs.Numbers.{places, deviceFailure}
 use Rattle.laws.proofs.Choice.{true-or, eq-or, lt-or, never}
 use Rattle.laws.proofs.SearchLaws.{best-all}
 use Rattle.wire.specs.Frame.{misframed, functionOf}
-use Rattle.pdu.specs.Requests.{classOf, badFunction, badLength, badValue, badAddress, faultOf, checkedBy, checkedOf, legal}
+use Rattle.pdu.specs.Requests.{classOf, badFunction, badLength}
 use Rattle.pdu.specs.Replies.{What}
 use Rattle.pdu.specs.declared.Checked.the-variants as check
+use Rattle.rewrite.specs.Legal.{faultUnder, checkedUnder, legal}
+use Rattle.rewrite.proofs.LegalLaws.{fault-under-small, fault-excepted}
 use Rattle.cache.specs.Cache.{Cached, inCache}
 use Rattle.cache.specs.Plain.{Sorted}
 use Rattle.cache.proofs.CacheLaws.{hit-found, hit-nowhere-exactly}
@@ -43,16 +45,6 @@ use Rattle.machine.proofs.OutcomeLaws.{granted-is, not-refused, reply-f
 use Rattle.machine.proofs.SpelledLaws.{wanted-spelled}
 use Rattle.machine.proofs.JoinLaws.{may-join}
 
--- the code of a request's own fault is 02 or 03
-pub fault-small : (f : List ℕ) → faultOf f < 4
-unfolding faultOf
-fault-small f =
-    ⊎-elim
-    (λ (t : badValue (classOf (functionOf f)) f ≡ true). rw t (omega arith))
-    (λ (t : badValue (classOf (functionOf f)) f ≡ false). rw t
-    (⊎-elim (λ (u : badAddress (classOf (functionOf f)) f ≡ true). rw u (omega arith)) (λ (u : badAddress (classOf (functionOf f)) f ≡ false). rw u (omega arith)) (true-or (badAddress (classOf (functionOf f)) f))))
-    (true-or (badValue (classOf (functionOf f)) f))
-
 -- a request that is not refused has passed the tests of the buffer, of the frame, of the function and of the size
 pub request-passes : (m : Machine) (c t : ℕ) (f o : List ℕ) → refusal m (request c t f o) ≡ 0
     → (shortFrame o ≡ false) × (misframed f ≡ false) × (badFunction (functionOf f) ≡ false) × (badLength (classOf (functionOf f)) f ≡ false)
@@ -67,13 +59,12 @@ request-passes m c t f o h =
     (a1 .0, a4 .0, a5 .0, a6 .0)
 
 -- it is legal exactly if it has no fault, and its fault is what the check says
-pub legal-faultless : (m : Machine) (c t : ℕ) (f o : List ℕ) → refusal m (request c t f o) ≡ 0 → legal (settings m) f ≡ eqb (faultOf f) 0
+pub legal-faultless : (m : Machine) (c t : ℕ) (f o : List ℕ) → refusal m (request c t f o) ≡ 0 → legal (settings m) f ≡ eqb (faultUnder (settings m .tags) f) 0
 unfolding legal
 legal-faultless m c t f o h = let p = request-passes m c t f o h in rw (p .1, p .2, p .3)
 
-pub fault-checked : (m : Machine) (c t : ℕ) (f o : List ℕ) → refusal m (request c t f o) ≡ 0 → legal (settings m) f ≡ false → checkedOf f ≡ check.Excepted (faultOf f)
-unfolding checkedOf checkedBy faultOf
-fault-checked m c t f o h z = let p = request-passes m c t f o h in rw (p .2, p .3, sym (legal-faultless m c t f o h) ∙ z)
+pub fault-checked : (m : Machine) (c t : ℕ) (f o : List ℕ) → refusal m (request c t f o) ≡ 0 → legal (settings m) f ≡ false → checkedUnder (settings m .tags) f ≡ check.Excepted (faultUnder (settings m .tags) f)
+fault-checked m c t f o h z = let p = request-passes m c t f o h in fault-excepted (settings m .tags) f (p .2) (p .3) (sym (legal-faultless m c t f o h) ∙ z)
 
 -- a request that is not hit finds no reply to what it asks that is younger than its life
 none-hit : (m : Machine) (t : ℕ) (f : List ℕ) → Sorted (m .cache) → clocked m t .book .clock ≡ t → hits (clocked m t) f ≡ false → NoHit m t f
@@ -86,7 +77,7 @@ none-hit m t f s k z j e there same young =
 
 -- what a request that is not refused comes to: an exception for its own fault; else a hit; else a join; else an issue, or exception 04 where no place is free
 pub data Comes (m : Machine) (c t : ℕ) (f o : List ℕ) : Outcome → Type 0 where
-  faulty : legal (settings m) f ≡ false → Comes m c t f o (excepted (clocked m t) (faultOf f) f o)
+  faulty : legal (settings m) f ≡ false → Comes m c t f o (excepted (clocked m t) (faultUnder (settings m .tags) f) f o)
   hitting : legal (settings m) f ≡ true → (k : ℕ) (e : Cached) → inCache (m .cache) k ≡ some e → e .what ≡ asking f → t - e .filled < e .life
       → Comes m c t f o (hitOn (clocked m t) f o (some e))
   joining : legal (settings m) f ≡ true → NoHit m t f → (k : ℕ) (e : Live What Note) → at (m .book) k ≡ some e → MayJoin m t f e
@@ -104,7 +95,7 @@ comes m c t f o g s h =
     let plain : (e : Live What Note) → _ = λ e. may-join m t f e clock in
     rw (granted-is m (request c t f o) h)
     (⊎-elim
-    (λ (z : eqb (faultOf f) 0 ≡ true). rw z (⊎-elim
+    (λ (z : eqb (faultUnder (settings m .tags) f) 0 ≡ true). rw z (⊎-elim
     (λ (x : hits n f ≡ true).
     let w = hit-found (m .cache) (n .book .clock) (wanted f) (ltb-true (hittingPlace n f) 64 x) in
     rw x (rw (w .1) (hitting (l ∙ z) (hittingPlace n f) (w .0) (w .1) (w .2 ∙ wanted-spelled f) (omega (arith, w .3)))))
@@ -122,14 +113,14 @@ comes m c t f o g s h =
     (true-or (ltb (freePlace rules (m .book)) places))))
     (true-or (canJoin n f))))
     (true-or (hits n f))))
-    (λ (z : eqb (faultOf f) 0 ≡ false). rw z (faulty (l ∙ z)))
-    (true-or (eqb (faultOf f) 0)))
+    (λ (z : eqb (faultUnder (settings m .tags) f) 0 ≡ false). rw z (faulty (l ∙ z)))
+    (true-or (eqb (faultUnder (settings m .tags) f) 0)))
 
 -- exception 04 is the case that no place is free, and no other
 only-full : {m : Machine} {c t : ℕ} {f o : List ℕ} {d : Outcome} → Comes m c t f o d → d .says ≡ answer.Excepted 4
     → (legal (settings m) f ≡ true) × NoHit m t f × NoneToJoin m t f × AllLive rules (m .book)
 unfolding excepted joinedTo issuedTo hitOn
-only-full {f = f} (faulty z) e = let four : faultOf f ≡ 4 = cc in absurd (omega (arith, fault-small f))
+only-full {m} {f = f} (faulty z) e = let four : faultUnder (settings m .tags) f ≡ 4 = cc in absurd (omega (arith, fault-under-small (settings m .tags) f))
 only-full (hitting z k x there same young) e = never (cc)
 only-full (joining z no-hit k x there may smallest) e = never (cc)
 only-full (full z no-hit alone all) e = (z, no-hit, alone, all)

@@ -15,14 +15,14 @@ use Rattle.laws.proofs.MemberLaws.{mem-cond}
 use Rattle.laws.proofs.BitLaws.{has-none, in-with, in-without}
 use Rattle.laws.proofs.LastLaws.{last-more, last-yes, last-no}
 use Rattle.settings.specs.Grammar.{Value}
-use Rattle.pdu.specs.Requests.{faultOf}
 use Rattle.pdu.specs.Replies.{What}
+use Rattle.rewrite.specs.Legal.{faultUnder}
 use Rattle.book.specs.Book.{Party, Event, at}
 use Rattle.book.specs.Book.Event.{passed, issued}
 use Rattle.book.specs.Desk.{duePlace}
 use Rattle.book.specs.Follower.{after, stateAfter}
 use Rattle.book.proofs.History.{seen-at}
-use Rattle.machine.specs.Machine.{Machine, made, rules, clocked}
+use Rattle.machine.specs.Machine.{Machine, made, rules, settings, clocked}
 use Rattle.machine.specs.Calls.{Call, Outcome, timeOf}
 use Rattle.machine.specs.Calls.Call.{attach, detach, request, reply, tick, linkLost}
 use Rattle.machine.specs.Refusals.{refusal}
@@ -58,9 +58,9 @@ stays m (attach c) h t = absurd (t refl)
 stays m (detach c) h t = absurd (t refl)
 stays m (request c u f o) h t =
     ⊎-elim
-    (λ (z : eqb (faultOf f) 0 ≡ true). rw z (served-cases (λ d. d .after .attached ≡ m .attached) (clocked m u) c f o refl (λ k e. refl) refl (λ e. refl)))
-    (λ (z : eqb (faultOf f) 0 ≡ false). rw z refl)
-    (true-or (eqb (faultOf f) 0))
+    (λ (z : eqb (faultUnder (settings m .tags) f) 0 ≡ true). rw z (served-cases (λ d. d .after .attached ≡ m .attached) (clocked m u) c f o refl (λ k e. refl) refl (λ e. refl)))
+    (λ (z : eqb (faultUnder (settings m .tags) f) 0 ≡ false). rw z refl)
+    (true-or (eqb (faultUnder (settings m .tags) f) 0))
 stays m (reply u f o l) h t = let e = reply-finds m u f o l h in rw (e .1) refl
 stays m (tick u o l) h t =
     expired-cases (λ d. d .after .attached ≡ m .attached) (clocked m u) o l (λ k. refl) (λ k e. refl) (duePlace rules (clocked m u .book)) (at (clocked m u .book) (duePlace rules (clocked m u .book)))

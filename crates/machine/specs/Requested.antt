@@ -11,15 +11,13 @@ use Rattle.numbers.specs.Numbers.{ids, room}
 use Rattle.laws.specs.Circle.{turn}
 use Rattle.laws.specs.Bytes.{over}
 use Rattle.wire.specs.Frame.{idOf, laid}
-use Rattle.pdu.specs.Requests.{checkedOf, legal}
 use Rattle.pdu.specs.Replies.{What}
 use Rattle.pdu.specs.Spoiling.{spoils}
-use Rattle.pdu.specs.declared.Table.the-variants.{Registers}
-use Rattle.pdu.specs.declared.Asked.{Asked}
-use Rattle.pdu.specs.declared.Asked.the-variants.{SingleWrite, MultipleWrite}
 use Rattle.pdu.specs.declared.Checked.the-variants as check
 use Rattle.rewrite.specs.Plain.{Rewrites}
+use Rattle.rewrite.specs.Strict.{Carries}
 use Rattle.rewrite.specs.Frames.{forwarded}
+use Rattle.rewrite.specs.Legal.{checkedUnder, legal}
 use Rattle.rewrite.specs.declared.Way.the-variants.{ToBcd}
 use Rattle.cache.specs.Cache.{Cached, inCache}
 use Rattle.book.specs.Book.{Live, at, Next, marked, Party}
@@ -46,11 +44,6 @@ pub record MayJoin (m : Machine) (t : ℕ) (f : List ℕ) (e : Live What Note) :
 -- no live entry may be joined
 abbrev pub NoneToJoin : Machine → ℕ → List ℕ → Type 0
 NoneToJoin m t f = (k : ℕ) (e : Live What Note) → at (m .book) k ≡ some e → MayJoin m t f e → ⊥
-
--- which registers a write carries: from which byte on, of which addresses; a write of coils carries none
-pub data Carries : Asked → (base start quantity : ℕ) → Type 0 where
-  single : {a v : ℕ} → Carries (SingleWrite Registers a v) 10 a 1
-  multiple : {s q : ℕ} → Carries (MultipleWrite Registers s q) 13 s q
 
 -- A request that hits. It is legal, and the cache has a reply to what it asks that is younger than its life.
 pub record Hits (m : Machine) (c t : ℕ) (f o : List ℕ) (d : Outcome) : Type 0 where
@@ -132,11 +125,11 @@ pub record Joins (m : Machine) (c t : ℕ) (f o : List ℕ) (d : Outcome) : Type
   pub attached : d .after .attached ≡ m .attached
   pub rule : settings (d .after) ≡ settings m
 
--- A request that gets an exception: 02 or 03, which the check of its bytes gives, or 04.
+-- A request that gets an exception: 02 or 03, which the check of its bytes and of strict tags gives, or 04.
 pub record Excepts (m : Machine) (t : ℕ) (f o : List ℕ) (d : Outcome) : Type 0 where
   pub code : ℕ
   pub codes : (code ≡ 2) ⊎ ((code ≡ 3) ⊎ (code ≡ 4))
-  pub checked : (code ≡ 4 → ⊥) → checkedOf f ≡ check.Excepted code
+  pub checked : (code ≡ 4 → ⊥) → checkedUnder (settings m .tags) f ≡ check.Excepted code
   pub says : d .says ≡ answer.Excepted code
   -- the buffer: nine bytes for the caller, under its own id, and behind them what was there
   pub frame : ((k : ℕ) → getD f k 0 < 256) → d .written ≡ (getD f 0 0 ∷ getD f 1 0 ∷ 0 ∷ 0 ∷ 0 ∷ 3 ∷ getD f 6 0 ∷ (getD f 7 0 + 128) ∷ code ∷ drop 9 o)

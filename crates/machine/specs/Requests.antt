@@ -1,4 +1,4 @@
--- A request that was not refused: the exceptions 03 and 02, a hit, joining, issuing, and exception 04, in the documents' order.
+-- A request that was not refused: the exceptions 03 and 02, exception 03 of a strict tag, a hit, joining, issuing, and exception 04, in the documents' order.
 -- Assumes nothing.
 use Prim.Native.Nat.{ℕ, _+_}
 use mathlib.Core.Bool.{Bool, cond, not, _&&_, _||_}
@@ -10,11 +10,12 @@ use Rattle.numbers.specs.Numbers.{places, cachePlaces, deviceFailure}
 use Rattle.laws.specs.Bytes.{over}
 use Rattle.wire.specs.Frame.{idOf, unitOf, functionOf, laid, exception}
 use Rattle.settings.specs.Grammar.{Value}
-use Rattle.pdu.specs.Requests.{askedOf, faultOf}
+use Rattle.pdu.specs.Requests.{askedOf}
 use Rattle.pdu.specs.Replies.{What, what}
 use Rattle.pdu.specs.Spoiling.{spoils}
 use Rattle.pdu.specs.Reads.{equalReads}
 use Rattle.rewrite.specs.Frames.{forwarded}
+use Rattle.rewrite.specs.Legal.{faultUnder}
 use Rattle.cache.specs.Cache.{Cached, inCache, hitPlace, droppedBy}
 use Rattle.book.specs.Book.{Party, Live, at}
 use Rattle.book.specs.Book.Move.{join, issue, mark}
@@ -97,8 +98,8 @@ missed m c f o =
 unfoldable pub served : Machine → ℕ → List ℕ → List ℕ → Outcome
 served m c f o = cond (hits m f) (hitOn m f o (inCache (m .cache) (hittingPlace m f))) (missed m c f o)
 
--- after the refusals: the clock is set, then exception 03, exception 02, and what a legal request comes to
+-- after the refusals: the clock is set, then exception 03, exception 02, exception 03 where a strict tag forbids the write, and what a legal request comes to
 unfoldable pub admitted : Machine → ℕ → ℕ → List ℕ → List ℕ → Outcome
 admitted m c t f o =
-    cond (eqb (faultOf f) 0) (served (clocked m t) c f o)
-    (excepted (clocked m t) (faultOf f) f o)
+    cond (eqb (faultUnder (settings m .tags) f) 0) (served (clocked m t) c f o)
+    (excepted (clocked m t) (faultUnder (settings m .tags) f) f o)

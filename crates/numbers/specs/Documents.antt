@@ -66,7 +66,7 @@ pub record Documents : Type 0 where
   pub digits-are : digitsPerRegister ≡ 4
   pub signed-digits-are : signedDigits ≡ 3
   pub minus-is : minus ≡ 0xf
-  -- "Settings text", and #107: a ttl of 0 to 60,000 ms; version 3 is written, in at most 9,512 bytes
+  -- "Settings text", #107 and #108: a ttl of 0 to 60,000 ms; version 4 is written, in at most 11,816 bytes
   pub ttl-is-at-most : mostTtl ≡ 60000
-  pub version-written-is : newestVersion ≡ 3
-  pub text-is-at-most : mostText ≡ 9512
+  pub version-written-is : newestVersion ≡ 4
+  pub text-is-at-most : mostText ≡ 11816

@@ -177,7 +177,7 @@ abbrev pub mostTtl : ℕ
 mostTtl = 60000
 
 abbrev pub newestVersion : ℕ
-newestVersion = 3
+newestVersion = 4
 
 abbrev pub mostText : ℕ
-mostText = 9512
+mostText = 11816

@@ -97,6 +97,6 @@ pub const EXCEPTION_FRAME: usize = 9;
 
 pub const MOST_TTL: u16 = 60000;
 
-pub const NEWEST_VERSION: u32 = 3;
+pub const NEWEST_VERSION: u32 = 4;
 
-pub const MOST_TEXT: usize = 9512;
+pub const MOST_TEXT: usize = 11816;

@@ -1,5 +1,6 @@
 // What a frame's payload becomes: a request's on its way to the controller, a reply's on its way back.
 pub mod registers;
+pub mod strict;
 
 ghost use mathlib.Core.Path.{_≡_};
 ghost use mathlib.Core.Bool.{false};

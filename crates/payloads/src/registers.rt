@@ -22,7 +22,7 @@ use values::tagwords::tag_address;
 use values::tagwords::tag_kind;
 
 // How many values a register can hold.
-const WORDS: u32 = 65536;
+pub const WORDS: u32 = 65536;
 
 // The first tag that does not end before start.
 pub fn first_tag(words: &[u64; numbers::MOST_TAGS], count: usize, start: usize) -> usize
@@ -53,7 +53,7 @@ pub fn first_tag(words: &[u64; numbers::MOST_TAGS], count: usize, start: usize) 
 }
 
 // The register at byte k, both bytes of which are there.
-fn register_at(d: &[u8], k: usize) -> u32
+pub fn register_at(d: &[u8], k: usize) -> u32
     requires { ⌜ k + 1 < length (now d) ⌝ }
     ensures { λ r. ⌜ (r ≡ pairAt (now (d .entry)) k) × (r < 65536) ⌝ }
 {

@@ -2,8 +2,8 @@
 -- Assumes nothing.
 use Prim.Native.Nat.{ℕ, _+_, _*_, _/_, _%_, _≤_, _<_}
 use mathlib.Core.Path.{_≡_, refl, ap, sym, _∙_}
-use mathlib.Core.Logic.{_↔_, Iff·trans, Iff·and, ⊎-elim, _⊎_, inl, inr}
-use mathlib.Core.Bool.{Bool, true, false, cond, not, _||_, false≢true, true≢false}
+use mathlib.Core.Logic.{_↔_, ⊎-elim, _⊎_, inl, inr}
+use mathlib.Core.Bool.{Bool, true, false, cond, not, _||_}
 use mathlib.Core.List.{List}
 use native.Mathlib.Nat.{mod-eq-of-lt}
 use native.Mathlib.Omega.{arith}
@@ -14,9 +14,8 @@ use borrow.Author.Tests.{eqb-true, ne-eqb}
 use Rattle.numbers.specs.Numbers.{lastFunction, coilOff, coilOn, shortPdu, multiplePdu, addresses, illegalAddress, illegalValue}
 use Rattle.laws.specs.Bytes.{pairAt}
 use Rattle.laws.proofs.Choice.{true-or, eq-or, lt-or, or-either, never}
-use Rattle.wire.specs.Frame.{unitOf, functionOf, pduSize, misframed}
-use Rattle.settings.specs.Grammar.{Value}
-use Rattle.pdu.specs.Requests.{classOf, startOf, quantityOf, valueOf, byteCountOf, bytesFor, mostReadOf, mostWrittenOf, badFunction, badLength, badValue, badAddress, askedBy, askedOf, faultBy, faultOf, checkedBy, checkedOf, legal}
+use Rattle.wire.specs.Frame.{unitOf, functionOf, pduSize}
+use Rattle.pdu.specs.Requests.{classOf, startOf, quantityOf, valueOf, byteCountOf, bytesFor, mostReadOf, mostWrittenOf, badFunction, badLength, badValue, badAddress, askedBy, askedOf, faultOf, checkedBy, checkedOf}
 use Rattle.pdu.specs.Replies.{what}
 use Rattle.pdu.specs.Words.{askedBits, askedFrom, Lawful, Proper}
 use Rattle.pdu.specs.declared.Table.{Table}
@@ -27,7 +26,7 @@ use Rattle.pdu.specs.declared.Asked.{Asked}
 use Rattle.pdu.specs.declared.Asked.the-variants.{Read, SingleWrite, MultipleWrite, Other}
 use Rattle.pdu.specs.declared.Checked.{Checked}
 use Rattle.pdu.specs.declared.Checked.the-variants.{BadFunction, BadLength, Excepted, Legal}
-use Rattle.laws.proofs.TestLaws.{holds-eq, holds-not, holds-and, holds-or, fails-not, fails-ne, fails-lt, fails-zero, fails-or, fails-never, fails-holds, either}
+use Rattle.laws.proofs.TestLaws.{holds-eq, holds-or, fails-not, fails-ne, fails-lt, fails-zero, fails-or, fails-never, fails-holds, either}
 use Rattle.pdu.specs.Plain.{Known, Sized, Valued, Ranged, classIn, Outcome}
 use Rattle.pdu.specs.Plain.Outcome.{unknown, missized, misvalued, misranged, fine}
 
@@ -243,28 +242,6 @@ legal-passed f a e = facts (check-exact f (Legal a) .0 e)
   where
     facts : {x : Asked} → Outcome f (Legal x) → Passed f x
     facts (fine k s v r) = record { function = k; size = s; value = v; range = r; asks = refl }
-
-no-fault : (v a : Bool) → (eqb (cond v illegalValue (cond a illegalAddress 0)) 0 ≡ true) ↔ ((v ≡ false) × (a ≡ false))
-no-fault true a = (λ e. absurd (false≢true e), λ w. absurd (true≢false (w .0)))
-no-fault false true = (λ e. absurd (false≢true e), λ w. absurd (true≢false (w .1)))
-no-fault false false = (λ e. (refl, refl), λ w. refl)
-
--- A frame is legal exactly where it is not refused as a frame and every check of its class passes.
-pub legal-exact : (s : Value) (f : List ℕ) → (legal s f ≡ true) ↔ ((misframed f ≡ false) × (Known (functionOf f) × (Sized (classIn f) f × (Valued (classIn f) f × Ranged (classIn f) f))))
-unfolding legal faultOf
-legal-exact s f =
-    let c = classIn f in
-    holds-and (not (misframed f)) _ (holds-not (misframed f))
-    (holds-and (not (badFunction (functionOf f))) _ (Iff·trans (holds-not (badFunction (functionOf f))) (known (functionOf f)))
-    (holds-and (not (badLength c f)) (eqb (faultBy c f) 0) (Iff·trans (holds-not (badLength c f)) (sized c f))
-    (Iff·trans (no-fault (badValue c f) (badAddress c f)) (Iff·and (valued c f) (ranged c f)))))
-
--- A frame is legal exactly where it is not refused as a frame and its check comes to what it asks.
-pub legal-checked : (s : Value) (f : List ℕ) → (legal s f ≡ true) ↔ ((misframed f ≡ false) × (checkedOf f ≡ Legal (askedOf f)))
-legal-checked s f = (
-  λ e. let w = legal-exact s f .0 e in (w .0, the-outcome f (Legal (askedOf f)) (fine (w .1 .0) (w .1 .1 .0) (w .1 .1 .1 .0) (w .1 .1 .1 .1))),
-  λ w. let p = legal-passed f (askedOf f) (w .1) in legal-exact s f .1 (w .0, (p .function, (p .size, (p .value, p .range)))),
-)
 
 -- the bytes that a legal request has
 abbrev pub RequestRoom : Asked → List ℕ → Type 0

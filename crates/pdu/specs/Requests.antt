@@ -3,14 +3,13 @@
 -- Registers (16).
 -- Assumes nothing.
 use Prim.Native.Nat.{ℕ, _+_, _*_, _/_}
-use mathlib.Core.Bool.{Bool, false, cond, not, _&&_, _||_}
+use mathlib.Core.Bool.{Bool, false, cond, not, _||_}
 use mathlib.Core.List.{List}
 use lib.ListN.{getD}
 use lib.Dec.{eqb, ltb}
 use Rattle.numbers.specs.Numbers.{readCoils, readDiscrete, readHolding, readInput, writeCoil, writeSingle, writeCoils, writeMultiple, lastFunction, mostRead, mostWritten, mostBitsRead, mostBitsWritten, coilOff, coilOn, shortPdu, multiplePdu, addresses, illegalAddress, illegalValue}
 use Rattle.laws.specs.Bytes.{pairAt}
-use Rattle.wire.specs.Frame.{functionOf, pduSize, misframed}
-use Rattle.settings.specs.Grammar.{Value}
+use Rattle.wire.specs.Frame.{functionOf, pduSize}
 use Rattle.pdu.specs.declared.Table.{Table}
 use Rattle.pdu.specs.declared.Table.the-variants.{Bits, Registers}
 use Rattle.pdu.specs.declared.Class.{Class}
@@ -108,9 +107,3 @@ checkedBy c f = cond (badLength c f) BadLength (cond (eqb (faultBy c f) 0) (Lega
 -- a request of any bytes: refusal 5 before these
 unfoldable pub checkedOf : List ℕ → Checked
 checkedOf f = cond (badFunction (functionOf f)) BadFunction (checkedBy (classOf (functionOf f)) f)
-
--- a request that passes the refusals of its frame and the exceptions 03 and 02; the settings have no say yet
-unfoldable pub legal : Value → List ℕ → Bool
-legal s f =
-    not (misframed f)
-    && (not (badFunction (functionOf f)) && (not (badLength (classOf (functionOf f)) f) && eqb (faultOf f) 0))

@@ -31,8 +31,8 @@ module _ (f : List ℕ) {a : Asked} (bytes : (k : ℕ) → getD f k 0 < 256) (le
   brings r unit function e x = answer-brought (what unit function a) r (legal-proper f a bytes legal .lawful) e x
 
 -- Document 01's two tags, width 16 at 1024 and width 32 at 1026, and behind them a signed one at 1028 and one of width 32 at 1029 ascend.
-pub four-tags : {a b c d : ℕ} → a ≡ tagWord (record { address = 1024; width = 16; sign = 0; ttl = 60000 }) → b ≡ tagWord (record { address = 1026; width = 32; sign = 0; ttl = 0 })
-    → c ≡ tagWord (record { address = 1028; width = 16; sign = 1; ttl = 500 }) → d ≡ tagWord (record { address = 1029; width = 32; sign = 0; ttl = 0 })
+pub four-tags : {a b c d : ℕ} → a ≡ tagWord (record { address = 1024; width = 16; sign = 0; ttl = 60000; strict = 0 }) → b ≡ tagWord (record { address = 1026; width = 32; sign = 0; ttl = 0; strict = 0 })
+    → c ≡ tagWord (record { address = 1028; width = 16; sign = 1; ttl = 500; strict = 0 }) → d ≡ tagWord (record { address = 1029; width = 32; sign = 0; ttl = 0; strict = 0 })
     → Ascending 0 (tagOf a ∷ tagOf b ∷ tagOf c ∷ tagOf d ∷ [])
 unfolding Ascending tagOf tagWord kindOf kindNumber kindFrom widthOf signOf registers
 four-tags p q r s = rw p (rw q (rw r (rw s (omega arith, omega arith, (omega arith, omega arith, (omega arith, omega arith, (omega arith, omega arith, tt)))))))

@@ -19,10 +19,10 @@ fn tag_words() -> [u64; numbers::MOST_TAGS]
     ensures { λ r. ⌜ TagWords 4 r ⌝ }
 {
     let mut words = [0u64; numbers::MOST_TAGS];
-    words[0] = tag_word(1024, 16, 0, 60000);
-    words[1] = tag_word(1026, 32, 0, 0);
-    words[2] = tag_word(1028, 16, 1, 500);
-    words[3] = tag_word(1029, 32, 0, 0);
+    words[0] = tag_word(1024, 16, 0, 60000, 0);
+    words[1] = tag_word(1026, 32, 0, 0, 0);
+    words[2] = tag_word(1028, 16, 1, 500, 0);
+    words[3] = tag_word(1029, 32, 0, 0, 0);
     words
 }
 

@@ -8,7 +8,7 @@ use mathlib.Core.Option.{none}
 use mathlib.Core.List.{List, map}
 use native.Mathlib.Nat.{zero-div}
 use native.Mathlib.Omega.{arith}
-use lib.ListN.{length, take, replicate, length-replicate, length-append, length-map}
+use lib.ListN.{length, take, replicate, length-replicate, length-append}
 use lib.Pow.{pow-pos}
 use Rattle.numbers.specs.Numbers.{clients, places, partyPlaces, mostTags, usualTimeout, cachePlaces, cacheNumbers, cacheBytes}
 use Rattle.laws.specs.Lists.{tab}
@@ -17,10 +17,11 @@ use Rattle.laws.proofs.Choice.{true-or}
 use Rattle.laws.proofs.ListLaws.{length-tab, getD-repeat}
 use Rattle.settings.specs.declared.Settings.{Settings}
 use Rattle.settings.specs.Grammar.{Value, validIn, valid, allRight, tagsRight}
-use Rattle.settings.specs.Values.{settings, listed, valueOf, padded, usual}
-use Rattle.settings.specs.TagWords.{tagWord, tagOf, Ascending}
+use Rattle.settings.specs.Values.{listed, valueOf, padded, usual}
+use Rattle.settings.specs.TagWords.{tagOf, someStrict, tagWords, Ascending}
 use Rattle.settings.proofs.ValueLaws.{value-ext}
-use Rattle.settings.proofs.TagLaws.{words-kept, valid-ascends, valid-bounds}
+use Rattle.settings.proofs.TagLaws.{words-kept, words-long, valid-ascends, valid-bounds}
+use Rattle.settings.proofs.MarkLaws.{unmarked}
 use Rattle.book.specs.Book.{book, at}
 use Rattle.machine.specs.Machine.{machine, made}
 use Rattle.machine.specs.declared.Answer.{Answer}
@@ -65,7 +66,7 @@ abbrev pub Keeps : KeptSettings → Value → Type 0
 Keeps k v = (valueIn k ≡ v) × Settled k
 
 -- A valid value's numbers with the words of its tags keep the value.
-pub kept-value : (v : Value) (n : ℕ) (words : List ℕ) → valid v ≡ true → length (v .tags) ≡ n → words ≡ padded (map tagWord (v .tags)) → Keeps (keeping v n words) v
+pub kept-value : (v : Value) (n : ℕ) (words : List ℕ) → valid v ≡ true → length (v .tags) ≡ n → words ≡ padded (tagWords (v .tags)) → Keeps (keeping v n words) v
 unfolding valueIn
 kept-value v n words right listed e =
     let b = valid-bounds v right in
@@ -75,20 +76,21 @@ kept-value v n words right listed e =
       record {
         timeout = b .most;
         few = rw listed at few;
-        long = rw e (simp (length-append, length-replicate, length-map) (omega arith));
+        long = rw e (simp (length-append, length-replicate, words-long) (omega arith));
         ascending = rw back (valid-ascends v right);
+        unmarked = λ h. rw back (unmarked (v .tags) (rw e at h));
       },
     )
 
 -- So do the boundary's struct's numbers with the words of the tags that it lists.
-pub kept-settings : (s : Settings) (words : List ℕ) → valid (valueOf s) ≡ true → words ≡ padded (map tagWord (listed (s .tags) (s .addr) (s .width) (s .sign) (s .ttl))) → Keeps (keptSettings (s .timeout) (s .join) (s .tags) words) (valueOf s)
+pub kept-settings : (s : Settings) (words : List ℕ) → valid (valueOf s) ≡ true → words ≡ padded (tagWords (listed (s .tags) (s .addr) (s .width) (s .sign) (s .ttl) (s .strict))) → Keeps (keptSettings (s .timeout) (s .join) (s .tags) words) (valueOf s)
 unfolding valueOf
 kept-settings s words right e = kept-value (valueOf s) (s .tags) words right (length-tab (s .tags) _) e
 
--- Where no tag is listed, the columns do not matter.
-pub usual-settings : (addr width sign ttl : List ℕ) → valueOf (settings usualTimeout 1 0 addr width sign ttl) ≡ usual
-unfolding valueOf tab
-usual-settings addr width sign ttl = refl
+-- The usual numbers with words of zeros keep the usual value.
+pub kept-usual : Keeps (keptSettings usualTimeout 1 0 (replicate mostTags 0)) usual
+unfolding tagWords
+kept-usual = kept-value usual 0 (replicate mostTags 0) usual-valid refl refl
 
 -- the columns of the cache hold nothing, and are sound
 abbrev pub Empties : (cache shown : List ℕ) → Type 0
@@ -125,10 +127,10 @@ zeros =
 
 -- A state of zeros is sound, and nobody is attached.
 pub zeros-sound : SoundState zeros × ((client : ℕ) → has (zeros .attached) client ≡ false)
-unfolding blank Ascending
+unfolding blank Ascending someStrict
 zeros-sound = (
   zeroed-sound (zeros .table) (zeros .settings) (zeros .cache) (zeros .shown) refl
-      (record { timeout = omega arith; few = omega arith; long = length-replicate {A = ℕ} mostTags 0; ascending = tt })
+      (record { timeout = omega arith; few = omega arith; long = length-replicate {A = ℕ} mostTags 0; ascending = tt; unmarked = λ h. refl })
       (no-numbers (zeros .shown), none-sound (zeros .shown) blank-bytes),
   λ client. rw (zero-div (2 ^ client)),
 )

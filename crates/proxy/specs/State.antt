@@ -2,11 +2,12 @@
 -- Assumes nothing.
 use Prim.Native.Nat.{ℕ, _≤_, _<_, _^_}
 use mathlib.Core.Path.{_≡_}
+use mathlib.Core.Bool.{false}
 use mathlib.Core.List.{List, map}
-use lib.ListN.{length, take}
+use lib.ListN.{length, take, getD}
 use Rattle.numbers.specs.Numbers.{ids, clients, mostTags, mostTimeout}
 use Rattle.settings.specs.Grammar.{Value}
-use Rattle.settings.specs.TagWords.{tagOf, Ascending}
+use Rattle.settings.specs.TagWords.{tagOf, Ascending, strictMark, someStrict}
 use Rattle.machine.specs.Machine.{Machine, machine}
 use Rattle.caching.specs.Kept.{cacheOf, SoundCache}
 use Rattle.table.specs.Columns.{Columns, columns, bookOf, SoundTable}
@@ -77,6 +78,8 @@ pub record Settled (k : KeptSettings) : Type 0 where
   pub few : k .tagCount ≤ mostTags
   pub long : length (k .tagWords) ≡ mostTags
   pub ascending : Ascending 0 (map tagOf (take (k .tagCount) (k .tagWords)))
+  -- where the first word has no mark, no tag is strict
+  pub unmarked : getD (k .tagWords) 0 0 < strictMark → someStrict (map tagOf (take (k .tagCount) (k .tagWords))) ≡ false
 
 pub record SoundState (s : State) : Type 0 where
   pub table : SoundTable (s .table)

@@ -20,15 +20,16 @@ fn adopt<'a, 'b>(
     width: &'b [u16; numbers::MOST_TAGS],
     sign: &'b [u16; numbers::MOST_TAGS],
     ttl: &'b [u16; numbers::MOST_TAGS],
+    strict: &'b [u16; numbers::MOST_TAGS],
 )
-    requires { ⌜ valid (valueOf (settings «from_timeout» «from_join» «from_tags» (now addr) (now width) (now sign) (now ttl))) ≡ true ⌝ }
-    ensures { λ r. ⌜ valueIn (keptSettings (now (timeout .exit)) (now (join .exit)) (now («tag_count» .exit)) (now («tag_words» .exit))) ≡ valueOf (settings «from_timeout» «from_join» «from_tags» (now (addr .entry)) (now (width .entry)) (now (sign .entry)) (now (ttl .entry))) ⌝ }
+    requires { ⌜ valid (valueOf (settings «from_timeout» «from_join» «from_tags» (now addr) (now width) (now sign) (now ttl) (now strict))) ≡ true ⌝ }
+    ensures { λ r. ⌜ valueIn (keptSettings (now (timeout .exit)) (now (join .exit)) (now («tag_count» .exit)) (now («tag_words» .exit))) ≡ valueOf (settings «from_timeout» «from_join» «from_tags» (now (addr .entry)) (now (width .entry)) (now (sign .entry)) (now (ttl .entry)) (now (strict .entry))) ⌝ }
     ensures { λ r. ⌜ Settled (keptSettings (now (timeout .exit)) (now (join .exit)) (now («tag_count» .exit)) (now («tag_words» .exit))) ⌝ }
 {
     *timeout = from_timeout;
     *join = from_join;
     *tag_count = from_tags;
-    values::tagwords::fill_words(from_tags, addr, width, sign, ttl, tag_words);
+    values::tagwords::fill_words(from_tags, addr, width, sign, ttl, strict, tag_words);
 }
 
 // Puts a value whose fields are lent into the state's settings. An invalid value is refusal 10, and the settings are then the usual ones.
@@ -44,8 +45,9 @@ pub fn adopt_value<'a, 'b>(
     width: &'b [u16; numbers::MOST_TAGS],
     sign: &'b [u16; numbers::MOST_TAGS],
     ttl: &'b [u16; numbers::MOST_TAGS],
+    strict: &'b [u16; numbers::MOST_TAGS],
 ) -> Answer
-    ensures { λ r. ⌜ Adopts (settings (now («from_timeout» .entry)) (now («from_join» .entry)) (now («from_tags» .entry)) (now (addr .entry)) (now (width .entry)) (now (sign .entry)) (now (ttl .entry))) r (keptSettings (now (timeout .exit)) (now (join .exit)) (now («tag_count» .exit)) (now («tag_words» .exit))) ⌝ }
+    ensures { λ r. ⌜ Adopts (settings (now («from_timeout» .entry)) (now («from_join» .entry)) (now («from_tags» .entry)) (now (addr .entry)) (now (width .entry)) (now (sign .entry)) (now (ttl .entry)) (now (strict .entry))) r (keptSettings (now (timeout .exit)) (now (join .exit)) (now («tag_count» .exit)) (now («tag_words» .exit))) ⌝ }
 {
     if values::is_valid(
         *from_timeout,
@@ -55,6 +57,7 @@ pub fn adopt_value<'a, 'b>(
         width,
         sign,
         ttl,
+        strict,
     ) {
         adopt(
             timeout,
@@ -68,23 +71,15 @@ pub fn adopt_value<'a, 'b>(
             width,
             sign,
             ttl,
+            strict,
         );
         return Answer::Done;
     }
-    // Timeout 3000, join 1 and no tags: of the columns nothing is listed.
-    adopt(
-        timeout,
-        join,
-        tag_count,
-        tag_words,
-        numbers::USUAL_TIMEOUT,
-        1,
-        0,
-        addr,
-        width,
-        sign,
-        ttl,
-    );
+    // Timeout 3000, join 1 and no tags.
+    *timeout = numbers::USUAL_TIMEOUT;
+    *join = 1;
+    *tag_count = 0;
+    *tag_words = [0u64; numbers::MOST_TAGS];
     Answer::Refused { number: 10 }
 }
 
@@ -114,8 +109,9 @@ pub fn fresh<'a, 'b>(
     width: &'b [u16; numbers::MOST_TAGS],
     sign: &'b [u16; numbers::MOST_TAGS],
     ttl: &'b [u16; numbers::MOST_TAGS],
+    strict: &'b [u16; numbers::MOST_TAGS],
 ) -> Answer
-    ensures { λ r. ⌜ Freshened (settings (now («from_timeout» .entry)) (now («from_join» .entry)) (now («from_tags» .entry)) (now (addr .entry)) (now (width .entry)) (now (sign .entry)) (now (ttl .entry))) r (lent (now (ids .exit)) (now (asked .exit)) (now (callers .exit)) (now (deadlines .exit)) (now (counts .exit)) (now (clients .exit)) (now (originals .exit)) (now (top .exit)) (now (cursor .exit)) (now (attached .exit)) (now (clock .exit)) (now (timeout .exit)) (now (join .exit)) (now («tag_count» .exit)) (now («tag_words» .exit)) (now (cache .exit)) (now (shown .exit))) ⌝ }
+    ensures { λ r. ⌜ Freshened (settings (now («from_timeout» .entry)) (now («from_join» .entry)) (now («from_tags» .entry)) (now (addr .entry)) (now (width .entry)) (now (sign .entry)) (now (ttl .entry)) (now (strict .entry))) r (lent (now (ids .exit)) (now (asked .exit)) (now (callers .exit)) (now (deadlines .exit)) (now (counts .exit)) (now (clients .exit)) (now (originals .exit)) (now (top .exit)) (now (cursor .exit)) (now (attached .exit)) (now (clock .exit)) (now (timeout .exit)) (now (join .exit)) (now («tag_count» .exit)) (now («tag_words» .exit)) (now (cache .exit)) (now (shown .exit))) ⌝ }
 {
     moves::changing::clear(
         ids,
@@ -144,5 +140,6 @@ pub fn fresh<'a, 'b>(
         width,
         sign,
         ttl,
+        strict,
     )
 }

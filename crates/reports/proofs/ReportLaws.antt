@@ -17,7 +17,7 @@ use Rattle.wire.specs.declared.splitting.Split.the-variants.{Frame}
 use Rattle.wire.proofs.SplittingLaws.{starts, first-size}
 use Rattle.settings.specs.Grammar.{Value, Read, newest, textIn, valid, readText}
 use Rattle.settings.specs.Grammar.Read.{got, wrong}
-use Rattle.settings.proofs.GrammarLaws.{wrong-most, longest-3}
+use Rattle.settings.proofs.GrammarLaws.{wrong-most, longest-4}
 use Rattle.settingstext.specs.declared.reading.ReadText.{ReadText}
 use Rattle.settingstext.specs.declared.writing.Wrote.{Wrote}
 use Rattle.settingstext.specs.declared.writing.Wrote.the-variants.{Text, TooShort, Invalid}
@@ -59,8 +59,8 @@ pub written-low : (v : Value) (b a : List ℕ) (w : Wrote) (n : ℕ) → writing
 unfolding writtenTo
 written-low v b a w n e s =
     let x = text-of (valid v) (ltb (length b) (length (textIn newest v))) (length (textIn newest v)) n a b (over (textIn newest v) b) w e s in
-    rw (x .1) (longest-3 v (x .0))
+    rw (x .1) (longest-4 v (x .0))
 
 -- What reading settings returns has in memory the size of zb_read: that of an answer, and of settings behind it.
-pub read-size : size mir ≡ 2100
+pub read-size : size mir ≡ 2612
 read-size = refl

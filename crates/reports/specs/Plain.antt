@@ -52,6 +52,6 @@ pub record WriteSays (from : Settings) (b : List ℕ) (r : Report) (b′ : List 
 pub record ReadSays (t : List ℕ) (r : SettingsRead) : Type 0 where
   pub wrong : (k : ℕ) → (r .answer ≡ ten 10 k 0 0 0 0 0 0 0 0) ↔ FirstWrong t k
   pub usual : (k : ℕ) → FirstWrong t k
-      → r .settings ≡ record { timeout = 3000; join = 1; tags = 0; addr = replicate 256 0; width = replicate 256 0; sign = replicate 256 0; ttl = replicate 256 0 }
+      → r .settings ≡ record { timeout = 3000; join = 1; tags = 0; addr = replicate 256 0; width = replicate 256 0; sign = replicate 256 0; ttl = replicate 256 0; strict = replicate 256 0 }
   pub right : (ns : List ℕ) → Lines [] t ns [] → AllLines ns → (r .answer ≡ ten 0 0 1 0 0 0 0 0 0 0) × ValidSettings (r .settings) × ReadsTo ns (r .settings)
   pub either : ((k : ℕ) × FirstWrong t k) ⊎ ((ns : List ℕ) × Lines [] t ns [] × AllLines ns)

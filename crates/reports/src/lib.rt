@@ -195,11 +195,22 @@ pub fn write<'a>(
     width: &'a [u16; numbers::MOST_TAGS],
     sign: &'a [u16; numbers::MOST_TAGS],
     ttl: &'a [u16; numbers::MOST_TAGS],
+    strict: &'a [u16; numbers::MOST_TAGS],
     text: &mut [u8],
 ) -> Report
-    ensures { λ r. ⌜ WritePromised (settings (now (timeout .entry)) (now (join .entry)) (now (tags .entry)) (now (addr .entry)) (now (width .entry)) (now (sign .entry)) (now (ttl .entry))) (now (text .entry)) r (now (text .exit)) ⌝ }
+    ensures { λ r. ⌜ WritePromised (settings (now (timeout .entry)) (now (join .entry)) (now (tags .entry)) (now (addr .entry)) (now (width .entry)) (now (sign .entry)) (now (ttl .entry)) (now (strict .entry))) (now (text .entry)) r (now (text .exit)) ⌝ }
 {
-    match settingstext::writing::write_text(*timeout, *join, *tags, addr, width, sign, ttl, text) {
+    match settingstext::writing::write_text(
+        *timeout,
+        *join,
+        *tags,
+        addr,
+        width,
+        sign,
+        ttl,
+        strict,
+        text,
+    ) {
         Wrote::Text(size) => said(0, 0, DONE, size as u32),
         Wrote::TooShort => said(1, 0, 0, 0),
         Wrote::Invalid => said(10, 0, 0, 0),

@@ -12,11 +12,12 @@ use Rattle.numbers.specs.Numbers.{clients, latestTime, leastFrame, mostFrame, f
 use Rattle.laws.specs.Bits.{has}
 use Rattle.laws.proofs.Choice.{or-left, or-right}
 use Rattle.wire.specs.Frame.{misframed, functionOf}
-use Rattle.pdu.specs.Requests.{classOf, badFunction, badLength, checkedOf}
+use Rattle.settings.specs.Grammar.{Tag}
+use Rattle.pdu.specs.Requests.{classOf, badFunction, badLength}
 use Rattle.pdu.specs.declared.Asked.{Asked}
-use Rattle.pdu.specs.declared.Checked.{Checked}
 use Rattle.pdu.specs.declared.Checked.the-variants.{BadFunction, BadLength, Legal}
-use Rattle.pdu.proofs.RequestLaws.{Tested, check-tests}
+use Rattle.rewrite.specs.Legal.{checkedUnder}
+use Rattle.rewrite.proofs.CheckLaws.{under-tests}
 use Rattle.machine.specs.Machine.{Machine}
 use Rattle.machine.specs.Calls.Call.{request}
 use Rattle.machine.specs.Refusals.{row, rows, lowest, refusal, shortFrame, isStrangeTo, isStranger, isUntimelyAt, isUntimely}
@@ -76,21 +77,17 @@ module _ (m : Machine) (c t : ℕ) (f o : List ℕ) (n : ℕ) (e : n ≡ request
       let g = none-applies (misframed f) 4 _ (λ y. omega arith) (d .1) in
       record { roomy = a .0; known = b .0; timely = d .0; framed = g .0 }
 
--- what the outcome of the check tells of the definition's tests
-pub tested : (f : List ℕ) (x : Checked) → checkedOf f ≡ x → Tested f x
-tested f x e = rw e at (check-tests f)
-
 module _ {m : Machine} {c t : ℕ} {f o : List ℕ} (p : Open m c t f o) where
   behind : (n : ℕ) → n ≡ lowest (row 5 (badFunction (functionOf f)) ∷ row 6 (badLength (classOf (functionOf f)) f) ∷ []) → refusal m (request c t f o) ≡ n
   unfolding rows
   behind n e = sym (passes 1 _ (p .roomy) (passes 2 _ (p .known) (passes 3 _ (p .timely) (passes 4 _ (p .framed) e))))
 
-  -- Behind the gate the check decides: 5, 6, or no refusal.
-  pub check-function : checkedOf f ≡ BadFunction → refusal m (request c t f o) ≡ 5
-  check-function e = behind 5 (applies 5 _ (tested f BadFunction e))
+  -- Behind the gate the check decides, under whatever tags: 5, 6, or no refusal.
+  pub check-function : (tags : List Tag) → checkedUnder tags f ≡ BadFunction → refusal m (request c t f o) ≡ 5
+  check-function tags e = behind 5 (applies 5 _ (under-tests tags f e))
 
-  pub check-length : checkedOf f ≡ BadLength → refusal m (request c t f o) ≡ 6
-  check-length e = let w = tested f BadLength e in behind 6 (passes 5 _ (w .0) (applies 6 _ (w .1)))
+  pub check-length : (tags : List Tag) → checkedUnder tags f ≡ BadLength → refusal m (request c t f o) ≡ 6
+  check-length tags e = let w = under-tests tags f e in behind 6 (passes 5 _ (w .0) (applies 6 _ (w .1)))
 
   pub check-passes : badFunction (functionOf f) ≡ false → badLength (classOf (functionOf f)) f ≡ false → refusal m (request c t f o) ≡ 0
   check-passes a b = behind 0 (passes 5 _ a (passes 6 [] b none-left))
@@ -104,9 +101,9 @@ module _ {m : Machine} {c t : ℕ} {f o : List ℕ} (p : Open m c t f o) where
   not-before = ltb-false t (m .book .clock) (or-right (ltb latestTime t) (ltb t (m .book .clock)) (p .timely))
 
   -- What the gate and the check have shown of a legal request.
-  pub admits : {a : Asked} → checkedOf f ≡ Legal a → Admitted c t f o a
+  pub admits : (tags : List Tag) {a : Asked} → checkedUnder tags f ≡ Legal a → Admitted c t f o a
   unfolding misframed
-  admits e =
+  admits tags e =
       let w = p .framed in
       record {
         numbered = leb-false clients c (or-left (leb clients c) (not (has (m .attached) c)) (p .known));
@@ -114,5 +111,5 @@ module _ {m : Machine} {c t : ℕ} {f o : List ℕ} (p : Open m c t f o) where
         roomy = has-room;
         least = ltb-false (length f) leastFrame (or-left (ltb (length f) leastFrame) _ w);
         most = ltb-false mostFrame (length f) (or-left (ltb mostFrame (length f)) _ (or-right (ltb (length f) leastFrame) _ w));
-        legal = e;
+        legal = under-tests tags f e .3;
       }

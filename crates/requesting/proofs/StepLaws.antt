@@ -10,12 +10,16 @@ use borrow.Author.Tests.{eq-eqb, lt-ltb, le-ltb}
 use Rattle.numbers.specs.Numbers.{places, cachePlaces, deviceFailure}
 use Rattle.laws.specs.Bytes.{over}
 use Rattle.wire.specs.Frame.{idOf, unitOf, functionOf, laid, exception}
-use Rattle.pdu.specs.Requests.{askedOf, faultOf, checkedOf}
+use Rattle.settings.specs.Grammar.{Tag}
+use Rattle.pdu.specs.Requests.{askedOf}
 use Rattle.pdu.specs.Replies.{What}
 use Rattle.pdu.specs.declared.Asked.{Asked}
 use Rattle.pdu.specs.declared.Checked.the-variants.{Excepted as Faulty, Legal}
 use Rattle.rewrite.specs.Rewriting.{Rewritten, withCounts}
 use Rattle.rewrite.specs.Frames.{forwarded, under}
+use Rattle.rewrite.specs.Legal.{faultUnder, checkedUnder}
+use Rattle.rewrite.specs.inner.Lent.{tagsOf}
+use Rattle.rewrite.proofs.CheckLaws.{under-tests}
 use Rattle.cache.specs.Cache.{Cached, Cache, inCache, droppedBy}
 use Rattle.caching.specs.Kept.{cacheOf}
 use Rattle.caching.proofs.ShowLaws.{stands-held}
@@ -32,9 +36,9 @@ use Rattle.machine.specs.Outcomes.{granted, outcome}
 use Rattle.machine.specs.declared.Answer.{Answer}
 use Rattle.machine.specs.declared.Answer.the-variants.{Refused, Joined, Excepted, Issued, Hit}
 use Rattle.machine.proofs.OutcomeLaws.{granted-is, refused-is, served-cases}
-use Rattle.proxy.specs.State.{State, machineOf}
+use Rattle.proxy.specs.State.{State, valueIn, machineOf}
 use Rattle.proxy.proofs.StateLaws.{timed, clock-is}
-use Rattle.requesting.proofs.GateLaws.{Open, tested, check-passes, not-before}
+use Rattle.requesting.proofs.GateLaws.{Open, check-passes, not-before}
 
 -- A refused request changes nothing.
 pub was-refused : (m : Machine) (c t : ℕ) (f o : List ℕ) (n : ℕ) → (n ≡ 0 → ⊥) → refusal m (request c t f o) ≡ n → done (Refused n) m o [] ≡ outcome m (request c t f o)
@@ -48,19 +52,23 @@ unfolding excepted
 exception-made m f o id unit function code o′ ei eu ef e = rw (e, ei, eu, ef)
 
 module _ (s : State) {c t : ℕ} {f o : List ℕ} (p : Open (machineOf s) c t f o) where
+  -- the tags that the check goes by
+  abbrev tags : List Tag
+  tags = tagsOf (s .settings .tagCount) (s .settings .tagWords)
+
   -- A request with a fault sets the clock and gets the exception.
-  pub was-excepted : {code : ℕ} {d : Outcome} → checkedOf f ≡ Faulty code → d ≡ excepted (machineOf (timed s t)) code f o → d ≡ outcome (machineOf s) (request c t f o)
-  unfolding granted admitted
-  was-excepted {code} e q =
-      let w = tested f (Faulty code) e in
+  pub was-excepted : {code : ℕ} {d : Outcome} → checkedUnder tags f ≡ Faulty code → d ≡ excepted (machineOf (timed s t)) code f o → d ≡ outcome (machineOf s) (request c t f o)
+  unfolding granted admitted valueIn
+  was-excepted e q =
+      let w = under-tests tags f e in
       q ∙ sym (granted-is (machineOf s) (request c t f o) (check-passes p (w .0) (w .1)) ∙ rw (w .3) (rw (w .2, clock-is s t (not-before p)) refl))
 
   -- A legal request sets the clock and is served.
-  pub was-served : {a : Asked} {d : Outcome} → checkedOf f ≡ Legal a → d ≡ served (machineOf (timed s t)) c f o → d ≡ outcome (machineOf s) (request c t f o)
-  unfolding granted admitted
-  was-served {a} e q =
-      let w = tested f (Legal a) e in
-      q ∙ sym (granted-is (machineOf s) (request c t f o) (check-passes p (w .0) (w .1)) ∙ rw (eq-eqb (faultOf f) 0 (w .2)) (rw (clock-is s t (not-before p)) refl))
+  pub was-served : {a : Asked} {d : Outcome} → checkedUnder tags f ≡ Legal a → d ≡ served (machineOf (timed s t)) c f o → d ≡ outcome (machineOf s) (request c t f o)
+  unfolding granted admitted valueIn
+  was-served e q =
+      let w = under-tests tags f e in
+      q ∙ sym (granted-is (machineOf s) (request c t f o) (check-passes p (w .0) (w .1)) ∙ rw (eq-eqb (faultUnder tags f) 0 (w .2)) (rw (clock-is s t (not-before p)) refl))
 
 module _ (m : Machine) (c : ℕ) (f o : List ℕ) where
   -- A request that hits a place is shown what is cached there,

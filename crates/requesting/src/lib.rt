@@ -13,9 +13,11 @@ ghost use Rattle.numbers.specs.Numbers.{ids as idCount, places, room, exception
 ghost use Rattle.laws.specs.Search.{best};
 ghost use Rattle.wire.specs.Frame.{idOf};
 ghost use Rattle.settings.specs.Grammar.{Value};
+ghost use Rattle.settings.specs.TagWords.{strictMark, someStrict};
 ghost use Rattle.pdu.specs.Requests.{checkedOf};
 ghost use Rattle.pdu.specs.Replies.{What};
-ghost use Rattle.rewrite.specs.inner.Lent.{TagWords};
+ghost use Rattle.rewrite.specs.Legal.{checkedUnder};
+ghost use Rattle.rewrite.specs.inner.Lent.{tagsOf, TagWords};
 ghost use Rattle.machine.specs.Machine.{Machine};
 ghost use Rattle.machine.specs.Calls.{done};
 ghost use Rattle.machine.specs.Calls.Call.{request as asks};
@@ -334,6 +336,22 @@ fn serve<'a>(
     )
 }
 
+// The check of a request: that of its bytes, and where these are in order exception 03 if a strict tag forbids what they write.
+fn check(frame: &[u8], tag_words: &[u64; numbers::MOST_TAGS], tag_count: u32) -> Checked
+    requires { ⌜ TagWords «tag_count» (now «tag_words») ⌝ }
+    requires { ⌜ (getD (now «tag_words») 0 0 < strictMark → someStrict (tagsOf «tag_count» (now «tag_words»)) ≡ false) ⌝ }
+    ensures { λ r. ⌜ r ≡ checkedUnder (tagsOf «tag_count» (now («tag_words» .entry))) (now (frame .entry)) ⌝ }
+{
+    let checked = checking::check_request(frame);
+    let Checked::Legal(what) = checked else {
+        return checked;
+    };
+    if payloads::strict::is_forbidden(frame, what, tag_words, tag_count as usize) {
+        return Checked::Excepted(numbers::ILLEGAL_VALUE);
+    }
+    checked
+}
+
 // A request of any client, at any time, of any bytes, over a buffer of any length.
 pub fn request<'a>(
     ids: &'a mut [u32; numbers::PLACES],
@@ -366,7 +384,7 @@ pub fn request<'a>(
     if refused != 0 {
         return Answer::Refused { number: refused };
     }
-    match checking::check_request(frame) {
+    match check(frame, tag_words, *tag_count) {
         Checked::BadFunction => Answer::Refused { number: 5 },
         Checked::BadLength => Answer::Refused { number: 6 },
         Checked::Excepted(code) => {

@@ -12,3 +12,7 @@ pub mod SingleLaws
 pub mod EchoLaws
 pub mod LaidLaws
 pub mod RoomLaws
+pub mod LegalLaws
+pub mod CheckLaws
+pub mod StrictLaws
+pub mod ForbidLaws

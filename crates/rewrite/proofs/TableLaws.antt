@@ -3,15 +3,14 @@
 use Prim.Native.Nat.{ℕ, _+_, _*_, _-_, _≤_, _<_}
 use mathlib.Core.Path.{_≡_, refl, ap, sym, _∙_}
 use mathlib.Core.Logic.{⊎-elim}
-use mathlib.Core.Bool.{Bool, false, or-true}
+use mathlib.Core.Bool.{Bool, false}
 use mathlib.Core.List.{List, [], _∷_, _++_, map, map-append, List·Memᴰ, List·Memᴰ·head, List·Memᴰ·tail}
 use native.Mathlib.Nat.{add-zero, zero-add}
 use native.Mathlib.Numerals.{add-one}
 use native.Mathlib.Omega.{arith}
 use lib.ListN.{length, getD, take, drop, length-map, length-take, List·getD-map}
 use lib.Seq.{take-suc, take-add, getD-take, getD-drop, length-take-le}
-use lib.Dec.{ltb}
-use borrow.Author.Tests.{lt-ltb, le-leb, lt-leb, leb-false}
+use borrow.Author.Tests.{lt-leb, leb-false}
 use Rattle.laws.specs.Lists.{filter}
 use Rattle.laws.specs.Search.{first}
 use Rattle.laws.proofs.Choice.{lt-or}
@@ -27,7 +26,7 @@ use Rattle.rewrite.specs.inner.Lent.{tagsOf, TagWords, reaches}
 use Rattle.laws.proofs.MemberLaws.{mem-place, place-mem}
 use Rattle.rewrite.proofs.RegisterLaws.{length-registers, registers-below, registers-laid, laid-registers, laid-laid}
 use Rattle.rewrite.proofs.OrderLaws.{first-last, ascending-front, ascending-across, ascending-at}
-use Rattle.rewrite.proofs.VerdictLaws.{verdict-outside, verdict-own}
+use Rattle.rewrite.proofs.VerdictLaws.{verdict-before, verdict-behind, verdict-own}
 use Rattle.rewrite.proofs.RunLaws.{length-rewritten, below-rewritten, own-same, counts-most}
 
 -- one list of tags after another
@@ -177,6 +176,18 @@ module _ (n : ℕ) (words : List ℕ) (w : TagWords n words) where
       (λ (z : m ≤ k). let q : k ≡ m = omega arith in rw q e)
       (lt-or k m))
 
+  -- a tag before the first that reaches start ends before it
+  pub tag-before : (start k : ℕ) → k < first (reaches words start) n → lastOf (tagOf (getD words k 0)) < start
+  tag-before start k h = leb-false start (lastOf (tagOf (getD words k 0))) (first-before (reaches words start) n k h)
+
+  -- where a tag begins at an end or behind it, so does each at a later place
+  pub tag-behind : (end i k : ℕ) → end ≤ tagOf (getD words i 0) .address → i ≤ k → k < n → end ≤ tagOf (getD words k 0) .address
+  tag-behind end i k e h l =
+      ⊎-elim
+      (λ (y : i < k). let o = tag-order i k y l in let f = first-last (tagOf (getD words i 0)) in omega arith)
+      (λ (y : k ≤ i). let j : k ≡ i = omega arith in rw j e)
+      (lt-or i k)
+
 -- what the code knows of the tag words and of the buffer
 pub record KnownTable (base q n : ℕ) (words d : List ℕ) : Type 0 where
   pub tags : TagWords n words
@@ -188,22 +199,13 @@ module _ (way : Way) (start : ℕ) {base q n : ℕ} {words d : List ℕ} (known 
   abbrev pub upTo : ℕ → Rewritten
   upTo i = rewriting way base start q (tagsOf i words) d
 
-  -- the verdict of a tag before the run, and of one behind it
-  before-run : (t : Tag) → lastOf t < start → verdict way start (registersAt base q d) t ≡ outside
-  before-run t h = verdict-outside way start (registersAt base q d) t (rw (lt-ltb (lastOf t) start h) refl)
-
-  behind-run : (t : Tag) → start + q ≤ t .address → verdict way start (registersAt base q d) t ≡ outside
-  behind-run t h =
-      verdict-outside way start (registersAt base q d) t (rw (length-registers base q d, le-leb (start + q) (t .address) h) (or-true (ltb (lastOf t) start)))
-
   -- Before the first tag that reaches the run nothing is to be done.
   pub table-start : (i : ℕ) → i ≡ first (reaches words start) n → withCounts 0 0 d ≡ upTo i
   table-start i e =
       sym (idle-behind way base start q d [] (tagsOf i words) (λ u m.
       let s = tag-place words 0 i u m in
       let z : 0 + s .0 ≡ s .0 = zero-add (s .0) in
-      let f = leb-false start (lastOf (tagOf (getD words (s .0) 0))) (first-before (reaches words start) n (s .0) (omega (arith, s .1))) in
-      rw (s .2, z) (before-run (tagOf (getD words (s .0) 0)) f))
+      rw (s .2, z) (verdict-before way start (registersAt base q d) (tagOf (getD words (s .0) 0)) (tag-before n words (known .tags) start (s .0) (omega (arith, s .1)))))
       ∙ idle-none way base start q d (known .bytes))
 
   module _ (i p v : ℕ) (b : List ℕ) (e : withCounts p v b ≡ upTo i) where
@@ -229,12 +231,8 @@ module _ (way : Way) (start : ℕ) {base q n : ℕ} {words d : List ℕ} (known 
         rw (← m, tags-split words i (n - i))
         (idle-behind way base start q d (tagsOf i words) (map tagOf (take (n - i) (drop i words))) (λ u k.
         let r = tag-place words i (n - i) u k in
-        let z = g (omega (arith, r .1)) in
-        rw (r .2) (behind-run (tagOf (getD words (i + r .0) 0))
-        (⊎-elim
-        (λ (y : i < i + r .0). let o = tag-order n words (known .tags) i (i + r .0) y (omega (arith, r .1)) in let f = first-last (tagOf (getD words i 0)) in omega arith)
-        (λ (y : i + r .0 ≤ i). let j : i + r .0 ≡ i = omega arith in rw j z)
-        (lt-or i (i + r .0)))))) in
+        rw (r .2) (verdict-behind way start (registersAt base q d) (tagOf (getD words (i + r .0) 0))
+        (rw (length-registers base q d) (tag-behind n words (known .tags) (start + q) i (i + r .0) (g (omega (arith, r .1))) (omega arith) (omega (arith, r .1))))))) in
         e ∙ sym s
 
     -- The counts are at most the tags so far.

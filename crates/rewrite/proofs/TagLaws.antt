@@ -1,24 +1,30 @@
--- One tag over a run of registers in a buffer: what its verdict makes of the buffer and the counts, and its number in one register or two.
+-- One tag over a run of registers in a buffer: what its verdict makes of the buffer and the counts, its number in one register or two, and whether it stays raw.
 -- Assumes nothing.
 use Prim.Native.Nat.{ℕ, _+_, _*_, _-_, _/_, _%_, _≤_, _<_}
 use mathlib.Core.Path.{_≡_, refl, ap, sym, _∙_}
-use mathlib.Core.Bool.{true, false, cond, _||_}
+use mathlib.Core.Logic.{⊎-elim}
+use mathlib.Core.Bool.{Bool, true, false, cond, not, _&&_, _||_}
 use mathlib.Core.Option.{Option, some, none}
 use mathlib.Core.List.{List, [], _∷_}
 use native.Mathlib.Omega.{arith}
 use lib.ListN.{length, getD}
 use lib.Seq.{sets}
 use lib.Dec.{ltb, leb}
+use borrow.Author.Tests.{lt-ltb, le-ltb, lt-leb, le-leb}
 use Rattle.laws.specs.Lists.{filter}
 use Rattle.laws.specs.Bytes.{pairAt, putAt}
 use Rattle.laws.specs.Digits.{digits, value as valueOf}
+use Rattle.laws.proofs.Choice.{true-or, lt-or}
 use Rattle.bcd.specs.declared.Kind.{Kind}
-use Rattle.bcd.specs.Bcd.{registers}
+use Rattle.bcd.specs.declared.Encoded.the-variants.{Bcd}
+use Rattle.bcd.specs.Bcd.{registers, inRange}
 use Rattle.bcd.specs.Words.{wordsOf, numberOf}
+use Rattle.bcd.proofs.RoundTrip.{encode-accepts}
 use Rattle.bcd.proofs.Words.{words-count}
 use Rattle.settings.specs.Grammar.{Tag}
 use Rattle.settings.specs.TagWords.{kindOf, lastOf}
 use Rattle.rewrite.specs.declared.Way.{Way}
+use Rattle.rewrite.specs.declared.Way.the-variants.{ToBcd}
 use Rattle.rewrite.specs.Registers.{registersAt, laidAt}
 use Rattle.rewrite.specs.Rewriting.{turned, Verdict, isOutside, isPartial, ownIn, verdict, laidBy, rewrittenFrom, isRawPartial, isRawValue, partials, values, Rewritten, withCounts, rewriting}
 use Rattle.rewrite.specs.Rewriting.Verdict.{outside, partial, value, done}
@@ -26,7 +32,7 @@ use Rattle.rewrite.specs.Plain.{Whole}
 use Rattle.rewrite.specs.inner.Lent.{wholeLaid}
 use Rattle.rewrite.proofs.RegisterLaws.{length-registers, registers-part, laid-registers, laid-part}
 use Rattle.rewrite.proofs.OrderLaws.{behind-last}
-use Rattle.rewrite.proofs.VerdictLaws.{not-partial, verdict-outside, verdict-partial, value-exactly, done-exactly}
+use Rattle.rewrite.proofs.VerdictLaws.{not-partial, verdict-outside, verdict-partial, value-exactly, done-exactly, turned-encoded, raw-encoded}
 
 -- A NUMBER IN ONE REGISTER OR TWO
 
@@ -142,3 +148,46 @@ module _ (way : Way) (base start q : ℕ) {t : Tag} {d : List ℕ} {a z : ℕ} (
           go : (o : Option ℕ) → turned way (kindOf t) own ≡ o → wholeLaid way (kindOf t) k d ≡ rewriting way base start q (t ∷ []) d
           go none e = rw (e, wholeLaid) (one-value e)
           go (some r) e = rw (e, wholeLaid) (one-done r e)
+
+-- WHETHER A TAG STAYS RAW, of what a client writes
+
+abbrev pub staysBy : Verdict → Bool
+staysBy v = isRawPartial v || isRawValue v
+
+-- the run has one of the tag's registers exactly if the tag is not outside
+meets-test : (a z s e : ℕ) → (leb s z && ltb a e) ≡ not (ltb z s || leb e a)
+meets-test a z s e =
+    ⊎-elim
+    (λ (h : z < s). rw (lt-ltb z s h, lt-leb s z h) refl)
+    (λ (h : s ≤ z). ⊎-elim
+    (λ (l : a < e). simp (le-ltb z s h, le-leb s z h, lt-ltb a e l, lt-leb e a l))
+    (λ (l : e ≤ a). simp (le-ltb z s h, le-leb s z h, le-ltb a e l, le-leb e a l))
+    (lt-or a e))
+    (lt-or z s)
+
+module _ (base start q : ℕ) {t : Tag} {d : List ℕ} {a z : ℕ} (n : KnownTag t d a z) where
+  -- A tag that is not whole in the run stays raw exactly if the run has one of its registers.
+  pub stays-partly : (ltb a start || leb (start + q) z) ≡ true → (leb start z && ltb a (start + q)) ≡ staysBy (verdict ToBcd start (registersAt base q d) t)
+  stays-partly p =
+      let rs = registersAt base q d in
+      meets-test a z start (start + q)
+      ∙ ⊎-elim
+      (λ (o : (ltb z start || leb (start + q) a) ≡ true). rw o (sym (ap staysBy (verdict-outside ToBcd start rs t (outside-test ToBcd base start q n ∙ o)))))
+      (λ (o : (ltb z start || leb (start + q) a) ≡ false).
+      rw o (sym (ap staysBy (verdict-partial ToBcd start rs t (outside-test ToBcd base start q n ∙ o) (partial-test ToBcd base start q n ∙ p)))))
+      (true-or (ltb z start || leb (start + q) a))
+
+  -- A tag that is whole in it stays raw exactly if its number is outside its range.
+  pub stays-whole : (ltb a start || leb (start + q) z) ≡ false → (k : ℕ) → k ≡ base + 2 * (a - start)
+      → not (inRange (kindOf t) (numberOf (registersAt k (registers (kindOf t)) d))) ≡ staysBy (verdict ToBcd start (registersAt base q d) t)
+  stays-whole p k hk =
+      let rs = registersAt base q d in
+      let own = numberOf (registersAt k (registers (kindOf t)) d) in
+      let w = whole-run ToBcd base start q n p in
+      let e = number ToBcd base start q n p k hk in
+      ⊎-elim
+      (λ (r : inRange (kindOf t) own ≡ true).
+      let s = encode-accepts (kindOf t) own r in
+      rw r (sym (ap staysBy (done-exactly ToBcd start rs t (wordsOf (kindOf t) (s .0)) .1 (w, (s .0, rw e (turned-encoded (kindOf t) own (Bcd (s .0)) (s .1)), refl))))))
+      (λ (r : inRange (kindOf t) own ≡ false). rw r (sym (ap staysBy (value-exactly ToBcd start rs t .1 (w, rw e (raw-encoded (kindOf t) own .1 r))))))
+      (true-or (inRange (kindOf t) own))

@@ -3,13 +3,13 @@
 use Prim.Native.Nat.{ℕ, _+_, _-_, _≤_, _<_}
 use mathlib.Core.Path.{_≡_, refl, ap, sym, _∙_}
 use mathlib.Core.Logic.{⊎-elim, _⊎_, inl, inr, _↔_}
-use mathlib.Core.Bool.{true, false}
+use mathlib.Core.Bool.{true, false, or-true}
 use mathlib.Core.Option.{Option, some, none}
 use mathlib.Core.List.{List}
 use native.Mathlib.Omega.{arith}
 use lib.ListN.{length}
 use lib.Dec.{ltb}
-use borrow.Author.Tests.{le-ltb, lt-leb, ltb-true, ltb-false, leb-true, leb-false}
+use borrow.Author.Tests.{lt-ltb, le-ltb, le-leb, lt-leb, ltb-true, ltb-false, leb-true, leb-false}
 use Rattle.laws.proofs.Choice.{true-or, lt-or, or-left, or-right, or-second}
 use Rattle.bcd.specs.declared.Kind.{Kind}
 use Rattle.bcd.specs.declared.Encoded.{Encoded}
@@ -126,6 +126,14 @@ module _ (way : Way) (start : ℕ) (rs : List ℕ) (t : Tag) where
   pub verdict-outside : isOutside start (length rs) t ≡ true → verdict way start rs t ≡ outside
   unfolding verdict
   verdict-outside o = rw o
+
+  -- So is a tag that ends before the run,
+  pub verdict-before : lastOf t < start → verdict way start rs t ≡ outside
+  verdict-before h = verdict-outside (rw (lt-ltb (lastOf t) start h) refl)
+
+  -- and one that begins behind it.
+  pub verdict-behind : start + length rs ≤ t .address → verdict way start rs t ≡ outside
+  verdict-behind h = verdict-outside (rw (le-leb (start + length rs) (t .address) h) (or-true (ltb (lastOf t) start)))
 
   -- A tag that only the second test catches is raw for partial cover, whatever its registers hold.
   pub verdict-partial : isOutside start (length rs) t ≡ false → isPartial start (length rs) t ≡ true → verdict way start rs t ≡ partial

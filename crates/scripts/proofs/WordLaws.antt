@@ -29,7 +29,7 @@ module _ (call : List ℕ) (letter usual most given : ℕ) (e : given ≡ number
   length-most h = rw (← e) (omega arith)
 
 -- the numbers of a call over document 01's settings
-pub settings-made : (call : List ℕ) (s : Settings) (timeout join tags first second third fourth : ℕ)
+pub settings-made : (call : List ℕ) (s : Settings) (timeout join tags first second third fourth fifth sixth : ℕ)
     → s ≡ settingsOf document
     → timeout ≡ shortNumber call 2 (s .timeout)
     → join ≡ shortNumber call 4 (s .join)
@@ -38,6 +38,8 @@ pub settings-made : (call : List ℕ) (s : Settings) (timeout join tags first se
     → second ≡ tagNumber call 9
     → third ≡ tagNumber call 11
     → fourth ≡ tagNumber call 12
-    → _≡_ {A = Settings} (record { timeout = timeout; join = join; tags = tags; addr = s .addr; width = s .width; sign = set (set (s .sign) 0 first) 1 second; ttl = set (set (s .ttl) 0 third) 1 fourth }) (settingsIn call)
+    → fifth ≡ tagNumber call 14
+    → sixth ≡ tagNumber call 15
+    → _≡_ {A = Settings} (record { timeout = timeout; join = join; tags = tags; addr = s .addr; width = s .width; sign = set (set (s .sign) 0 first) 1 second; ttl = set (set (s .ttl) 0 third) 1 fourth; strict = set (set (s .strict) 0 fifth) 1 sixth }) (settingsIn call)
 unfolding settingsIn settingsOf
-settings-made call s timeout join tags first second third fourth e a b d x y z w = rw (a, b, d, x, y, z, w, e)
+settings-made call s timeout join tags first second third fourth fifth sixth e a b d x y z w u v = rw (a, b, d, x, y, z, w, u, v, e)

@@ -21,17 +21,17 @@ leavesState call = eqb (letterOf call) 99 || (eqb (letterOf call) 115 || (eqb (l
 
 -- document 01's settings
 abbrev pub document : Value
-document = record { timeout = usualTimeout; join = 1; tags = record { address = 1024; width = 16; sign = 0; ttl = 0 } ∷ record { address = 1026; width = 32; sign = 0; ttl = 0 } ∷ [] }
+document = record { timeout = usualTimeout; join = 1; tags = record { address = 1024; width = 16; sign = 0; ttl = 0; strict = 0 } ∷ record { address = 1026; width = 32; sign = 0; ttl = 0; strict = 0 } ∷ [] }
 
 -- the k-th word of a call as a number of 32 bits, the other one where there is none
 abbrev pub shortNumber : List ℕ → ℕ → ℕ → ℕ
 shortNumber call k other = numberOf (fieldOf 32 k call) other % 2 ^ 32
 
--- and as a tag's sign or ttl, of 16 bits, 0 where there is none
+-- and as a tag's sign or ttl or as whether it is strict, of 16 bits, 0 where there is none
 abbrev pub tagNumber : List ℕ → ℕ → ℕ
 tagNumber call k = shortNumber call k 0 % 2 ^ 16
 
--- the same with the numbers of a call: timeout, join and tags are its words 2, 4 and 6, the signs of the two tags its words 8 and 9, and their ttls its words 11 and 12
+-- the same with the numbers of a call: timeout, join and tags are its words 2, 4 and 6, the signs of the two tags its words 8 and 9, their ttls its words 11 and 12, and whether they are strict its words 14 and 15
 unfoldable pub settingsIn : List ℕ → Settings
 settingsIn call =
     record {
@@ -42,6 +42,7 @@ settingsIn call =
       width = settingsOf document .width;
       sign = set (set (settingsOf document .sign) 0 (tagNumber call 8)) 1 (tagNumber call 9);
       ttl = set (set (settingsOf document .ttl) 0 (tagNumber call 11)) 1 (tagNumber call 12);
+      strict = set (set (settingsOf document .strict) 0 (tagNumber call 14)) 1 (tagNumber call 15);
     }
 
 -- a length behind the comma, by a letter that no other word there has

@@ -100,6 +100,7 @@ fn written(right: &[u8], from: Settings, lent: usize) -> usize
         &from.width,
         &from.sign,
         &from.ttl,
+        &from.strict,
         &mut buffer[0..lent],
     );
     told(right, wrote, &buffer)

@@ -1,12 +1,12 @@
 // The calls that a row can name, and the numbers in them.
 //   fresh                           a fresh state with document 01's settings
-//   fresh timeout 99 join 1 tags 2 sign 1 0 ttl 500 0
-//                                   the same with these numbers; the tags are document 01's with these signs and ttls, 0 where none is given, and nothing behind the second
+//   fresh timeout 99 join 1 tags 2 sign 1 0 ttl 500 0 strict 1 0
+//                                   the same with these numbers; the tags are document 01's with these signs and ttls and strict or not, 0 where none is given, and nothing behind the second
 //   attach 3, detach 3, request 3 at 0: 12 34 .., reply at 0: 00 00 .., tick at 0, link lost
 //   cursor                          the cursor, the clock and the attached clients
 //   split: 12 34 ..                 the first frame of a run
 //   read: version=1/..              a settings text, with '/' for LF
-//   write timeout 99 join 1 tags 2 sign 1 0 ttl 500 0
+//   write timeout 99 join 1 tags 2 sign 1 0 ttl 500 0 strict 1 0
 //                                   a settings text from a value as of fresh
 // Behind a comma may stand lengths other than the usual ones: "out 259" and "list 15" for the lent buffers, "size 261" for the frame, which
 // is filled up with zeros.
@@ -49,6 +49,7 @@ fn document_value() -> Settings
         width,
         sign: [0u16; numbers::MOST_TAGS],
         ttl: [0u16; numbers::MOST_TAGS],
+        strict: [0u16; numbers::MOST_TAGS],
     }
 }
 
@@ -59,7 +60,7 @@ fn short_number(call: &[u8], k: usize, other: u32) -> u32
     (number(field(call, b' ', k), other as u64) % 4294967296) as u32
 }
 
-// The k-th word of a call as a tag's sign or ttl; 0 where there is none.
+// The k-th word of a call as a tag's sign or ttl, or whether it is strict; 0 where there is none.
 fn tag_number(call: &[u8], k: usize) -> u16
     ensures { λ r. ⌜ r ≡ tagNumber (now (call .entry)) k ⌝ }
 {
@@ -78,6 +79,8 @@ pub fn value_in(call: &[u8]) -> Settings
     s.sign[1] = tag_number(call, 9);
     s.ttl[0] = tag_number(call, 11);
     s.ttl[1] = tag_number(call, 12);
+    s.strict[0] = tag_number(call, 14);
+    s.strict[1] = tag_number(call, 15);
     s
 }
 

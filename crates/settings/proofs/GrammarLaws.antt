@@ -16,7 +16,7 @@ use Rattle.settings.specs.Lines.{Numbered, lineOf, decimalOf}
 use Rattle.settings.specs.Grammar.{Tag, Value, Line, Version, Read, headNumbers, tagNumbers, tagFrom, valueFrom, ascends, headLines, tagLines, versionOf, versions, newest, versionKey, versionIn, numbersIn, textOfLines, textIn, allRight, tagsRight, validIn, valid, toldByVersion, readLines, readText}
 use Rattle.settings.specs.Grammar.Read.{got, wrong}
 use Rattle.laws.proofs.ListLaws.{tab-getD}
-use Rattle.settings.specs.Plain.{Versioned, uncached, unsigned, full}
+use Rattle.settings.specs.Plain.{Versioned, lenient, uncached, unsigned, full}
 use Rattle.settings.proofs.LineLaws.{line-length}
 use Rattle.settings.proofs.RowLaws.{told, lines-only, lines-wrong, tagsText, tags-only, tags-wrong}
 use Rattle.settings.proofs.VersionLaws.{Fit, fit, by-number, fits, found, few-tags, total, lines-length, tags-length, head-long, tagBytes, version-long, first-total, Went, went, back}
@@ -28,7 +28,7 @@ pub use Rattle.settings.proofs.LineLaws.{line-back, line-only}
 pub read-told : (x : Version) (v : Value) → List·Memᴰ x versions → validIn x v ≡ true → readText (textIn x v) ≡ got (toldByVersion x v) []
 read-told x v m r = back x v (fits x m) (found x m) r
 
--- The newest tells everything, version 2 all but the ttl, and version 1 neither sign nor ttl: they are read as 0.
+-- The newest tells everything, version 3 all but whether a tag is strict, version 2 not its ttl either, and version 1 not its sign either: they are read as 0.
 pub newest-tells : (v : Value) → toldByVersion newest v ≡ v
 unfolding toldByVersion
 newest-tells v = ap (λ (ts : List Tag). record { timeout = v .timeout; join = v .join; tags = ts }) (all (v .tags))
@@ -36,6 +36,10 @@ newest-tells v = ap (λ (ts : List Tag). record { timeout = v .timeout; join = v
     all : (ts : List Tag) → map (told (newest .tag)) ts ≡ ts
     all [] = refl
     all (t ∷ ts) = ap (t ∷_) (all ts)
+
+pub version-3-tells : (v : Value) → toldByVersion (versionOf 3) v ≡ record { timeout = v .timeout; join = v .join; tags = map lenient (v .tags) }
+unfolding toldByVersion
+version-3-tells v = refl
 
 pub version-2-tells : (v : Value) → toldByVersion (versionOf 2) v ≡ record { timeout = v .timeout; join = v .join; tags = map uncached (v .tags) }
 unfolding toldByVersion
@@ -113,7 +117,7 @@ Steady [] = Unit {0}
 Steady (l ∷ ls) = ((prior prior′ own : List ℕ) (n : ℕ) → Alike prior prior′ → l .right prior′ own n ≡ l .right prior own n) × Steady ls
 
 steady : Steady tagLines
-steady = (λ prior prior′ own n a. rw (a n), (λ prior prior′ own n a. refl, (λ prior prior′ own n a. refl, (λ prior prior′ own n a. refl, tt))))
+steady = (λ prior prior′ own n a. rw (a n), (λ prior prior′ own n a. refl, (λ prior prior′ own n a. refl, (λ prior prior′ own n a. refl, (λ prior prior′ own n a. refl, tt)))))
 
 -- 0 is right for every line that a version brought
 abbrev Optional : List Line → Type 0
@@ -121,7 +125,7 @@ Optional [] = Unit {0}
 Optional (l ∷ ls) = ((prior own : List ℕ) → l .right prior own 0 ≡ true) × Optional ls
 
 optional : Optional (drop 2 tagLines)
-optional = (λ prior own. refl, (λ prior own. refl, tt))
+optional = (λ prior own. refl, (λ prior own. refl, (λ prior own. refl, tt)))
 
 without-first : (k : ℕ) (ls : List Line) → Optional ls → Optional (drop k ls)
 without-first zero ls z = z
@@ -154,7 +158,8 @@ told-numbers (suc zero) t u = refl
 told-numbers (suc (suc zero)) t u = refl
 told-numbers (suc (suc (suc zero))) t u = refl
 told-numbers (suc (suc (suc (suc zero)))) t u = refl
-told-numbers (suc (suc (suc (suc (suc k))))) t u = absurd (omega arith)
+told-numbers (suc (suc (suc (suc (suc zero))))) t u = refl
+told-numbers (suc (suc (suc (suc (suc (suc k)))))) t u = absurd (omega arith)
 
 told-alike : (k : ℕ) (t : Tag) → 2 ≤ k → Alike (take k (tagNumbers t)) (tagNumbers (tagFrom (take k (tagNumbers t))))
 unfolding ascends
@@ -227,7 +232,7 @@ wrong-lines t k h = go (went t) h
         inr (y, x, w, omega arith, omega (arith, f .heads))
     go (whole y x ns q ts w a b) e = never (cc)
 
--- So it has a number from 1 on, at most 517 in version 1, 773 in version 2 and 1,029 in version 3.
+-- So it has a number from 1 on, at most 517 in version 1, 773 in version 2, 1,029 in version 3 and 1,285 in version 4.
 pub wrong-most : (t : List ℕ) (k : ℕ) → readText t ≡ wrong k → (1 ≤ k) × (k ≤ 5 + length tagLines * mostTags)
 wrong-most t k h =
     ⊎-elim
@@ -237,7 +242,7 @@ wrong-most t k h =
     omega (arith, w .3, w .4, mul-le-mul-right mostTags (f .tags)))
     (wrong-lines t k h)
 
--- The lines before the tags, with the version line, have at most 40 bytes; a tag's lines have 20 in version 1, 27 in version 2 and 37 in version 3.
+-- The lines before the tags, with the version line, have at most 40 bytes; a tag's lines have 20 in version 1, 27 in version 2, 37 in version 3 and 46 in version 4.
 text-length : (n : ℕ) (v : Value) → n < 10 → validIn (versionOf n) v ≡ true → (length (textIn (versionOf n) v) ≤ 40 + length (v .tags) * total (take (suc n) tagBytes)) × (length (v .tags) ≤ mostTags)
 unfolding textIn validIn total
 text-length n v l r =
@@ -247,7 +252,7 @@ text-length n v l r =
     let tags = tags-length (versionOf n .tag) (take (suc n) tagBytes) (version-long n) (v .tags) [] (and-right (allRight headLines [] [] (headNumbers v)) _ r) in
     (simp length-append (omega arith), few-tags (headNumbers v) heads)
 
--- The text of a valid value has at most 5,160 bytes in version 1, 6,952 in version 2 and 9,512 in version 3.
+-- The text of a valid value has at most 5,160 bytes in version 1, 6,952 in version 2, 9,512 in version 3 and 11,816 in version 4.
 pub longest-1 : (v : Value) → validIn (versionOf 1) v ≡ true → length (textIn (versionOf 1) v) ≤ 5160
 unfolding total
 longest-1 v r = let l = text-length 1 v (omega arith) r in omega (arith, l .0, l .1)
@@ -256,9 +261,13 @@ pub longest-2 : (v : Value) → validIn (versionOf 2) v ≡ true → length (tex
 unfolding total
 longest-2 v r = let l = text-length 2 v (omega arith) r in omega (arith, l .0, l .1)
 
-pub longest-3 : (v : Value) → valid v ≡ true → length (textIn newest v) ≤ mostText
+pub longest-3 : (v : Value) → validIn (versionOf 3) v ≡ true → length (textIn (versionOf 3) v) ≤ 9512
 unfolding total
 longest-3 v r = let l = text-length 3 v (omega arith) r in omega (arith, l .0, l .1)
+
+pub longest-4 : (v : Value) → valid v ≡ true → length (textIn newest v) ≤ mostText
+unfolding total
+longest-4 v r = let l = text-length 4 v (omega arith) r in omega (arith, l .0, l .1)
 
 -- No right text is longer.
 pub longest : (x : Version) → List·Memᴰ x versions → (v : Value) → validIn x v ≡ true → length (textIn x v) ≤ mostText
@@ -274,6 +283,6 @@ pub full-valid : valid full ≡ true
 unfolding full validIn allRight tagsRight ascends tab
 full-valid = refl
 
-pub full-longest : (length (textIn (versionOf 1) full) ≡ 5160) × (length (textIn (versionOf 2) full) ≡ 6952) × (length (textIn newest full) ≡ mostText)
+pub full-longest : (length (textIn (versionOf 1) full) ≡ 5160) × (length (textIn (versionOf 2) full) ≡ 6952) × (length (textIn (versionOf 3) full) ≡ 9512) × (length (textIn newest full) ≡ mostText)
 unfolding full textIn textOfLines lineOf decimalOf flatMap tab
-full-longest = (refl, refl, refl)
+full-longest = (refl, refl, refl, refl)

@@ -6,6 +6,7 @@ pub mod GrammarLaws
 pub mod ValueLaws
 pub mod ValidLaws
 pub mod TagLaws
+pub mod MarkLaws
 pub mod PlainLines
 pub mod PlaceLaws
 pub mod ReadsLaws

@@ -12,9 +12,9 @@ use lib.Seq.{getD-at, getD-append-add}
 use lib.Dec.{ltb}
 use borrow.Author.Tests.{lt-ltb, ltb-true}
 use Rattle.laws.proofs.TestLaws.{holds-and}
-use Rattle.settings.specs.Grammar.{Line, lastRegister, ascends, timeoutKey, joinKey, tagsKey, addrKey, widthKey, signKey, ttlKey, rightTimeout, rightJoin, rightTags, rightAddr, rightWidth, rightSign, rightTtl, headLines, tagLines}
+use Rattle.settings.specs.Grammar.{Line, lastRegister, ascends, timeoutKey, joinKey, tagsKey, addrKey, widthKey, signKey, ttlKey, strictKey, rightTimeout, rightJoin, rightTags, rightAddr, rightWidth, rightSign, rightTtl, rightStrict, headLines, tagLines}
 use Rattle.settings.specs.Plain.{Above, FreeFrom, Right, AllLines}
-use Rattle.settings.proofs.ValidLaws.{timeout-exactly, join-exactly, tags-exactly, Widths, width-exactly, Signs, sign-exactly, ttl-exactly, above-exactly}
+use Rattle.settings.proofs.ValidLaws.{timeout-exactly, join-exactly, tags-exactly, Widths, width-exactly, Signs, sign-exactly, ttl-exactly, strict-exactly, above-exactly}
 use Rattle.settings.proofs.PlainLines.{keys, keyAt, InTag, tag-follows}
 
 -- the line l is the next one below these numbers, and its rule is the plain one
@@ -177,6 +177,12 @@ module _ (v t j m : ℕ) where
       said : Right (all (start ++ own)) ttlKey n → n ≤ 60000
       said (Right.ttl h l q e w) = w
 
+  strict-rule : {i : ℕ} {prior start own : List ℕ} → Inside i 4 prior start own → (n : ℕ) → (rightStrict n ≡ true) ↔ Right (all (start ++ own)) strictKey n
+  strict-rule {i} {prior} {start} {own} p n = (λ e. Right.strict {ns = all (start ++ own)} i (p .within) (p .line) (inside p .long) (strict-exactly n .0 e), λ g. strict-exactly n .1 (said g))
+    where
+      said : Right (all (start ++ own)) strictKey n → n ≤ 1
+      said (Right.strict h l q e w) = w
+
   -- the line s of a tag: its key, its rule, and a width that stays one
   record Step (s : ℕ) (l : Line) : Type 0 where
     key : l .key ≡ getD keys (4 + s) []
@@ -194,7 +200,10 @@ module _ (v t j m : ℕ) where
       record { key = refl; rule = width-rule; told = λ {own = own} p n g. width-told own (p .count) g },
       (
         record { key = refl; rule = sign-rule; told = λ {own = own} p n g. told-on own n (omega (arith, p .count)) (p .told) },
-        (record { key = refl; rule = ttl-rule; told = λ {own = own} p n g. told-on own n (omega (arith, p .count)) (p .told) }, tt),
+        (
+          record { key = refl; rule = ttl-rule; told = λ {own = own} p n g. told-on own n (omega (arith, p .count)) (p .told) },
+          (record { key = refl; rule = strict-rule; told = λ {own = own} p n g. told-on own n (omega (arith, p .count)) (p .told) }, tt),
+        ),
       ),
     ),
   )

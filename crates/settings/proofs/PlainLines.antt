@@ -12,7 +12,7 @@ use lib.ListN.{length, getD}
 use lib.Dec.{eqb, ltb}
 use borrow.Author.Tests.{le-ltb, ne-eqb, eqb-false, not-true}
 use Rattle.settings.specs.Lines.{Numbered, isDigit, trailing, plain, numberFrom, lineIn}
-use Rattle.settings.specs.Grammar.{versionKey, timeoutKey, joinKey, tagsKey, addrKey, widthKey, signKey, ttlKey, tagLines}
+use Rattle.settings.specs.Grammar.{versionKey, timeoutKey, joinKey, tagsKey, addrKey, widthKey, signKey, ttlKey, strictKey, tagLines}
 use Rattle.settings.specs.Plain.{Decimal, IsLine, linesOfTag, Right, Next, Lines, AllLines, numbered}
 use Rattle.settings.proofs.VersionLaws.{Listed}
 use Rattle.settings.proofs.LineLaws.{digit-of, digit-range, digit-first, digits-then, number-then, number-read, line-read, line-parts, digits-back}
@@ -85,7 +85,7 @@ line-exactly key t n r = (there, λ w. here (w .0) (w .1) (w .2))
 -- which line comes next, by the numbers above: the place among the lines before the tags, or behind them that among the lines of a tag
 
 abbrev pub keys : List (List ℕ)
-keys = versionKey ∷ timeoutKey ∷ joinKey ∷ tagsKey ∷ addrKey ∷ widthKey ∷ signKey ∷ ttlKey ∷ []
+keys = versionKey ∷ timeoutKey ∷ joinKey ∷ tagsKey ∷ addrKey ∷ widthKey ∷ signKey ∷ ttlKey ∷ strictKey ∷ []
 
 unfoldable pub keyAt : List ℕ → List ℕ
 keyAt ns = getD keys (cond (ltb (length ns) 4) (length ns) (4 + (length ns - 4) % linesOfTag ns)) []
@@ -122,6 +122,7 @@ follows k (Right.addr {ns} i l e s f) = tag-follows ns i 0 (record { within = l;
 follows k (Right.width {ns} i l e r) = tag-follows ns i 1 (record { within = l; line = k (omega arith); long = e })
 follows k (Right.sign {ns} i l v e r) = tag-follows ns i 2 (record { within = l; line = omega arith; long = e })
 follows k (Right.ttl {ns} i l v e r) = tag-follows ns i 3 (record { within = l; line = omega arith; long = e })
+follows k (Right.strict {ns} i l v e r) = tag-follows ns i 4 (record { within = l; line = omega arith; long = e })
 
 -- the first line's number is a version, and a version is known below it
 pub listed-bounds : {n : ℕ} → Listed n → (1 ≤ n) × (n < length tagLines)
@@ -133,6 +134,7 @@ first-line (Right.addr i l e s f) = absurd (omega arith)
 first-line (Right.width i l e r) = absurd (omega arith)
 first-line (Right.sign i l v e r) = absurd (omega arith)
 first-line (Right.ttl i l v e r) = absurd (omega arith)
+first-line (Right.strict i l v e r) = absurd (omega arith)
 
 next-known : (ns : List ℕ) {key : List ℕ} {n : ℕ} → Known ns → Right ns key n → Known (ns ++ (n ∷ []))
 next-known [] k g = λ h. omega (arith, listed-bounds (first-line g) .0)

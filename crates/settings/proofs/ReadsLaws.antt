@@ -68,6 +68,8 @@ reads v t j m heads ms ts least most e g a =
       signed = λ z i d l. line i 2 (4 + i * (v + 1) + 2) d l (omega arith) (omega arith);
       uncached = λ z i d l. at i d l .none 3 (omega arith);
       cached = λ z i d l. line i 3 (4 + i * (v + 1) + 3) d l (omega arith) (omega arith);
+      lenient = λ z i d l. at i d l .none 4 (omega arith);
+      strict = λ z i d l. line i 4 (4 + i * (v + 1) + 4) d l (omega arith) (omega arith);
     }
   where
     many : length ts ≡ m
@@ -98,8 +100,15 @@ reads-one {ns} {v} {w} least a b =
         (λ (h : 3 ≤ getD ns 0 0). a .cached h i blank l ∙ sym (b .cached h i blank l))
         (lt-or (getD ns 0 0) 3)
 
+    marks : (i : ℕ) → i < getD ns 3 0 → getD (v .tags) i blank .strict ≡ getD (w .tags) i blank .strict
+    marks i l =
+        ⊎-elim
+        (λ (h : getD ns 0 0 < 4). a .lenient h i blank l ∙ sym (b .lenient h i blank l))
+        (λ (h : 4 ≤ getD ns 0 0). a .strict h i blank l ∙ sym (b .strict h i blank l))
+        (lt-or (getD ns 0 0) 4)
+
     same : (i : ℕ) → i < getD ns 3 0 → getD (v .tags) i blank ≡ getD (w .tags) i blank
-    same i l = tag-ext _ _ (a .address i blank l ∙ sym (b .address i blank l)) (a .width i blank l ∙ sym (b .width i blank l)) (signs i l) (ttls i l)
+    same i l = tag-ext _ _ (a .address i blank l ∙ sym (b .address i blank l)) (a .width i blank l ∙ sym (b .width i blank l)) (signs i l) (ttls i l) (marks i l)
 
 -- The boundary's struct of that value has them place by place, and 0 in the places that no tag uses.
 pub reads-to : {ns : List ℕ} {v : Value} → length (v .tags) ≤ 256 → Reads ns v → ReadsTo ns (settingsOf v)
@@ -115,17 +124,21 @@ reads-to {ns} {v} few a =
       signed = λ z i l. column-at (λ t. t .sign) (v .tags) i (omega (arith, a .many)) ∙ a .signed z i blank l;
       uncached = λ z i l. column-at (λ t. t .ttl) (v .tags) i (omega (arith, a .many)) ∙ a .uncached z i blank l;
       cached = λ z i l. column-at (λ t. t .ttl) (v .tags) i (omega (arith, a .many)) ∙ a .cached z i blank l;
+      lenient = λ z i l. column-at (λ t. t .strict) (v .tags) i (omega (arith, a .many)) ∙ a .lenient z i blank l;
+      strict = λ z i l. column-at (λ t. t .strict) (v .tags) i (omega (arith, a .many)) ∙ a .strict z i blank l;
       unused = λ i l.
           let beyond : length (v .tags) ≤ i = omega (arith, a .many) in (
             column-unused (λ t. t .address) (v .tags) i beyond,
             column-unused (λ t. t .width) (v .tags) i beyond,
             column-unused (λ t. t .sign) (v .tags) i beyond,
             column-unused (λ t. t .ttl) (v .tags) i beyond,
+            column-unused (λ t. t .strict) (v .tags) i beyond,
           );
       places = (
         column-places (λ t. t .address) (v .tags) few,
         column-places (λ t. t .width) (v .tags) few,
         column-places (λ t. t .sign) (v .tags) few,
         column-places (λ t. t .ttl) (v .tags) few,
+        column-places (λ t. t .strict) (v .tags) few,
       );
     }

@@ -174,7 +174,8 @@ numbers-back (a ∷ []) c = refl
 numbers-back (a ∷ b ∷ []) c = refl
 numbers-back (a ∷ b ∷ d ∷ []) c = refl
 numbers-back (a ∷ b ∷ d ∷ e ∷ []) c = refl
-numbers-back (a ∷ b ∷ d ∷ e ∷ f ∷ ns) c = absurd (omega arith)
+numbers-back (a ∷ b ∷ d ∷ e ∷ f ∷ []) c = refl
+numbers-back (a ∷ b ∷ d ∷ e ∷ f ∷ g ∷ ns) c = absurd (omega arith)
 
 pub tags-back : (at : ℕ) (ls : List Line) (prior : List ℕ) (ts : List Tag) (rest : List ℕ) → Bounded ls → Few ls → tagsRight ls prior ts ≡ true → readTags (length ts) at ls prior (tagsText ls ts ++ rest) ≡ got (map (told ls) ts) rest
 unfolding readTags tagsRight flatMap onto

@@ -1,30 +1,27 @@
 -- Tag words: a word gives its tag back, the tags of a valid value ascend, and what a valid value's numbers are bounded by.
 -- Assumes nothing.
-use Prim.Native.Nat.{ℕ, zero, suc, _+_, _/_, _%_, _≤_, _<_}
-use mathlib.Core.Path.{_≡_, refl, sym, _∙_}
+use Prim.Native.Nat.{ℕ, zero, suc, _+_, _*_, _/_, _%_, _≤_, _<_}
+use mathlib.Core.Path.{_≡_, refl, ap, sym, _∙_}
 use mathlib.Core.Logic.{⊎-elim, inl, inr}
-use mathlib.Core.Bool.{true, cond, _&&_}
+use mathlib.Core.Bool.{Bool, true, false, cond, _&&_}
 use mathlib.Core.List.{List, [], _∷_, _++_, map, map-append}
-use native.Mathlib.Nat.{mod-eq-of-lt}
 use native.Mathlib.Omega.{arith}
-use lib.ListN.{length, getD, set, take, replicate, length-map}
+use lib.ListN.{length, getD, set, take, length-map}
 use lib.Seq.{take-at}
 use lib.Dec.{eqb}
 use Rattle.numbers.specs.Numbers.{mostTags, addresses}
-use Rattle.laws.specs.Lists.{tab}
 use Rattle.laws.proofs.Choice.{true-or, eq-or, and-right}
-use Rattle.laws.proofs.ListLaws.{tab-more, length-tab, set-padded}
+use Rattle.laws.proofs.ListLaws.{set-padded}
 use Rattle.bcd.specs.declared.Kind.{Kind}
 use Rattle.bcd.specs.declared.Kind.the-variants.{Width16, Width32, Signed16}
 use Rattle.bcd.specs.Bcd.{registers}
 use Rattle.bcd.proofs.Words.{registers-least}
-use Rattle.settings.specs.declared.Settings.{Settings}
 use Rattle.settings.specs.Grammar.{Tag, Value, newest, tagNumbers, lastRegister, rightTimeout, rightJoin, rightTags, tagsRight, valid}
 use Rattle.settings.specs.Plain.{RightTag, Wide, Bounds}
 use Rattle.settings.specs.Values.{padded}
-use Rattle.settings.specs.TagWords.{kindOf, widthOf, signOf, kindNumber, kindFrom, tagWord, tagOfKind, tagOf, lastOf, Ascending}
-use Rattle.settings.proofs.ValueLaws.{tagAt, tag-ext, fromOf, valid-parts}
-use Rattle.settings.proofs.ValidLaws.{first-exactly, valid-exactly}
+use Rattle.settings.specs.TagWords.{kindOf, widthOf, signOf, kindNumber, kindFrom, tagWord, tagOfKind, tagOf, strictMark, someStrict, tagWords, lastOf, Ascending}
+use Rattle.settings.proofs.ValueLaws.{tag-ext, fromOf, valid-parts}
+use Rattle.settings.proofs.ValidLaws.{Placed, first-exactly, valid-exactly}
 
 -- a kind's number gives the kind back
 kind-back : (kind : Kind) → kindFrom (kindNumber kind) ≡ kind
@@ -39,38 +36,56 @@ kind-low Width16 = omega arith
 kind-low Width32 = omega arith
 kind-low Signed16 = omega arith
 
--- a tag is the one of its address, its kind and its ttl
-tag-back : (t : Tag) → Wide t → tagOfKind (t .address) (kindOf t) (t .ttl) ≡ t
+-- a tag is the one of its address, its kind, its ttl and whether it is strict
+tag-back : (t : Tag) → Wide t → tagOfKind (t .address) (kindOf t) (t .ttl) (t .strict) ≡ t
 unfolding widthOf signOf kindOf
-tag-back t (inl e) = tag-ext (tagOfKind (t .address) (kindOf t) (t .ttl)) t refl (rw (e .0, e .1)) (rw (e .0, e .1)) refl
-tag-back t (inr (inl e)) = tag-ext (tagOfKind (t .address) (kindOf t) (t .ttl)) t refl (rw (e .0)) (rw (e .0) (sym (e .1))) refl
-tag-back t (inr (inr e)) = tag-ext (tagOfKind (t .address) (kindOf t) (t .ttl)) t refl (rw (e .0, e .1)) (rw (e .0, e .1)) refl
+tag-back t (inl e) = tag-ext (tagOfKind (t .address) (kindOf t) (t .ttl) (t .strict)) t refl (rw (e .0, e .1)) (rw (e .0, e .1)) refl refl
+tag-back t (inr (inl e)) = tag-ext (tagOfKind (t .address) (kindOf t) (t .ttl) (t .strict)) t refl (rw (e .0)) (rw (e .0) (sym (e .1))) refl refl
+tag-back t (inr (inr e)) = tag-ext (tagOfKind (t .address) (kindOf t) (t .ttl) (t .strict)) t refl (rw (e .0, e .1)) (rw (e .0, e .1)) refl refl
 
 -- a tag of a kind's width and sign has that kind
-pub kind-of-tag : (kind : Kind) (address ttl : ℕ) → kindOf (tagOfKind address kind ttl) ≡ kind
+pub kind-of-tag : (kind : Kind) (address ttl strict : ℕ) → kindOf (tagOfKind address kind ttl strict) ≡ kind
 unfolding widthOf signOf kindOf
-kind-of-tag Width16 address ttl = refl
-kind-of-tag Width32 address ttl = refl
-kind-of-tag Signed16 address ttl = refl
+kind-of-tag Width16 address ttl strict = refl
+kind-of-tag Width32 address ttl strict = refl
+kind-of-tag Signed16 address ttl strict = refl
 
--- what a tag's word is made of: the address, above it in 16 bits the kind's number, of which 8 bits are enough, and above these the ttl
-pub word-parts : (t : Tag) → t .address < addresses → (tagWord t % 65536 ≡ t .address) × (tagWord t / 65536 % 65536 ≡ kindNumber (kindOf t)) × (tagWord t / 4294967296 ≡ t .ttl)
+-- the numbers of a tag fit their bits of a word
+pub record Fitting (t : Tag) : Type 0 where
+  pub address : t .address < addresses
+  pub ttl : t .ttl < 65536
+  pub strict : t .strict < 2
+
+-- what a tag's word is made of, with anything above it: the address, above it in 16 bits the kind's number, of which 8 bits are enough, above these the ttl, and above it one bit for strict
+pub word-parts : (t : Tag) (m : ℕ) → Fitting t
+    → ((tagWord t + strictMark * m) % 65536 ≡ t .address) × ((tagWord t + strictMark * m) / 65536 % 65536 ≡ kindNumber (kindOf t)) × ((tagWord t + strictMark * m) / 4294967296 % 65536 ≡ t .ttl)
+    × ((tagWord t + strictMark * m) / 281474976710656 % 2 ≡ t .strict)
 unfolding tagWord
-word-parts t l = let n = kind-low (kindOf t) in (omega arith, omega arith, omega arith)
-
--- a tag's word gives the tag back
-pub word-back : (t : Tag) → t .address < addresses → t .ttl < 65536 → Wide t → tagOf (tagWord t) ≡ t
-unfolding tagOf
-word-back t l u w =
+word-parts t m f =
     let n = kind-low (kindOf t) in
-    let p = word-parts t l in
-    let k : tagWord t / addresses % 256 ≡ kindNumber (kindOf t) = omega (arith, p .1) in
-    rw (p .0, k, kind-back (kindOf t), p .2, mod-eq-of-lt u) (tag-back t w)
+    (omega (arith, f .address), omega (arith, f .address), omega (arith, f .address, f .ttl), omega (arith, f .address, f .ttl, f .strict))
+
+-- a tag's word gives the tag back, whatever stands above it
+word-above : (t : Tag) (m : ℕ) → Fitting t → Wide t → tagOf (tagWord t + strictMark * m) ≡ t
+unfolding tagOf
+word-above t m f w =
+    let n = kind-low (kindOf t) in
+    let p = word-parts t m f in
+    let k : (tagWord t + strictMark * m) / addresses % 256 ≡ kindNumber (kindOf t) = omega (arith, p .1) in
+    rw (p .0, k, kind-back (kindOf t), p .2, p .3) (tag-back t w)
+
+pub word-back : (t : Tag) → Fitting t → Wide t → tagOf (tagWord t) ≡ t
+word-back t f w = let none : tagWord t + strictMark * 0 ≡ tagWord t = omega arith in rw none at (word-above t 0 f w)
+
+-- so does the word with the mark
+pub marked-back : (t : Tag) (mark : Bool) → Fitting t → Wide t → tagOf (tagWord t + cond mark strictMark 0) ≡ t
+marked-back t true f w = word-above t 1 f w
+marked-back t false f w = word-above t 0 f w
 
 -- the kind of a word's tag is that of the number above the address
 pub kind-of-word : (word : ℕ) → kindOf (tagOf word) ≡ kindFrom (word / addresses % 256)
 unfolding tagOf
-kind-of-word word = kind-of-tag (kindFrom (word / addresses % 256)) (word % addresses) (word / 4294967296 % 65536)
+kind-of-word word = kind-of-tag (kindFrom (word / addresses % 256)) (word % addresses) (word / 4294967296 % 65536) (word / 281474976710656 % 2)
 
 -- how many registers a tag has, by its width
 registers-wide : (t : Tag) → registers (kindOf t) ≡ cond (eqb (t .width) 32) 2 1
@@ -86,21 +101,22 @@ last-register t = rw (registers-wide t) (⊎-elim (λ e. rw e (omega arith)) (λ
 pub address-last : (t : Tag) → t .address ≤ lastOf t
 address-last t = omega (arith, registers-least (kindOf t))
 
--- a right tag has one of the kinds, and ends within the addresses
-right-wide : (t : Tag) → RightTag t → Wide t
-right-wide t (inl r) = ⊎-elim (λ (z : t .sign ≡ 0). inl (r .0, z)) (λ (z : t .sign ≡ 0 → ⊥). inr (inr (r .0, omega arith))) (eq-or (t .sign) 0)
-right-wide t (inr r) = inr (inl (r .0, r .1))
+-- a right tag has one of the kinds, ends within the addresses, and fits its word
+placed-wide : (t : Tag) → Placed t → Wide t
+placed-wide t (inl r) = ⊎-elim (λ (z : t .sign ≡ 0). inl (r .0, z)) (λ (z : t .sign ≡ 0 → ⊥). inr (inr (r .0, omega arith))) (eq-or (t .sign) 0)
+placed-wide t (inr r) = inr (inl (r .0, r .1))
 
-right-ends : (t : Tag) → RightTag t → lastOf t < addresses
-right-ends t (inl r) = rw (registers-wide t, r .0) (omega arith)
-right-ends t (inr r) = rw (registers-wide t, r .0) (omega arith)
+placed-ends : (t : Tag) → Placed t → lastOf t < addresses
+placed-ends t (inl r) = rw (registers-wide t, r .0) (omega arith)
+placed-ends t (inr r) = rw (registers-wide t, r .0) (omega arith)
 
-right-lasts : (t : Tag) → RightTag t → t .ttl < 65536
-right-lasts t (inl r) = omega (arith, r .3)
-right-lasts t (inr r) = omega (arith, r .3)
+right-fits : (t : Tag) → RightTag t → Fitting t
+right-fits t r = record { address = let l = placed-ends t (r .0) in omega (arith, address-last t); ttl = omega (arith, r .1); strict = omega (arith, r .2) }
 
-right-low : (t : Tag) → RightTag t → t .address < addresses
-right-low t r = let l = right-ends t r in omega (arith, address-last t)
+-- and has no bit from the mark on
+pub right-unmarked : (t : Tag) → RightTag t → tagWord t < strictMark
+unfolding tagWord
+right-unmarked t r = let f = right-fits t r in omega (arith, kind-low (kindOf t), f .address, f .ttl, f .strict)
 
 right-tags : (v : Value) → valid v ≡ true → tagsRight (newest .tag) [] (v .tags) ≡ true
 right-tags v h = and-right (rightTimeout (v .timeout) && (rightJoin (v .join) && rightTags (length (v .tags)))) _ (sym (valid-parts v) ∙ h)
@@ -111,7 +127,7 @@ unfolding Ascending fromOf
 ascending prior [] r = tt
 ascending prior (t ∷ ts) r =
     let f = first-exactly prior t ts .0 r in
-    (f .0 .1, right-ends t (f .0 .0), rw (last-register t) at (ascending (tagNumbers t) ts (f .1)))
+    (f .0 .1, placed-ends t (f .0 .0 .0), rw (last-register t) at (ascending (tagNumbers t) ts (f .1)))
 
 -- the tags of a valid value ascend
 pub valid-ascends : (v : Value) → valid v ≡ true → Ascending 0 (v .tags)
@@ -140,15 +156,27 @@ right-back : (prior : List ℕ) (ts : List Tag) → tagsRight (newest .tag) prio
 right-back prior [] r = refl
 right-back prior (t ∷ ts) r =
     let f = first-exactly prior t ts .0 r in
-    cc (word-back t (right-low t (f .0 .0)) (right-lasts t (f .0 .0)) (right-wide t (f .0 .0)), right-back (tagNumbers t) ts (f .1))
+    cc (word-back t (right-fits t (f .0 .0)) (placed-wide t (f .0 .0 .0)), right-back (tagNumbers t) ts (f .1))
+
+marked-tags : (ts : List Tag) → tagsRight (newest .tag) [] ts ≡ true → map tagOf (tagWords ts) ≡ ts
+unfolding tagWords
+marked-tags [] r = refl
+marked-tags (t ∷ ts) r =
+    let f = first-exactly [] t ts .0 r in
+    cc (marked-back t (someStrict (t ∷ ts)) (right-fits t (f .0 .0)) (placed-wide t (f .0 .0 .0)), right-back (tagNumbers t) ts (f .1))
 
 -- the words of a valid value's tags give the tags back
-pub words-back : (v : Value) → valid v ≡ true → map tagOf (map tagWord (v .tags)) ≡ v .tags
-words-back v h = right-back [] (v .tags) (right-tags v h)
+pub words-back : (v : Value) → valid v ≡ true → map tagOf (tagWords (v .tags)) ≡ v .tags
+words-back v h = marked-tags (v .tags) (right-tags v h)
+
+pub words-long : (ts : List Tag) → length (tagWords ts) ≡ length ts
+unfolding tagWords
+words-long [] = refl
+words-long (t ∷ ts) = ap suc (length-map ts tagWord)
 
 -- the words that the state keeps, padded, give the tags of a valid value back
-pub words-kept : (v : Value) → valid v ≡ true → map tagOf (take (length (v .tags)) (padded (map tagWord (v .tags)))) ≡ v .tags
-words-kept v h = rw (take-at (map tagWord (v .tags)) _ (length (v .tags)) (length-map (v .tags) tagWord)) (words-back v h)
+pub words-kept : (v : Value) → valid v ≡ true → map tagOf (take (length (v .tags)) (padded (tagWords (v .tags)))) ≡ v .tags
+words-kept v h = rw (take-at (tagWords (v .tags)) _ (length (v .tags)) (words-long (v .tags))) (words-back v h)
 
 -- a valid value is within the bounds
 pub valid-bounds : (v : Value) → valid v ≡ true → Bounds v
@@ -159,7 +187,7 @@ valid-bounds v h =
       most = p .most;
       joins = ⊎-elim (λ (e : v .join ≡ 0). omega arith) (λ (e : v .join ≡ 1). omega arith) (p .joins);
       few = p .few;
-      wide = λ i d l. right-wide (getD (v .tags) i d) (p .each i d l);
+      wide = λ i d l. placed-wide (getD (v .tags) i d) (p .each i d l .0);
     }
 
 -- places filled one after the other, and 0 beyond
@@ -167,24 +195,3 @@ pub filled-more : {A : Type 0} (f : A → ℕ) (xs : List A) (x : A) (k v : ℕ)
 filled-more f xs x k v e h q =
     let n : length (map f xs) ≡ k = length-map xs f ∙ e in
     rw (q, map-append f xs (x ∷ []), ← n) (set-padded 0 (f x) (map f xs) mostTags (omega arith))
-
--- the words of the first k places
-pub record Worded (s : Settings) (words : List ℕ) (k : ℕ) : Type 0 where
-  pub within : k ≤ s .tags
-  pub few : s .tags ≤ mostTags
-  pub filled : words ≡ padded (map tagWord (tab k (tagAt s)))
-
-pub worded-none : (s : Settings) → s .tags ≤ mostTags → Worded s (replicate mostTags 0) 0
-unfolding tab
-worded-none s h = record { within = omega arith; few = h; filled = refl }
-
-pub worded-more : {s : Settings} {words : List ℕ} {k v : ℕ} → k < s .tags → Worded s words k → v ≡ tagWord (tagAt s k) → Worded s (set words k v) (k + 1)
-worded-more {s} {k = k} {v = v} h w e =
-    record {
-      within = omega arith;
-      few = w .few;
-      filled = rw (w .filled, tab-more k (tagAt s)) (filled-more tagWord (tab k (tagAt s)) (tagAt s k) k v (length-tab k (tagAt s)) (omega (arith, w .few)) e);
-    }
-
-pub worded-all : {s : Settings} {words : List ℕ} {k : ℕ} → s .tags ≤ k → Worded s words k → words ≡ padded (map tagWord (tab (s .tags) (tagAt s)))
-worded-all {s} {k = k} h w = let e : k ≡ s .tags = omega (arith, w .within) in w .filled ∙ rw e

@@ -15,7 +15,7 @@ use Rattle.laws.proofs.Choice.{eq-or}
 use Rattle.laws.proofs.ListLaws.{length-tab, getD-tab}
 use Rattle.laws.proofs.TestLaws.{holds-eq, holds-and, holds-or, holds-always}
 use Rattle.settings.specs.declared.Settings.{Settings}
-use Rattle.settings.specs.Grammar.{Tag, Value, newest, tagNumbers, ascends, rightTimeout, rightJoin, rightTags, rightAddr, rightWidth, rightSign, rightTtl, allRight, tagsRight, valid}
+use Rattle.settings.specs.Grammar.{Tag, Value, newest, tagNumbers, ascends, rightTimeout, rightJoin, rightTags, rightAddr, rightWidth, rightSign, rightTtl, rightStrict, allRight, tagsRight, valid}
 use Rattle.settings.specs.Plain.{RightTag, Above, ValidPlainly, tagIn, ValidSettings}
 use Rattle.settings.specs.Values.{valueOf}
 use Rattle.settings.proofs.ValueLaws.{fromOf, ascends-from, valid-parts}
@@ -58,16 +58,22 @@ sign-exactly own n =
 pub ttl-exactly : (n : ℕ) → (rightTtl n ≡ true) ↔ (n ≤ 60000)
 ttl-exactly n = (leb-true n mostTtl, le-leb n mostTtl)
 
--- a tag's lines together: a further line is one more argument here
-tag-plain : (t : Tag) → t .address < addresses → Widths (t .address) (t .width) → Signs (t .width) (t .sign) → t .ttl ≤ 60000 → RightTag t
-tag-plain t l (inl w) (inl s) n = inl (w, omega arith, omega arith, n)
-tag-plain t l (inl w) (inr s) n = inl (w, omega arith, omega arith, n)
-tag-plain t l (inr w) (inl s) n = inr (w .0, s, omega arith, n)
-tag-plain t l (inr w) (inr s) n = absurd (omega arith)
+pub strict-exactly : (n : ℕ) → (rightStrict n ≡ true) ↔ (n ≤ 1)
+strict-exactly n = (leb-true n 1, le-leb n 1)
 
-plain-tag : (t : Tag) → RightTag t → (t .address < addresses) × Widths (t .address) (t .width) × Signs (t .width) (t .sign) × (t .ttl ≤ 60000)
-plain-tag t (inl r) = (omega arith, inl (r .0), ⊎-elim inl (λ (z : t .sign ≡ 0 → ⊥). inr (omega arith, r .0)) (eq-or (t .sign) 0), r .3)
-plain-tag t (inr r) = (omega arith, inr (r .0, omega arith), inl (r .1), r .3)
+-- a tag's lines together: those of its registers, and those that stand for themselves
+abbrev pub Placed : Tag → Type 0
+Placed t = ((t .width ≡ 16) × (t .sign ≤ 1) × (t .address ≤ 65535)) ⊎ ((t .width ≡ 32) × (t .sign ≡ 0) × (t .address ≤ 65534))
+
+tag-plain : (t : Tag) → t .address < addresses → Widths (t .address) (t .width) → Signs (t .width) (t .sign) → Placed t
+tag-plain t l (inl w) (inl s) = inl (w, omega arith, omega arith)
+tag-plain t l (inl w) (inr s) = inl (w, omega arith, omega arith)
+tag-plain t l (inr w) (inl s) = inr (w .0, s, omega arith)
+tag-plain t l (inr w) (inr s) = absurd (omega arith)
+
+plain-tag : (t : Tag) → Placed t → (t .address < addresses) × Widths (t .address) (t .width) × Signs (t .width) (t .sign)
+plain-tag t (inl r) = (omega arith, inl (r .0), ⊎-elim inl (λ (z : t .sign ≡ 0 → ⊥). inr (omega arith, r .0)) (eq-or (t .sign) 0))
+plain-tag t (inr r) = (omega arith, inr (r .0, omega arith), inl (r .1))
 
 -- the rules of a tag's lines hold exactly if the tag is right and lies above the tag before
 pub tag-exactly : (prior : List ℕ) (t : Tag) → (allRight (newest .tag) prior [] (tagNumbers t) ≡ true) ↔ (RightTag t × (fromOf prior ≤ t .address))
@@ -77,8 +83,8 @@ tag-exactly prior t =
     (holds-and (rightAddr prior (t .address)) _ (addr-exactly prior (t .address))
     (holds-and (rightWidth (t .address ∷ []) (t .width)) _ (width-exactly (t .address ∷ []) (t .width))
     (holds-and (rightSign (t .address ∷ t .width ∷ []) (t .sign)) _ (sign-exactly (t .address ∷ t .width ∷ []) (t .sign))
-    (holds-and (rightTtl (t .ttl)) true (ttl-exactly (t .ttl)) holds-always))))
-    (λ x. (tag-plain t (x .0 .0) (x .1 .0) (x .1 .1 .0) (x .1 .1 .1 .0), x .0 .1), λ y. let p = plain-tag t (y .0) in ((p .0, y .1), (p .1, (p .2, (p .3, tt)))))
+    (holds-and (rightTtl (t .ttl)) _ (ttl-exactly (t .ttl)) (holds-and (rightStrict (t .strict)) true (strict-exactly (t .strict)) holds-always)))))
+    (λ x. ((tag-plain t (x .0 .0) (x .1 .0) (x .1 .1 .0), x .1 .1 .1 .0, x .1 .1 .1 .1 .0), x .0 .1), λ y. let p = plain-tag t (y .0 .0) in ((p .0, y .1), (p .1, (p .2, (y .0 .1, (y .0 .2, tt))))))
 
 -- the first of right tags, and the others behind it
 pub first-exactly : (prior : List ℕ) (t : Tag) (ts : List Tag)
@@ -93,7 +99,7 @@ above-exactly a w n (inr e) = rw e (λ h. inr (refl, ltb-true (a + 1) n h), λ u
 
 follows-exactly : (t : Tag) (n : ℕ) → RightTag t → (fromOf (tagNumbers t) ≤ n) ↔ Above (t .address) (t .width) n
 unfolding ascends
-follows-exactly t n r = Iff·trans (Iff·symm (ascends-exactly (tagNumbers t) n)) (above-exactly (t .address) (t .width) n (⊎-map (λ x. x .0) (λ x. x .0) r))
+follows-exactly t n r = Iff·trans (Iff·symm (ascends-exactly (tagNumbers t) n)) (above-exactly (t .address) (t .width) n (⊎-map (λ x. x .0) (λ x. x .0) (r .0)))
 
 -- right tags, place by place
 abbrev Each : List Tag → Type 0

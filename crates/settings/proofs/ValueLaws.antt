@@ -15,17 +15,18 @@ use Rattle.laws.specs.Lists.{tab}
 use Rattle.laws.proofs.Choice.{and-left, and-right}
 use Rattle.laws.proofs.ListLaws.{tab-ext, tab-more, length-tab, tab-getD, getD-map, getD-zeros}
 use Rattle.settings.specs.declared.Settings.{Settings}
-use Rattle.settings.specs.Grammar.{Tag, Value, newest, tagNumbers, lastRegister, ascends, rightTimeout, rightJoin, rightTags, rightWidth, rightSign, rightTtl, allRight, tagsRight, validIn, valid}
+use Rattle.settings.specs.Grammar.{Tag, Value, newest, tagNumbers, lastRegister, ascends, rightTimeout, rightJoin, rightTags, rightWidth, rightSign, rightTtl, rightStrict, allRight, tagsRight, validIn, valid}
 use Rattle.settings.specs.Values.{valueOf, settingsOf, padded, sameTags, same}
 use Rattle.settings.proofs.Settings.Laws.{mir}
 
 -- tags and values are equal where their fields are
-pub tag-ext : (t u : Tag) → t .address ≡ u .address → t .width ≡ u .width → t .sign ≡ u .sign → t .ttl ≡ u .ttl → t ≡ u
-tag-ext t u a w s l =
-    ap (λ (x : ℕ). record { address = x; width = t .width; sign = t .sign; ttl = t .ttl }) a
-    ∙ ap (λ (x : ℕ). record { address = u .address; width = x; sign = t .sign; ttl = t .ttl }) w
-    ∙ ap (λ (x : ℕ). record { address = u .address; width = u .width; sign = x; ttl = t .ttl }) s
-    ∙ ap (λ (x : ℕ). record { address = u .address; width = u .width; sign = u .sign; ttl = x }) l
+pub tag-ext : (t u : Tag) → t .address ≡ u .address → t .width ≡ u .width → t .sign ≡ u .sign → t .ttl ≡ u .ttl → t .strict ≡ u .strict → t ≡ u
+tag-ext t u a w s l m =
+    ap (λ (x : ℕ). record { address = x; width = t .width; sign = t .sign; ttl = t .ttl; strict = t .strict }) a
+    ∙ ap (λ (x : ℕ). record { address = u .address; width = x; sign = t .sign; ttl = t .ttl; strict = t .strict }) w
+    ∙ ap (λ (x : ℕ). record { address = u .address; width = u .width; sign = x; ttl = t .ttl; strict = t .strict }) s
+    ∙ ap (λ (x : ℕ). record { address = u .address; width = u .width; sign = u .sign; ttl = x; strict = t .strict }) l
+    ∙ ap (λ (x : ℕ). record { address = u .address; width = u .width; sign = u .sign; ttl = u .ttl; strict = x }) m
 
 pub value-ext : (v w : Value) → v .timeout ≡ w .timeout → v .join ≡ w .join → v .tags ≡ w .tags → v ≡ w
 value-ext v w t j s =
@@ -34,11 +35,11 @@ value-ext v w t j s =
     ∙ ap (λ (x : List Tag). record { timeout = w .timeout; join = w .join; tags = x }) s
 
 abbrev pub blank : Tag
-blank = record { address = 0; width = 0; sign = 0; ttl = 0 }
+blank = record { address = 0; width = 0; sign = 0; ttl = 0; strict = 0 }
 
 -- the tag at a place of the boundary's struct
 abbrev pub tagAt : Settings → ℕ → Tag
-tagAt s k = record { address = getD (s .addr) k 0; width = getD (s .width) k 0; sign = getD (s .sign) k 0; ttl = getD (s .ttl) k 0 }
+tagAt s k = record { address = getD (s .addr) k 0; width = getD (s .width) k 0; sign = getD (s .sign) k 0; ttl = getD (s .ttl) k 0; strict = getD (s .strict) k 0 }
 
 -- the numbers of the last tag, and those of the tag before where there is none
 unfoldable pub lastOr : List ℕ → List Tag → List ℕ
@@ -69,7 +70,7 @@ right-snoc prior (u ∷ ts) t =
 
 -- the rules of a tag's lines behind its address, and of all of them, given the first address that may follow
 abbrev pub rightKind : Tag → Bool
-rightKind t = rightWidth (t .address ∷ []) (t .width) && (rightSign (t .address ∷ t .width ∷ []) (t .sign) && rightTtl (t .ttl))
+rightKind t = rightWidth (t .address ∷ []) (t .width) && (rightSign (t .address ∷ t .width ∷ []) (t .sign) && (rightTtl (t .ttl) && rightStrict (t .strict)))
 
 pub tag-right : (prior : List ℕ) (t : Tag) → t .address < addresses
     → allRight (newest .tag) prior [] (tagNumbers t) ≡ (leb (fromOf prior) (t .address) && rightKind t)
@@ -134,13 +135,16 @@ tags-equal (t ∷ ts) (u ∷ us) e =
     let g = eqb-true (t .sign) (u .sign) (and-left (eqb (t .sign) (u .sign)) _ q) in
     let p = and-right (eqb (t .sign) (u .sign)) _ q in
     let l = eqb-true (t .ttl) (u .ttl) (and-left (eqb (t .ttl) (u .ttl)) _ p) in
-    let s = tags-equal ts us (and-right (eqb (t .ttl) (u .ttl)) _ p) in
-    cc (tag-ext t u a w g l)
+    let o = and-right (eqb (t .ttl) (u .ttl)) _ p in
+    let m = eqb-true (t .strict) (u .strict) (and-left (eqb (t .strict) (u .strict)) _ o) in
+    let s = tags-equal ts us (and-right (eqb (t .strict) (u .strict)) _ o) in
+    cc (tag-ext t u a w g l m)
 
 tags-same : (ts : List Tag) → sameTags ts ts ≡ true
 unfolding sameTags
 tags-same [] = refl
-tags-same (t ∷ ts) = rw (eq-eqb (t .address) (t .address) refl, eq-eqb (t .width) (t .width) refl, eq-eqb (t .sign) (t .sign) refl, eq-eqb (t .ttl) (t .ttl) refl) (tags-same ts)
+tags-same (t ∷ ts) =
+    rw (eq-eqb (t .address) (t .address) refl, eq-eqb (t .width) (t .width) refl, eq-eqb (t .sign) (t .sign) refl, eq-eqb (t .ttl) (t .ttl) refl, eq-eqb (t .strict) (t .strict) refl) (tags-same ts)
 
 -- two values are the same exactly if they are equal
 pub same-is-equal : (v w : Value) → (same v w ≡ true → v ≡ w) × (v ≡ w → same v w ≡ true)
@@ -172,9 +176,9 @@ unfolding valueOf settingsOf
 value-back v =
     value-ext (valueOf (settingsOf v)) v refl refl
     (tab-ext (length (v .tags)) (tagAt (settingsOf v)) (λ k. getD (v .tags) k blank)
-    (λ k h. tag-ext (tagAt (settingsOf v) k) (getD (v .tags) k blank) (column-at (λ t. t .address) (v .tags) k h) (column-at (λ t. t .width) (v .tags) k h) (column-at (λ t. t .sign) (v .tags) k h) (column-at (λ t. t .ttl) (v .tags) k h))
+    (λ k h. tag-ext (tagAt (settingsOf v) k) (getD (v .tags) k blank) (column-at (λ t. t .address) (v .tags) k h) (column-at (λ t. t .width) (v .tags) k h) (column-at (λ t. t .sign) (v .tags) k h) (column-at (λ t. t .ttl) (v .tags) k h) (column-at (λ t. t .strict) (v .tags) k h))
     ∙ tab-getD blank (v .tags) (length (v .tags)) refl)
 
 -- The boundary's struct has the size in memory that the header says of zb_settings.
-pub settings-size : size mir ≡ 2060
+pub settings-size : size mir ≡ 2572
 settings-size = refl

@@ -14,7 +14,7 @@ use borrow.Author.Tests.{leb-true, ltb-true, eqb-true, ne-eqb}
 use Rattle.numbers.specs.Numbers.{mostTags, leastTimeout, mostTimeout, addresses, mostTtl, newestVersion}
 use Rattle.laws.proofs.Choice.{true-or, and-left, and-right, or-second}
 use Rattle.settings.specs.Lines.{Numbered, lineOf, lineIn}
-use Rattle.settings.specs.Grammar.{Tag, Value, Line, Version, Read, headNumbers, valueFrom, numbersIn, addrKey, widthKey, signKey, ttlKey, rightSign, rightWidth, headLines, tagLines, versionOf, versions, timeoutKey, joinKey, tagsKey, versionKey, versionIn, textOfLines, textIn, allRight, tagsRight, validIn, toldByVersion, readLines, readTags, readIn, readText, readBehind}
+use Rattle.settings.specs.Grammar.{Tag, Value, Line, Version, Read, headNumbers, valueFrom, numbersIn, addrKey, widthKey, signKey, ttlKey, strictKey, rightSign, rightWidth, headLines, tagLines, versionOf, versions, timeoutKey, joinKey, tagsKey, versionKey, versionIn, textOfLines, textIn, allRight, tagsRight, validIn, toldByVersion, readLines, readTags, readIn, readText, readBehind}
 use Rattle.settings.specs.Grammar.Read.{got, wrong}
 use Rattle.settings.specs.Plain.{numbered, Versioned}
 use Rattle.settings.proofs.LineLaws.{line-length, line-back}
@@ -56,7 +56,7 @@ few-tags (a ∷ b ∷ c ∷ ns) t = leb-true c mostTags (and-left (leb c mostTag
 pub tags-bounded : Bounded tagLines
 tags-bounded = (
   λ prior own n t. ltb-true n addresses (and-left (ltb n addresses) _ t),
-  (λ prior own n t. omega (arith, width-most own n t), (λ prior own n t. omega (arith, sign-most own n t), (λ prior own n t. omega (arith, leb-true n mostTtl t), tt))),
+  (λ prior own n t. omega (arith, width-most own n t), (λ prior own n t. omega (arith, sign-most own n t), (λ prior own n t. omega (arith, leb-true n mostTtl t), (λ prior own n t. omega (arith, leb-true n 1 t), tt)))),
 )
 
 first-bounded : (n : ℕ) (ls : List Line) → Bounded ls → Bounded (take n ls)
@@ -93,7 +93,7 @@ abbrev pub Listed : ℕ → Type 0
 Listed n = (1 ≤ n) × (n ≤ newestVersion)
 
 pub by-number : (P : Version → Type 0) → ((n : ℕ) → Listed n → P (versionOf n)) → (x : Version) → List·Memᴰ x versions → P x
-by-number P f = each P versions (f 1 (omega arith, omega arith), (f 2 (omega arith, omega arith), (f 3 (omega arith, omega arith), tt)))
+by-number P f = each P versions (f 1 (omega arith, omega arith), (f 2 (omega arith, omega arith), (f 3 (omega arith, omega arith), (f 4 (omega arith, omega arith), tt))))
 
 pub version-listed : (n : ℕ) → Listed n → versionIn versions n ≡ some (versionOf n)
 unfolding versionIn
@@ -101,7 +101,8 @@ version-listed zero l = absurd (omega (arith, l .0))
 version-listed (suc zero) l = refl
 version-listed (suc (suc zero)) l = refl
 version-listed (suc (suc (suc zero))) l = refl
-version-listed (suc (suc (suc (suc n)))) l = absurd (omega (arith, l .1))
+version-listed (suc (suc (suc (suc zero)))) l = refl
+version-listed (suc (suc (suc (suc (suc n))))) l = absurd (omega (arith, l .1))
 
 pub fits : (x : Version) → List·Memᴰ x versions → Fit x
 fits = by-number Fit (λ n l. fit n (omega (arith, l .1)))
@@ -224,14 +225,14 @@ head-long = (
 )
 
 abbrev pub tagBytes : List ℕ
-tagBytes = 11 ∷ 9 ∷ 7 ∷ 10 ∷ []
+tagBytes = 11 ∷ 9 ∷ 7 ∷ 10 ∷ 9 ∷ []
 
 tag-long : Long tagLines tagBytes
 tag-long = (
   λ prior own n t. line-length addrKey 4 n (omega (arith, tags-bounded .0 prior own n t)),
   (
     λ prior own n t. line-length widthKey 1 n (omega (arith, width-most own n t)),
-    (λ prior own n t. line-length signKey 0 n (omega (arith, sign-most own n t)), (λ prior own n t. line-length ttlKey 4 n (omega (arith, leb-true n mostTtl t)), tt)),
+    (λ prior own n t. line-length signKey 0 n (omega (arith, sign-most own n t)), (λ prior own n t. line-length ttlKey 4 n (omega (arith, leb-true n mostTtl t)), (λ prior own n t. line-length strictKey 0 n (omega (arith, leb-true n 1 t)), tt))),
   ),
 )
 

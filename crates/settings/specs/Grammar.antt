@@ -15,6 +15,7 @@ pub record Tag : Type 0 where
   pub width : ℕ
   pub sign : ℕ
   pub ttl : ℕ
+  pub strict : ℕ
 
 pub record Value : Type 0 where
   pub timeout : ℕ
@@ -26,10 +27,10 @@ abbrev pub headNumbers : Value → List ℕ
 headNumbers v = v .timeout ∷ v .join ∷ length (v .tags) ∷ []
 
 abbrev pub tagNumbers : Tag → List ℕ
-tagNumbers t = t .address ∷ t .width ∷ t .sign ∷ t .ttl ∷ []
+tagNumbers t = t .address ∷ t .width ∷ t .sign ∷ t .ttl ∷ t .strict ∷ []
 
 abbrev pub tagFrom : List ℕ → Tag
-tagFrom ns = record { address = getD ns 0 0; width = getD ns 1 0; sign = getD ns 2 0; ttl = getD ns 3 0 }
+tagFrom ns = record { address = getD ns 0 0; width = getD ns 1 0; sign = getD ns 2 0; ttl = getD ns 3 0; strict = getD ns 4 0 }
 
 abbrev pub valueFrom : List ℕ → List Tag → Value
 valueFrom ns ts = record { timeout = getD ns 0 0; join = getD ns 1 0; tags = ts }
@@ -50,7 +51,7 @@ unfoldable pub ascends : List ℕ → ℕ → Bool
 ascends [] n = true
 ascends (a ∷ ns) n = ltb (lastRegister (a ∷ ns)) n
 
--- "version", "timeout", "join", "tags", "addr", "width", "sign", "ttl"
+-- "version", "timeout", "join", "tags", "addr", "width", "sign", "ttl", "strict"
 abbrev pub versionKey : List ℕ
 versionKey = 118 ∷ 101 ∷ 114 ∷ 115 ∷ 105 ∷ 111 ∷ 110 ∷ []
 
@@ -75,6 +76,9 @@ signKey = 115 ∷ 105 ∷ 103 ∷ 110 ∷ []
 abbrev pub ttlKey : List ℕ
 ttlKey = 116 ∷ 116 ∷ 108 ∷ []
 
+abbrev pub strictKey : List ℕ
+strictKey = 115 ∷ 116 ∷ 114 ∷ 105 ∷ 99 ∷ 116 ∷ []
+
 -- the rule of each line
 abbrev pub rightTimeout : ℕ → Bool
 rightTimeout n = leb leastTimeout n && leb n mostTimeout
@@ -98,6 +102,9 @@ rightSign own n = eqb n 0 || (eqb n 1 && eqb (getD own 1 0) 16)
 abbrev pub rightTtl : ℕ → Bool
 rightTtl n = leb n mostTtl
 
+abbrev pub rightStrict : ℕ → Bool
+rightStrict n = leb n 1
+
 -- the lines before the tags, and the lines of a tag in the order in which the versions brought them: a later line of a tag is one more here
 abbrev pub headLines : List Line
 headLines = line timeoutKey (λ prior own n. rightTimeout n) ∷ line joinKey (λ prior own n. rightJoin n) ∷ line tagsKey (λ prior own n. rightTags n) ∷ []
@@ -108,6 +115,7 @@ tagLines =
     ∷ line widthKey (λ prior own n. rightWidth own n)
     ∷ line signKey (λ prior own n. rightSign own n)
     ∷ line ttlKey (λ prior own n. rightTtl n)
+    ∷ line strictKey (λ prior own n. rightStrict n)
     ∷ []
 
 -- a version: its number, its lines behind the version line, and the lines of each tag
@@ -121,7 +129,7 @@ abbrev pub versionOf : ℕ → Version
 versionOf n = record { number = n; head = headLines; tag = take (suc n) tagLines }
 
 abbrev pub versions : List Version
-versions = versionOf 1 ∷ versionOf 2 ∷ versionOf 3 ∷ []
+versions = versionOf 1 ∷ versionOf 2 ∷ versionOf 3 ∷ versionOf 4 ∷ []
 
 abbrev pub newest : Version
 newest = versionOf newestVersion

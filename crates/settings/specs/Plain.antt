@@ -8,13 +8,14 @@ use mathlib.Core.List.{List, [], _∷_, _++_, List·Memᴰ}
 use lib.ListN.{length, getD}
 use Rattle.numbers.specs.Numbers.{mostTags, leastTimeout, mostTimeout}
 use Rattle.laws.specs.Lists.{tab}
-use Rattle.settings.specs.Grammar.{Tag, Value, versionKey, timeoutKey, joinKey, tagsKey, addrKey, widthKey, signKey, ttlKey, Version, versions}
+use Rattle.settings.specs.Grammar.{Tag, Value, versionKey, timeoutKey, joinKey, tagsKey, addrKey, widthKey, signKey, ttlKey, strictKey, Version, versions}
 use Rattle.settings.specs.declared.Settings.{Settings}
 use Rattle.settings.specs.Lines.{Numbered, lineIn}
 
--- a tag of a valid value: of width 16 with or without a sign, or of width 32 without one, within the addresses, and with a ttl of at most 60,000
+-- a tag of a valid value: of width 16 with or without a sign, or of width 32 without one, within the addresses, with a ttl of at most 60,000, and strict or not
 abbrev pub RightTag : Tag → Type 0
-RightTag t = ((t .width ≡ 16) × (t .sign ≤ 1) × (t .address ≤ 65535) × (t .ttl ≤ 60000)) ⊎ ((t .width ≡ 32) × (t .sign ≡ 0) × (t .address ≤ 65534) × (t .ttl ≤ 60000))
+RightTag t =
+    (((t .width ≡ 16) × (t .sign ≤ 1) × (t .address ≤ 65535)) ⊎ ((t .width ≡ 32) × (t .sign ≡ 0) × (t .address ≤ 65534))) × (t .ttl ≤ 60000) × (t .strict ≤ 1)
 
 -- the address n is above the last register of a tag with this address and width
 abbrev pub Above : (address width n : ℕ) → Type 0
@@ -31,7 +32,7 @@ pub record ValidPlainly (v : Value) : Type 0 where
 
 -- the same of the struct that a host lends, zb_settings: the first `tags` places count
 abbrev pub tagIn : Settings → ℕ → Tag
-tagIn s i = record { address = getD (s .addr) i 0; width = getD (s .width) i 0; sign = getD (s .sign) i 0; ttl = getD (s .ttl) i 0 }
+tagIn s i = record { address = getD (s .addr) i 0; width = getD (s .width) i 0; sign = getD (s .sign) i 0; ttl = getD (s .ttl) i 0; strict = getD (s .strict) i 0 }
 
 pub record ValidSettings (s : Settings) : Type 0 where
   pub least : 100 ≤ s .timeout
@@ -61,9 +62,9 @@ abbrev pub FreeFrom : (above : List ℕ) (i n : ℕ) → Type 0
 FreeFrom ns i n = (j : ℕ) → i ≡ j + 1 → Above (getD ns (4 + j * linesOfTag ns) 0) (getD ns (4 + j * linesOfTag ns + 1) 0) n
 
 -- where the lines above have these numbers, a line with this key and the number n is right. A tag's lines come behind the four before the tags, for as many tags as line 4 says;
--- sign lines are of version 2 and later, ttl lines of version 3 and later
+-- sign lines are of version 2 and later, ttl lines of version 3 and later, strict lines of version 4
 pub data Right : (above key : List ℕ) (n : ℕ) → Type 0 where
-  version : {n : ℕ} → 1 ≤ n → n ≤ 3 → Right [] versionKey n
+  version : {n : ℕ} → 1 ≤ n → n ≤ 4 → Right [] versionKey n
   timeout : {v n : ℕ} → 100 ≤ n → n ≤ 60000 → Right (v ∷ []) timeoutKey n
   join : {v t n : ℕ} → (n ≡ 0) ⊎ (n ≡ 1) → Right (v ∷ t ∷ []) joinKey n
   tags : {v t j n : ℕ} → n ≤ 256 → Right (v ∷ t ∷ j ∷ []) tagsKey n
@@ -73,6 +74,7 @@ pub data Right : (above key : List ℕ) (n : ℕ) → Type 0 where
   sign : {ns : List ℕ} {n : ℕ} (i : ℕ) → i < getD ns 3 0 → 2 ≤ getD ns 0 0 → length ns ≡ 4 + i * linesOfTag ns + 2
       → (n ≡ 0) ⊎ ((n ≡ 1) × (getD ns (4 + i * linesOfTag ns + 1) 0 ≡ 16)) → Right ns signKey n
   ttl : {ns : List ℕ} {n : ℕ} (i : ℕ) → i < getD ns 3 0 → 3 ≤ getD ns 0 0 → length ns ≡ 4 + i * linesOfTag ns + 3 → n ≤ 60000 → Right ns ttlKey n
+  strict : {ns : List ℕ} {n : ℕ} (i : ℕ) → i < getD ns 3 0 → 4 ≤ getD ns 0 0 → length ns ≡ 4 + i * linesOfTag ns + 4 → n ≤ 1 → Right ns strictKey n
 
 -- a right line stands first in r, below lines with these numbers
 abbrev pub Next : (above r : List ℕ) → Type 0
@@ -88,8 +90,8 @@ pub data Lines : (above text ns rest : List ℕ) → Type 0 where
 abbrev pub AllLines : List ℕ → Type 0
 AllLines ns = (4 ≤ length ns) × (length ns ≡ 4 + getD ns 3 0 * linesOfTag ns)
 
--- the value that lines with these numbers tell: line 2 its timeout, line 3 join, line 4 how many tags, and behind them a tag's address, its width, from version 2 on its sign and from
--- version 3 on its ttl; in a version before that these are 0
+-- the value that lines with these numbers tell: line 2 its timeout, line 3 join, line 4 how many tags, and behind them a tag's address, its width, from version 2 on its sign, from
+-- version 3 on its ttl and from version 4 on whether it is strict; in a version before that these are 0
 pub record Reads (ns : List ℕ) (v : Value) : Type 0 where
   pub timeout : v .timeout ≡ getD ns 1 0
   pub join : v .join ≡ getD ns 2 0
@@ -100,6 +102,8 @@ pub record Reads (ns : List ℕ) (v : Value) : Type 0 where
   pub signed : 2 ≤ getD ns 0 0 → (i : ℕ) (d : Tag) → i < getD ns 3 0 → getD (v .tags) i d .sign ≡ getD ns (4 + i * linesOfTag ns + 2) 0
   pub uncached : getD ns 0 0 < 3 → (i : ℕ) (d : Tag) → i < getD ns 3 0 → getD (v .tags) i d .ttl ≡ 0
   pub cached : 3 ≤ getD ns 0 0 → (i : ℕ) (d : Tag) → i < getD ns 3 0 → getD (v .tags) i d .ttl ≡ getD ns (4 + i * linesOfTag ns + 3) 0
+  pub lenient : getD ns 0 0 < 4 → (i : ℕ) (d : Tag) → i < getD ns 3 0 → getD (v .tags) i d .strict ≡ 0
+  pub strict : 4 ≤ getD ns 0 0 → (i : ℕ) (d : Tag) → i < getD ns 3 0 → getD (v .tags) i d .strict ≡ getD ns (4 + i * linesOfTag ns + 4) 0
 
 -- the same of the struct that a host gets, zb_settings, whole: it has 256 places for each number of a tag, and 0 in those that no tag uses
 pub record ReadsTo (ns : List ℕ) (s : Settings) : Type 0 where
@@ -112,8 +116,10 @@ pub record ReadsTo (ns : List ℕ) (s : Settings) : Type 0 where
   pub signed : 2 ≤ getD ns 0 0 → (i : ℕ) → i < getD ns 3 0 → getD (s .sign) i 0 ≡ getD ns (4 + i * linesOfTag ns + 2) 0
   pub uncached : getD ns 0 0 < 3 → (i : ℕ) → i < getD ns 3 0 → getD (s .ttl) i 0 ≡ 0
   pub cached : 3 ≤ getD ns 0 0 → (i : ℕ) → i < getD ns 3 0 → getD (s .ttl) i 0 ≡ getD ns (4 + i * linesOfTag ns + 3) 0
-  pub unused : (i : ℕ) → getD ns 3 0 ≤ i → (getD (s .addr) i 0 ≡ 0) × (getD (s .width) i 0 ≡ 0) × (getD (s .sign) i 0 ≡ 0) × (getD (s .ttl) i 0 ≡ 0)
-  pub places : (length (s .addr) ≡ 256) × (length (s .width) ≡ 256) × (length (s .sign) ≡ 256) × (length (s .ttl) ≡ 256)
+  pub lenient : getD ns 0 0 < 4 → (i : ℕ) → i < getD ns 3 0 → getD (s .strict) i 0 ≡ 0
+  pub strict : 4 ≤ getD ns 0 0 → (i : ℕ) → i < getD ns 3 0 → getD (s .strict) i 0 ≡ getD ns (4 + i * linesOfTag ns + 4) 0
+  pub unused : (i : ℕ) → getD ns 3 0 ≤ i → (getD (s .addr) i 0 ≡ 0) × (getD (s .width) i 0 ≡ 0) × (getD (s .sign) i 0 ≡ 0) × (getD (s .ttl) i 0 ≡ 0) × (getD (s .strict) i 0 ≡ 0)
+  pub places : (length (s .addr) ≡ 256) × (length (s .width) ≡ 256) × (length (s .sign) ≡ 256) × (length (s .ttl) ≡ 256) × (length (s .strict) ≡ 256)
 
 -- k is the number of the first wrong line of t: the lines 1 to k − 1 are each right, and line k is not, or is an extra byte behind the last line
 pub record FirstWrong (t : List ℕ) (k : ℕ) : Type 0 where
@@ -146,13 +152,16 @@ pub record Versioned (t : List ℕ) (y : Numbered) (x : Version) : Type 0 where
   pub listed : List·Memᴰ x versions
   pub number : x .number ≡ y .number
 
--- the tag without its ttl; and with neither sign nor ttl
+-- the tag not strict; without its ttl besides; and without sign besides
+abbrev pub lenient : Tag → Tag
+lenient t = record { address = t .address; width = t .width; sign = t .sign; ttl = t .ttl; strict = 0 }
+
 abbrev pub uncached : Tag → Tag
-uncached t = record { address = t .address; width = t .width; sign = t .sign; ttl = 0 }
+uncached t = record { address = t .address; width = t .width; sign = t .sign; ttl = 0; strict = 0 }
 
 abbrev pub unsigned : Tag → Tag
-unsigned t = record { address = t .address; width = t .width; sign = 0; ttl = 0 }
+unsigned t = record { address = t .address; width = t .width; sign = 0; ttl = 0; strict = 0 }
 
 -- a valid value whose text is the longest, in each version
 unfoldable pub full : Value
-full = record { timeout = 60000; join = 1; tags = tab 256 (λ k. record { address = 10000 + k; width = 16; sign = 1; ttl = 60000 }) }
+full = record { timeout = 60000; join = 1; tags = tab 256 (λ k. record { address = 10000 + k; width = 16; sign = 1; ttl = 60000; strict = 1 }) }

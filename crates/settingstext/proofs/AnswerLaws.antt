@@ -15,7 +15,7 @@ use borrow.Author.Tests.{le-leb, lt-leb, leb-true, lt-ltb, le-ltb, ltb-true, ne-
 use Rattle.numbers.specs.Numbers.{addresses, mostTtl}
 use Rattle.laws.proofs.Choice.{true-or, eq-or, lt-or, and-left, and-right, same-test, never}
 use Rattle.settings.specs.Lines.{Numbered, equals, lineFeed, behind, numberIn, lineIn}
-use Rattle.settings.specs.Grammar.{Line, line, addrKey, widthKey, signKey, ttlKey, lastRegister, ascends, rightAddr, rightWidth, rightSign, rightTtl, versionOf, tagFrom, textOfLines, allRight, Read, readLines, ruled}
+use Rattle.settings.specs.Grammar.{Line, line, addrKey, widthKey, signKey, ttlKey, strictKey, lastRegister, ascends, rightAddr, rightWidth, rightSign, rightTtl, rightStrict, versionOf, tagFrom, textOfLines, allRight, Read, readLines, ruled}
 use Rattle.settings.specs.Grammar.Read.{got, wrong}
 use Rattle.settingstext.specs.declared.reading.LineRead.{LineRead}
 use Rattle.settingstext.specs.declared.reading.LineRead.the-variants.{Numbered as numberedAt, Wrong}
@@ -257,9 +257,12 @@ signLine = line signKey (λ prior own n. rightSign own n)
 abbrev ttlLine : Line
 ttlLine = line ttlKey (λ prior own n. rightTtl n)
 
+abbrev strictLine : Line
+strictLine = line strictKey (λ prior own n. rightStrict n)
+
 -- the lines behind address and width, in the version behind this one
 abbrev laterLines : ℕ → List Line
-laterLines m = take m (signLine ∷ ttlLine ∷ [])
+laterLines m = take m (signLine ∷ ttlLine ∷ strictLine ∷ [])
 
 module _ (text : List ℕ) (at number least : ℕ) (inside : at ≤ length text) (prior : List ℕ) (low : least ≡ lowest prior) where
   abbrev addressAnswer : LineRead
@@ -321,14 +324,14 @@ module _ (text : List ℕ) (at number least : ℕ) (inside : at ≤ length text)
         tag-unsigned (suc (suc m)) l e =
             let line : suc (suc number) ≡ number + 2 = omega arith in
             sym (ap (placedTag text) (widened (suc m)
-            ∙ read-stop text third (suc (suc number)) signLine (take m (ttlLine ∷ [])) prior (address ∷ width ∷ []) _ (sign-rule width) (e ∙ later-asked (suc (suc m)) 2 third text _ _ (omega arith))) ∙ ap WrongAt line)
+            ∙ read-stop text third (suc (suc number)) signLine (take m (ttlLine ∷ strictLine ∷ [])) prior (address ∷ width ∷ []) _ (sign-rule width) (e ∙ later-asked (suc (suc m)) 2 third text _ _ (omega arith))) ∙ ap WrongAt line)
 
         module _ (sign fourth : ℕ) where
           signed : (m : ℕ) → numberedAt sign fourth ≡ signAnswer (suc (suc m))
-              → readLines number (versionOf (suc (suc m)) .tag) prior [] (drop at text) ≡ readLines (suc (suc (suc number))) (take m (ttlLine ∷ [])) prior (address ∷ width ∷ sign ∷ []) (drop fourth text)
+              → readLines number (versionOf (suc (suc m)) .tag) prior [] (drop at text) ≡ readLines (suc (suc (suc number))) (take m (ttlLine ∷ strictLine ∷ [])) prior (address ∷ width ∷ sign ∷ []) (drop fourth text)
           signed m e =
               widened (suc m)
-              ∙ read-step text third (suc (suc number)) signLine (take m (ttlLine ∷ [])) prior (address ∷ width ∷ []) _ (sign-rule width) sign fourth (placed-inside text width third _ last) (e ∙ later-asked (suc (suc m)) 2 third text _ _ (omega arith))
+              ∙ read-step text third (suc (suc number)) signLine (take m (ttlLine ∷ strictLine ∷ [])) prior (address ∷ width ∷ []) _ (sign-rule width) sign fourth (placed-inside text width third _ last) (e ∙ later-asked (suc (suc m)) 2 third text _ _ (omega arith))
 
           abbrev ttlAnswer : ℕ → LineRead
           ttlAnswer v = laterRead v 3 fourth text (ttlKey ++ (equals ∷ [])) mostTtl
@@ -341,33 +344,66 @@ module _ (text : List ℕ) (at number least : ℕ) (inside : at ≤ length text)
           tag-untimed (suc (suc (suc m))) l s e =
               let line : suc (suc (suc number)) ≡ number + 3 = omega arith in
               sym (ap (placedTag text) (signed (suc m) s
-              ∙ read-stop text fourth (suc (suc (suc number))) ttlLine (take m []) prior (address ∷ width ∷ sign ∷ []) _ (from-zero mostTtl) (e ∙ later-asked (suc (suc (suc m))) 3 fourth text _ _ (omega arith))) ∙ ap WrongAt line)
+              ∙ read-stop text fourth (suc (suc (suc number))) ttlLine (take m (strictLine ∷ [])) prior (address ∷ width ∷ sign ∷ []) _ (from-zero mostTtl) (e ∙ later-asked (suc (suc (suc m))) 3 fourth text _ _ (omega arith))) ∙ ap WrongAt line)
 
-          module _ (ttl next : ℕ) where
-            -- the numbers of the lines that there are, and 0 for the others
-            told : (v : ℕ) (ns : List ℕ) (end : ℕ) → end ≤ length text → readLines number (versionOf v .tag) prior [] (drop at text) ≡ got ns (drop end text)
-                → Tagged (getD ns 0 0) (getD ns 1 0) (getD ns 2 0) (getD ns 3 0) end ≡ tagAnswer v
-            unfolding placedTag
-            told v ns end h e = let q : length text - length (drop end text) ≡ end = omega (arith, length-drop end text) in sym (ap (placedTag text) e ∙ rw q)
-
-            pub tag-fit : (v : ℕ) → 1 ≤ v → numberedAt sign fourth ≡ signAnswer v → numberedAt ttl next ≡ ttlAnswer v → Tagged address width sign ttl next ≡ tagAnswer v
-            unfolding readLines
-            tag-fit zero l s e = absurd (omega arith)
-            tag-fit (suc zero) l s e =
-                let x = later-none 1 2 third text _ _ sign fourth s (omega arith) in
-                let y = later-none 1 3 fourth text _ _ ttl next e (omega arith) in
-                rw (x .0, y .0, y .1, x .1) (told 1 (address ∷ width ∷ []) third (placed-inside text width third _ last) (widened 0))
-            tag-fit (suc (suc zero)) l s e =
-                let y = later-none 2 3 fourth text _ _ ttl next e (omega arith) in
-                rw (y .0, y .1) (told 2 (address ∷ width ∷ sign ∷ []) fourth (later-inside 2 2 third text _ _ sign fourth s (placed-inside text width third _ last)) (signed 0 s))
-            tag-fit (suc (suc (suc m))) l s e =
-                let asked = e ∙ later-asked (suc (suc (suc m))) 3 fourth text _ _ (omega arith) in
-                let none : _≡_ {A = List Line} (take m []) [] = take-nil m in
+          module _ (ttl fifth : ℕ) where
+            timed : (m : ℕ) → numberedAt sign fourth ≡ signAnswer (suc (suc (suc m))) → numberedAt ttl fifth ≡ ttlAnswer (suc (suc (suc m)))
+                → readLines number (versionOf (suc (suc (suc m))) .tag) prior [] (drop at text) ≡ readLines (suc (suc (suc (suc number)))) (take m (strictLine ∷ [])) prior (address ∷ width ∷ sign ∷ ttl ∷ []) (drop fifth text)
+            timed m s e =
                 let inside′ = later-inside (suc (suc (suc m))) 2 third text _ _ sign fourth s (placed-inside text width third _ last) in
-                told (suc (suc (suc m))) (address ∷ width ∷ sign ∷ ttl ∷ []) next (placed-inside text ttl next _ asked)
-                (signed (suc m) s
-                ∙ read-step text fourth (suc (suc (suc number))) ttlLine (take m []) prior (address ∷ width ∷ sign ∷ []) _ (from-zero mostTtl) ttl next inside′ asked
-                ∙ rw none)
+                signed (suc m) s
+                ∙ read-step text fourth (suc (suc (suc number))) ttlLine (take m (strictLine ∷ [])) prior (address ∷ width ∷ sign ∷ []) _ (from-zero mostTtl) ttl fifth inside′ (e ∙ later-asked (suc (suc (suc m))) 3 fourth text _ _ (omega arith))
+
+            abbrev strictAnswer : ℕ → LineRead
+            strictAnswer v = laterRead v 4 fifth text (strictKey ++ (equals ∷ [])) 1
+
+            pub tag-unmarked : (v : ℕ) → 1 ≤ v → numberedAt sign fourth ≡ signAnswer v → numberedAt ttl fifth ≡ ttlAnswer v → Wrong ≡ strictAnswer v → WrongAt (number + 4) ≡ tagAnswer v
+            unfolding placedTag
+            tag-unmarked zero l s e f = absurd (omega arith)
+            tag-unmarked (suc zero) l s e f = absurd (later-right 1 4 fifth text _ _ (omega arith) f)
+            tag-unmarked (suc (suc zero)) l s e f = absurd (later-right 2 4 fifth text _ _ (omega arith) f)
+            tag-unmarked (suc (suc (suc zero))) l s e f = absurd (later-right 3 4 fifth text _ _ (omega arith) f)
+            tag-unmarked (suc (suc (suc (suc m)))) l s e f =
+                let line : suc (suc (suc (suc number))) ≡ number + 4 = omega arith in
+                sym (ap (placedTag text) (timed (suc m) s e
+                ∙ read-stop text fifth (suc (suc (suc (suc number)))) strictLine (take m []) prior (address ∷ width ∷ sign ∷ ttl ∷ []) _ (from-zero 1) (f ∙ later-asked (suc (suc (suc (suc m)))) 4 fifth text _ _ (omega arith))) ∙ ap WrongAt line)
+
+            module _ (strict next : ℕ) where
+              -- the numbers of the lines that there are, and 0 for the others
+              told : (v : ℕ) (ns : List ℕ) (end : ℕ) → end ≤ length text → readLines number (versionOf v .tag) prior [] (drop at text) ≡ got ns (drop end text)
+                  → Tagged (getD ns 0 0) (getD ns 1 0) (getD ns 2 0) (getD ns 3 0) (getD ns 4 0) end ≡ tagAnswer v
+              unfolding placedTag
+              told v ns end h e = let q : length text - length (drop end text) ≡ end = omega (arith, length-drop end text) in sym (ap (placedTag text) e ∙ rw q)
+
+              -- the places behind the sign's line and behind the ttl's lie in the text
+              fourth-inside : (v : ℕ) → numberedAt sign fourth ≡ signAnswer v → fourth ≤ length text
+              fourth-inside v s = later-inside v 2 third text _ _ sign fourth s (placed-inside text width third _ last)
+
+              fifth-inside : (v : ℕ) → numberedAt sign fourth ≡ signAnswer v → numberedAt ttl fifth ≡ ttlAnswer v → fifth ≤ length text
+              fifth-inside v s e = later-inside v 3 fourth text _ _ ttl fifth e (fourth-inside v s)
+
+              pub tag-fit : (v : ℕ) → 1 ≤ v → numberedAt sign fourth ≡ signAnswer v → numberedAt ttl fifth ≡ ttlAnswer v → numberedAt strict next ≡ strictAnswer v → Tagged address width sign ttl strict next ≡ tagAnswer v
+              unfolding readLines
+              tag-fit zero l s e f = absurd (omega arith)
+              tag-fit (suc zero) l s e f =
+                  let x = later-none 1 2 third text _ _ sign fourth s (omega arith) in
+                  let y = later-none 1 3 fourth text _ _ ttl fifth e (omega arith) in
+                  let z = later-none 1 4 fifth text _ _ strict next f (omega arith) in
+                  rw (x .0, y .0, z .0, z .1, y .1, x .1) (told 1 (address ∷ width ∷ []) third (placed-inside text width third _ last) (widened 0))
+              tag-fit (suc (suc zero)) l s e f =
+                  let y = later-none 2 3 fourth text _ _ ttl fifth e (omega arith) in
+                  let z = later-none 2 4 fifth text _ _ strict next f (omega arith) in
+                  rw (y .0, z .0, z .1, y .1) (told 2 (address ∷ width ∷ sign ∷ []) fourth (fourth-inside 2 s) (signed 0 s))
+              tag-fit (suc (suc (suc zero))) l s e f =
+                  let z = later-none 3 4 fifth text _ _ strict next f (omega arith) in
+                  rw (z .0, z .1) (told 3 (address ∷ width ∷ sign ∷ ttl ∷ []) fifth (fifth-inside 3 s e) (timed 0 s e))
+              tag-fit (suc (suc (suc (suc m)))) l s e f =
+                  let asked = f ∙ later-asked (suc (suc (suc (suc m)))) 4 fifth text _ _ (omega arith) in
+                  let none : _≡_ {A = List Line} (take m []) [] = take-nil m in
+                  told (suc (suc (suc (suc m)))) (address ∷ width ∷ sign ∷ ttl ∷ strict ∷ []) next (placed-inside text strict next _ asked)
+                  (timed (suc m) s e
+                  ∙ read-step text fifth (suc (suc (suc (suc number)))) strictLine (take m []) prior (address ∷ width ∷ sign ∷ ttl ∷ []) _ (from-zero 1) strict next (fifth-inside (suc (suc (suc (suc m)))) s e) asked
+                  ∙ rw none)
 
 -- what an answer of a tag's lines says
 
@@ -392,32 +428,33 @@ first-two ls prior (a ∷ []) c r = absurd (omega arith)
 first-two ls prior (a ∷ w ∷ ns) c r =
     ⊎-elim (λ (e : w ≡ 16). rw e) (λ (e : w ≡ 32). rw e (omega arith)) (widths (a ∷ []) w (and-left (rightWidth (a ∷ []) w) _ (and-right (rightAddr prior a) _ r)))
 
-pub record TagTold (text prior : List ℕ) (v at number address width sign ttl next : ℕ) : Type 0 where
+pub record TagTold (text prior : List ℕ) (v at number address width sign ttl strict next : ℕ) : Type 0 where
   pub own : List ℕ
   pub read : readLines number (versionOf v .tag) prior [] (drop at text) ≡ got own (drop next text)
-  pub tag : tagFrom own ≡ record { address = address; width = width; sign = sign; ttl = ttl }
-  pub small : (address < addresses) × (width < addresses) × (sign < addresses) × (ttl < addresses)
+  pub tag : tagFrom own ≡ record { address = address; width = width; sign = sign; ttl = ttl; strict = strict }
+  pub small : (address < addresses) × (width < addresses) × (sign < addresses) × (ttl < addresses) × (strict < addresses)
   pub low : lowest own ≡ address + width / 16
   pub inside : next ≤ length text
 
-pub tagged : (text prior : List ℕ) (v at number address width sign ttl next : ℕ) → 1 ≤ v → v < addresses → at ≤ length text
-    → Tagged address width sign ttl next ≡ placedTag text (readLines number (versionOf v .tag) prior [] (drop at text)) → TagTold text prior v at number address width sign ttl next
+pub tagged : (text prior : List ℕ) (v at number address width sign ttl strict next : ℕ) → 1 ≤ v → v < addresses → at ≤ length text
+    → Tagged address width sign ttl strict next ≡ placedTag text (readLines number (versionOf v .tag) prior [] (drop at text)) → TagTold text prior v at number address width sign ttl strict next
 unfolding placedTag
-tagged text prior zero at number address width sign ttl next o b h e = absurd (omega arith)
-tagged text prior (suc m) at number address width sign ttl next o b h e = go (readLines number (versionOf (suc m) .tag) prior [] (drop at text)) refl
+tagged text prior zero at number address width sign ttl strict next o b h e = absurd (omega arith)
+tagged text prior (suc m) at number address width sign ttl strict next o b h e = go (readLines number (versionOf (suc m) .tag) prior [] (drop at text)) refl
   where
     -- the first two numbers
     behind-two : (ns : List ℕ) → length ns ≡ length (versionOf (suc m) .tag) → allRight (versionOf (suc m) .tag) prior [] ns ≡ true → lowest ns ≡ getD ns 0 0 + getD ns 1 0 / 16
     behind-two ns c r = first-two (laterLines m) prior ns c r
 
-    go : (o : Read (List ℕ)) → readLines number (versionOf (suc m) .tag) prior [] (drop at text) ≡ o → TagTold text prior (suc m) at number address width sign ttl next
+    go : (o : Read (List ℕ)) → readLines number (versionOf (suc m) .tag) prior [] (drop at text) ≡ o → TagTold text prior (suc m) at number address width sign ttl strict next
     go (wrong j) q = never (cc (rw q at e))
     go (got own r) q =
-        let f : Tagged address width sign ttl next ≡ Tagged (getD own 0 0) (getD own 1 0) (getD own 2 0) (getD own 3 0) (length text - length r) = rw q at e in
+        let f : Tagged address width sign ttl strict next ≡ Tagged (getD own 0 0) (getD own 1 0) (getD own 2 0) (getD own 3 0) (getD own 4 0) (length text - length r) = rw q at e in
         let a : address ≡ getD own 0 0 = cc in
         let w : width ≡ getD own 1 0 = cc in
         let s : sign ≡ getD own 2 0 = cc in
         let d : ttl ≡ getD own 3 0 = cc in
+        let i : strict ≡ getD own 4 0 = cc in
         let n : next ≡ length text - length r = cc in
         let l = lines-only number (versionOf (suc m) .tag) prior [] (drop at text) own r (fit (suc m) b .tagBounded) q in
         let c : length own ≡ length (versionOf (suc m) .tag) = ap length (l .whole) ∙ l .all in
@@ -426,8 +463,8 @@ tagged text prior (suc m) at number address width sign ttl next o b h e = go (re
         record {
           own = own;
           read = q ∙ ap (got own) (sym (rw n (rest-placed (textOfLines (versionOf (suc m) .tag) (l .numbers)) r text at h (l .text))));
-          tag = rw (a, w, s, d);
-          small = rw (a, w, s, d) (small 0, small 1, small 2, small 3);
+          tag = rw (a, w, s, d, i);
+          small = rw (a, w, s, d, i) (small 0, small 1, small 2, small 3, small 4);
           low = rw (a, w) (behind-two own c right);
           inside = omega arith;
         }

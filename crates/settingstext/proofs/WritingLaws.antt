@@ -16,7 +16,7 @@ use Rattle.laws.specs.Bytes.{overAt, over}
 use Rattle.laws.proofs.Choice.{lt-or}
 use Rattle.laws.proofs.ListLaws.{length-tab, flatMap-more}
 use Rattle.settings.specs.Lines.{equals, lineFeed, digitZero, decimalOf, decimal, lineOf}
-use Rattle.settings.specs.Grammar.{Tag, Value, newest, versionKey, timeoutKey, joinKey, tagsKey, addrKey, widthKey, signKey, ttlKey, textOfLines, textIn, valid}
+use Rattle.settings.specs.Grammar.{Tag, Value, newest, versionKey, timeoutKey, joinKey, tagsKey, addrKey, widthKey, signKey, ttlKey, strictKey, textOfLines, textIn, valid}
 use Rattle.settings.specs.declared.Settings.{Settings}
 use Rattle.settings.specs.Values.{valueOf}
 use Rattle.settingstext.specs.TextWritten.{writing, writtenTo}
@@ -126,9 +126,9 @@ pub head-lines : (timeout join tags : ℕ) → headText timeout join tags ≡ li
 unfolding headText textOfLines
 head-lines timeout join tags = rw append-nil
 
-pub tag-lines : (address width sign ttl : ℕ) → tagText address width sign ttl ≡ lineOf addrKey address ++ (lineOf widthKey width ++ (lineOf signKey sign ++ lineOf ttlKey ttl))
+pub tag-lines : (address width sign ttl strict : ℕ) → tagText address width sign ttl strict ≡ lineOf addrKey address ++ (lineOf widthKey width ++ (lineOf signKey sign ++ (lineOf ttlKey ttl ++ lineOf strictKey strict)))
 unfolding tagText textOfLines
-tag-lines address width sign ttl = rw append-nil
+tag-lines address width sign ttl strict = rw append-nil
 
 pub length-head : (timeout join tags : ℕ) → length (headText timeout join tags) ≡ length (lineOf versionKey (newest .number)) + length (lineOf timeoutKey timeout) + length (lineOf joinKey join) + length (lineOf tagsKey tags)
 length-head timeout join tags =
@@ -140,19 +140,21 @@ length-head timeout join tags =
       length-append (lineOf joinKey join) (lineOf tagsKey tags),
     ))
 
-pub length-tag : (address width sign ttl : ℕ) → length (tagText address width sign ttl) ≡ length (lineOf addrKey address) + length (lineOf widthKey width) + length (lineOf signKey sign) + length (lineOf ttlKey ttl)
-length-tag address width sign ttl =
-    rw (tag-lines address width sign ttl)
+pub length-tag : (address width sign ttl strict : ℕ)
+    → length (tagText address width sign ttl strict) ≡ length (lineOf addrKey address) + length (lineOf widthKey width) + length (lineOf signKey sign) + length (lineOf ttlKey ttl) + length (lineOf strictKey strict)
+length-tag address width sign ttl strict =
+    rw (tag-lines address width sign ttl strict)
     (omega (
       arith,
-      length-append (lineOf addrKey address) (lineOf widthKey width ++ (lineOf signKey sign ++ lineOf ttlKey ttl)),
-      length-append (lineOf widthKey width) (lineOf signKey sign ++ lineOf ttlKey ttl),
-      length-append (lineOf signKey sign) (lineOf ttlKey ttl),
+      length-append (lineOf addrKey address) (lineOf widthKey width ++ (lineOf signKey sign ++ (lineOf ttlKey ttl ++ lineOf strictKey strict))),
+      length-append (lineOf widthKey width) (lineOf signKey sign ++ (lineOf ttlKey ttl ++ lineOf strictKey strict)),
+      length-append (lineOf signKey sign) (lineOf ttlKey ttl ++ lineOf strictKey strict),
+      length-append (lineOf ttlKey ttl) (lineOf strictKey strict),
     ))
 
 -- the text of a place, and of the first k places
 abbrev pub placeText : Settings → ℕ → List ℕ
-placeText s k = tagText (tagAt s k .address) (tagAt s k .width) (tagAt s k .sign) (tagAt s k .ttl)
+placeText s k = tagText (tagAt s k .address) (tagAt s k .width) (tagAt s k .sign) (tagAt s k .ttl) (tagAt s k .strict)
 
 abbrev pub tagsTo : Settings → ℕ → List ℕ
 tagsTo s k = tagsText (tab k (tagAt s))
@@ -173,7 +175,7 @@ tags-none s = refl
 
 tags-more : (s : Settings) (k : ℕ) → tagsTo s (k + 1) ≡ tagsTo s k ++ placeText s k
 unfolding tagsText
-tags-more s k = flatMap-more (λ (t : Tag). tagText (t .address) (t .width) (t .sign) (t .ttl)) k (tagAt s)
+tags-more s k = flatMap-more (λ (t : Tag). tagText (t .address) (t .width) (t .sign) (t .ttl) (t .strict)) k (tagAt s)
 
 length-more : (s : Settings) (k : ℕ) → length (tagsTo s (k + 1)) ≡ length (tagsTo s k) + length (placeText s k)
 length-more s k = ap length (tags-more s k) ∙ length-append (tagsTo s k) (placeText s k)
@@ -242,7 +244,7 @@ module _ {n at : ℕ} {b a : List ℕ} {left place : ℕ} (w : Digits n at b a l
 pub record Measured (s : Settings) (size k : ℕ) : Type 0 where
   pub within : k ≤ s .tags
   pub all : size ≡ length (headText (s .timeout) (s .join) (s .tags)) + length (tagsTo s k)
-  pub most : size ≤ 110 + 104 * k
+  pub most : size ≤ 110 + 132 * k
 
 pub measured-none : (s : Settings) (size : ℕ) → size ≡ length (headText (s .timeout) (s .join) (s .tags)) → Measured s size 0
 measured-none s size e =
@@ -268,11 +270,12 @@ measured-more {s} {size} {size′} {k} h w e =
         arith,
         e,
         w .most,
-        length-tag (tagAt s k .address) (tagAt s k .width) (tagAt s k .sign) (tagAt s k .ttl),
+        length-tag (tagAt s k .address) (tagAt s k .width) (tagAt s k .sign) (tagAt s k .ttl) (tagAt s k .strict),
         line-most addrKey (tagAt s k .address),
         line-most widthKey (tagAt s k .width),
         line-most signKey (tagAt s k .sign),
         line-most ttlKey (tagAt s k .ttl),
+        line-most strictKey (tagAt s k .strict),
       );
     }
 
@@ -300,10 +303,10 @@ laid-head timeout join tags {b} x y z t =
     let h : 0 ≤ length b = omega arith in
     rw (head-lines timeout join tags) (simp append-assoc at (laid-then h (laid-then h (laid-then h x y) z) t))
 
-pub laid-tag : (address width sign ttl : ℕ) {at : ℕ} {b m₁ m₂ m₃ a : List ℕ} {e₁ e₂ e₃ end : ℕ} → at ≤ length b
-    → Laid (lineOf addrKey address) at b m₁ e₁ → Laid (lineOf widthKey width) e₁ m₁ m₂ e₂ → Laid (lineOf signKey sign) e₂ m₂ m₃ e₃ → Laid (lineOf ttlKey ttl) e₃ m₃ a end
-    → Laid (tagText address width sign ttl) at b a end
-laid-tag address width sign ttl h x y z t = rw (tag-lines address width sign ttl) (simp append-assoc at (laid-then h (laid-then h (laid-then h x y) z) t))
+pub laid-tag : (address width sign ttl strict : ℕ) {at : ℕ} {b m₁ m₂ m₃ m₄ a : List ℕ} {e₁ e₂ e₃ e₄ end : ℕ} → at ≤ length b
+    → Laid (lineOf addrKey address) at b m₁ e₁ → Laid (lineOf widthKey width) e₁ m₁ m₂ e₂ → Laid (lineOf signKey sign) e₂ m₂ m₃ e₃ → Laid (lineOf ttlKey ttl) e₃ m₃ m₄ e₄ → Laid (lineOf strictKey strict) e₄ m₄ a end
+    → Laid (tagText address width sign ttl strict) at b a end
+laid-tag address width sign ttl strict h x y z t u = rw (tag-lines address width sign ttl strict) (simp append-assoc at (laid-then h (laid-then h (laid-then h (laid-then h x y) z) t) u))
 
 -- writing the tags: the first k stand
 pub record Written (s : Settings) (at : ℕ) (before after : List ℕ) (next k : ℕ) : Type 0 where

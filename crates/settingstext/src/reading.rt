@@ -30,9 +30,9 @@ pub enum LineRead {
     Wrong,
 }
 
-// A tag's address, width, sign and ttl and the place behind its lines; or the number of its wrong line.
+// A tag's address, width, sign and ttl, whether it is strict, and the place behind its lines; or the number of its wrong line.
 pub enum TagRead {
-    Tagged(u32, u32, u32, u32, usize),
+    Tagged(u32, u32, u32, u32, u32, usize),
     WrongAt(u32),
 }
 
@@ -125,13 +125,8 @@ fn tag_at(text: &[u8], at: usize, version: u32, line: u32, least: u32) -> TagRea
     requires { ⌜ (at ≤ length (now text)) × (1 ≤ version) × (line < ceiling) ⌝ }
     ensures { λ r. ⌜ ((prior : List ℕ) → least ≡ lowest prior → r ≡ placedTag (now (text .entry)) (readLines line (versionOf version .tag) prior [] (drop at (now (text .entry))))) ⌝ }
 {
-    let LineRead::Numbered(address, second) = line_at(
-        text,
-        at,
-        b"addr=",
-        least,
-        numbers::ADDRESSES - 1,
-    ) else {
+    let last = numbers::ADDRESSES - 1;
+    let LineRead::Numbered(address, second) = line_at(text, at, b"addr=", least, last) else {
         return TagRead::WrongAt(line);
     };
     let LineRead::Numbered(width, third) = line_at(text, second, b"width=", 16, 32) else {
@@ -140,27 +135,18 @@ fn tag_at(text: &[u8], at: usize, version: u32, line: u32, least: u32) -> TagRea
     if !((width == 16) | ((width == 32) & (address + 1 < numbers::ADDRESSES))) {
         return TagRead::WrongAt(line + 1);
     }
-    let LineRead::Numbered(sign, fourth) = later_at(
-        text,
-        third,
-        version,
-        2,
-        b"sign=",
-        most_sign(width),
-    ) else {
+    let most = most_sign(width);
+    let LineRead::Numbered(sign, fourth) = later_at(text, third, version, 2, b"sign=", most) else {
         return TagRead::WrongAt(line + 2);
     };
-    let LineRead::Numbered(ttl, next) = later_at(
-        text,
-        fourth,
-        version,
-        3,
-        b"ttl=",
-        numbers::MOST_TTL as u32,
-    ) else {
+    let most = numbers::MOST_TTL as u32;
+    let LineRead::Numbered(ttl, fifth) = later_at(text, fourth, version, 3, b"ttl=", most) else {
         return TagRead::WrongAt(line + 3);
     };
-    TagRead::Tagged(address, width, sign, ttl, next)
+    let LineRead::Numbered(strict, next) = later_at(text, fifth, version, 4, b"strict=", 1) else {
+        return TagRead::WrongAt(line + 4);
+    };
+    TagRead::Tagged(address, width, sign, ttl, strict, next)
 }
 
 // The numbers of the lines before the tags, the version's first, and the place behind them; or a wrong line, and the usual numbers.
@@ -258,8 +244,9 @@ fn answer(
     mut width: [u16; numbers::MOST_TAGS],
     mut sign: [u16; numbers::MOST_TAGS],
     mut ttl: [u16; numbers::MOST_TAGS],
+    mut strict: [u16; numbers::MOST_TAGS],
 ) -> ReadText
-    ensures { λ r. ⌜ r ≡ answered wrong (settings (head .timeout) (head .join) (head .tags) addr width sign ttl) ⌝ }
+    ensures { λ r. ⌜ r ≡ answered wrong (settings (head .timeout) (head .join) (head .tags) addr width sign ttl strict) ⌝ }
 {
     if wrong != 0 {
         head = stopped_at(wrong);
@@ -267,6 +254,7 @@ fn answer(
         width = [0u16; numbers::MOST_TAGS];
         sign = [0u16; numbers::MOST_TAGS];
         ttl = [0u16; numbers::MOST_TAGS];
+        strict = [0u16; numbers::MOST_TAGS];
     }
     let settings = Settings {
         timeout: head.timeout,
@@ -276,6 +264,7 @@ fn answer(
         width,
         sign,
         ttl,
+        strict,
     };
     ReadText {
         line: wrong,
@@ -293,6 +282,7 @@ pub fn read_text(text: &[u8]) -> ReadText
     let mut width = [0u16; numbers::MOST_TAGS];
     let mut sign = [0u16; numbers::MOST_TAGS];
     let mut ttl = [0u16; numbers::MOST_TAGS];
+    let mut strict = [0u16; numbers::MOST_TAGS];
     let mut stopped = head.wrong;
     let mut at = head.next;
     let mut line: u32 = 5;
@@ -304,11 +294,12 @@ pub fn read_text(text: &[u8]) -> ReadText
                 stopped = first;
                 break;
             }
-            TagRead::Tagged(address, bits, signed, lasting, next) => {
+            TagRead::Tagged(address, bits, signed, lasting, strict_told, next) => {
                 addr[k] = address as u16;
                 width[k] = bits as u16;
                 sign[k] = signed as u16;
                 ttl[k] = lasting as u16;
+                strict[k] = strict_told as u16;
                 // One register for each 16 bits.
                 least = address + bits / 16;
                 at = next;
@@ -319,5 +310,5 @@ pub fn read_text(text: &[u8]) -> ReadText
         k += 1;
     }
     let wrong = first_wrong(stopped, line, at == text.len());
-    answer(wrong, head, addr, width, sign, ttl)
+    answer(wrong, head, addr, width, sign, ttl, strict)
 }

@@ -46,13 +46,14 @@ fn head_length(timeout: u32, join: u32, tags: u32) -> usize
         + line_length(b"tags", tags)
 }
 
-fn tag_length(address: u16, width: u16, sign: u16, ttl: u16) -> usize
-    ensures { λ r. ⌜ r ≡ length (tagText address width sign ttl) ⌝ }
+fn tag_length(address: u16, width: u16, sign: u16, ttl: u16, strict: u16) -> usize
+    ensures { λ r. ⌜ r ≡ length (tagText address width sign ttl strict) ⌝ }
 {
     line_length(b"addr", address as u32)
         + line_length(b"width", width as u32)
         + line_length(b"sign", sign as u32)
         + line_length(b"ttl", ttl as u32)
+        + line_length(b"strict", strict as u32)
 }
 
 fn text_length<'a>(
@@ -63,14 +64,15 @@ fn text_length<'a>(
     width: &'a [u16; numbers::MOST_TAGS],
     sign: &'a [u16; numbers::MOST_TAGS],
     ttl: &'a [u16; numbers::MOST_TAGS],
+    strict: &'a [u16; numbers::MOST_TAGS],
 ) -> usize
     requires { ⌜ tags ≤ mostTags ⌝ }
-    ensures { λ r. ⌜ r ≡ length (textIn newest (valueOf (settings timeout join tags (now (addr .entry)) (now (width .entry)) (now (sign .entry)) (now (ttl .entry))))) ⌝ }
+    ensures { λ r. ⌜ r ≡ length (textIn newest (valueOf (settings timeout join tags (now (addr .entry)) (now (width .entry)) (now (sign .entry)) (now (ttl .entry)) (now (strict .entry))))) ⌝ }
 {
     let mut size = head_length(timeout, join, tags);
     let mut k: usize = 0;
     while k < tags as usize {
-        size += tag_length(addr[k], width[k], sign[k], ttl[k]);
+        size += tag_length(addr[k], width[k], sign[k], ttl[k], strict[k]);
         k += 1;
     }
     size
@@ -140,14 +142,23 @@ fn write_head(timeout: u32, join: u32, tags: u32, text: &mut [u8]) -> usize
     write_line(b"tags", tags, fourth, text)
 }
 
-fn write_tag(address: u16, width: u16, sign: u16, ttl: u16, at: usize, text: &mut [u8]) -> usize
-    requires { ⌜ at + length (tagText address width sign ttl) ≤ length (now text) ⌝ }
-    ensures { λ r. ⌜ Laid (tagText address width sign ttl) at (now (text .entry)) (now (text .exit)) r ⌝ }
+fn write_tag(
+    address: u16,
+    width: u16,
+    sign: u16,
+    ttl: u16,
+    strict: u16,
+    at: usize,
+    text: &mut [u8],
+) -> usize
+    requires { ⌜ at + length (tagText address width sign ttl strict) ≤ length (now text) ⌝ }
+    ensures { λ r. ⌜ Laid (tagText address width sign ttl strict) at (now (text .entry)) (now (text .exit)) r ⌝ }
 {
     let second = write_line(b"addr", address as u32, at, text);
     let third = write_line(b"width", width as u32, second, text);
     let fourth = write_line(b"sign", sign as u32, third, text);
-    write_line(b"ttl", ttl as u32, fourth, text)
+    let fifth = write_line(b"ttl", ttl as u32, fourth, text);
+    write_line(b"strict", strict as u32, fifth, text)
 }
 
 fn write_tags<'a>(
@@ -156,16 +167,17 @@ fn write_tags<'a>(
     width: &'a [u16; numbers::MOST_TAGS],
     sign: &'a [u16; numbers::MOST_TAGS],
     ttl: &'a [u16; numbers::MOST_TAGS],
+    strict: &'a [u16; numbers::MOST_TAGS],
     at: usize,
     text: &mut [u8],
 ) -> usize
-    requires { ⌜ (tags ≤ mostTags) × (at + length (tagsText (listed tags (now addr) (now width) (now sign) (now ttl))) ≤ length (now text)) ⌝ }
-    ensures { λ r. ⌜ Laid (tagsText (listed tags (now (addr .entry)) (now (width .entry)) (now (sign .entry)) (now (ttl .entry)))) at (now (text .entry)) (now (text .exit)) r ⌝ }
+    requires { ⌜ (tags ≤ mostTags) × (at + length (tagsText (listed tags (now addr) (now width) (now sign) (now ttl) (now strict))) ≤ length (now text)) ⌝ }
+    ensures { λ r. ⌜ Laid (tagsText (listed tags (now (addr .entry)) (now (width .entry)) (now (sign .entry)) (now (ttl .entry)) (now (strict .entry)))) at (now (text .entry)) (now (text .exit)) r ⌝ }
 {
     let mut next = at;
     let mut k: usize = 0;
     while k < tags as usize {
-        next = write_tag(addr[k], width[k], sign[k], ttl[k], next, text);
+        next = write_tag(addr[k], width[k], sign[k], ttl[k], strict[k], next, text);
         k += 1;
     }
     next
@@ -180,16 +192,17 @@ pub fn write_text<'a>(
     width: &'a [u16; numbers::MOST_TAGS],
     sign: &'a [u16; numbers::MOST_TAGS],
     ttl: &'a [u16; numbers::MOST_TAGS],
+    strict: &'a [u16; numbers::MOST_TAGS],
     text: &mut [u8],
 ) -> Wrote
-    ensures { λ r. ⌜ writing r (now (text .exit)) ≡ writtenTo (valueOf (settings timeout join tags (now (addr .entry)) (now (width .entry)) (now (sign .entry)) (now (ttl .entry)))) (now (text .entry)) ⌝ }
+    ensures { λ r. ⌜ writing r (now (text .exit)) ≡ writtenTo (valueOf (settings timeout join tags (now (addr .entry)) (now (width .entry)) (now (sign .entry)) (now (ttl .entry)) (now (strict .entry)))) (now (text .entry)) ⌝ }
 {
-    if !is_valid(timeout, join, tags, addr, width, sign, ttl) {
+    if !is_valid(timeout, join, tags, addr, width, sign, ttl, strict) {
         return Wrote::Invalid;
     }
-    if text.len() < text_length(timeout, join, tags, addr, width, sign, ttl) {
+    if text.len() < text_length(timeout, join, tags, addr, width, sign, ttl, strict) {
         return Wrote::TooShort;
     }
     let at = write_head(timeout, join, tags, text);
-    Wrote::Text(write_tags(tags, addr, width, sign, ttl, at, text))
+    Wrote::Text(write_tags(tags, addr, width, sign, ttl, strict, at, text))
 }

@@ -50,6 +50,7 @@ fn freshened(from: Settings) -> Called
         &from.width,
         &from.sign,
         &from.ttl,
+        &from.strict,
     );
     let columns = Columns {
         ids,

@@ -21,6 +21,7 @@ fn written(s: Settings, buffer: &mut [u8], lent: usize) -> usize {
         &s.width,
         &s.sign,
         &s.ttl,
+        &s.strict,
         &mut buffer[0..lent],
     ) {
         Wrote::Text(size) => size,
@@ -43,16 +44,28 @@ fn is_usual(s: Settings, tags: u32) -> bool {
     (s.timeout == 3000) & (s.join == 1) & (s.tags == tags)
 }
 
-fn has_tag(s: Settings, k: usize, address: u16, width: u16, sign: u16, ttl: u16) -> bool
+fn has_tag(
+    s: Settings,
+    k: usize,
+    address: u16,
+    width: u16,
+    sign: u16,
+    ttl: u16,
+    strict: u16,
+) -> bool
     requires { ⌜ k < 256 ⌝ }
 {
-    (s.addr[k] == address) & (s.width[k] == width) & (s.sign[k] == sign) & (s.ttl[k] == ttl)
+    (s.addr[k] == address)
+        & (s.width[k] == width)
+        & (s.sign[k] == sign)
+        & (s.ttl[k] == ttl)
+        & (s.strict[k] == strict)
 }
 
-// Whether a value is document 01's with this sign at its first tag and with these ttls, number by number; unused tag places are 0.
-fn is_document(s: Settings, sign: u16, ttl: u16, second: u16) -> bool {
-    let used = has_tag(s, 0, 1024, 16, sign, ttl) & has_tag(s, 1, 1026, 32, 0, second);
-    let unused = has_tag(s, 2, 0, 0, 0, 0) & has_tag(s, 255, 0, 0, 0, 0);
+// Whether a value is document 01's with this sign at its first tag, with these ttls and with the first tag strict or not, number by number; unused tag places are 0.
+fn is_document(s: Settings, sign: u16, ttl: u16, second: u16, strict: u16) -> bool {
+    let used = has_tag(s, 0, 1024, 16, sign, ttl, strict) & has_tag(s, 1, 1026, 32, 0, second, 0);
+    let unused = has_tag(s, 2, 0, 0, 0, 0, 0) & has_tag(s, 255, 0, 0, 0, 0, 0);
     is_usual(s, 2) & used & unused
 }
 
@@ -68,9 +81,10 @@ fn is_written(s: Settings, text: &[u8], other: &[u8]) -> bool {
 // Whether the value that a text was read to is right: that of a wrong text has timeout 3000, join 1 and no tags.
 fn is_right(s: Settings, word: &[u8], text: &[u8], other: &[u8]) -> bool {
     match wire::byte_at(word, 0) {
-        b'v' => is_document(s, 0, 0, 0),
-        b's' => is_document(s, 1, 0, 0),
-        b't' => is_document(s, 1, 500, 60000),
+        b'v' => is_document(s, 0, 0, 0, 0),
+        b's' => is_document(s, 1, 0, 0, 0),
+        b't' => is_document(s, 1, 500, 60000, 0),
+        b'm' => is_document(s, 1, 500, 60000, 1),
         b'0' => is_written(s, text, other),
         _ => is_usual(s, 0),
     }

@@ -7,7 +7,7 @@ ghost use mathlib.Core.List.{[], _∷_};
 ghost use Prim.Native.Nat.{_+_, _<_};
 ghost use lib.Dec.{leb};
 ghost use Rattle.numbers.specs.Numbers.{addresses};
-ghost use Rattle.settings.specs.Grammar.{valid, lastRegister, rightTimeout, rightJoin, rightTags, rightWidth, rightSign, rightTtl};
+ghost use Rattle.settings.specs.Grammar.{valid, lastRegister, rightTimeout, rightJoin, rightTags, rightWidth, rightSign, rightTtl, rightStrict};
 ghost use Rattle.settings.specs.Values.{settings, valueOf};
 
 // The rules of the lines behind the version line.
@@ -19,12 +19,13 @@ fn head_right(timeout: u32, join: u32, tags: u32) -> bool
 }
 
 // The rules of a tag's lines; `from` is the first address above the tag before.
-fn tag_right(from: u32, address: u16, width: u16, sign: u16, ttl: u16) -> bool
-    ensures { λ r. ⌜ r ≡ (leb from address && (rightWidth (address ∷ []) width && (rightSign (address ∷ width ∷ []) sign && rightTtl ttl))) ⌝ }
+fn tag_right(from: u32, address: u16, width: u16, sign: u16, ttl: u16, strict: u16) -> bool
+    ensures { λ r. ⌜ r ≡ (leb from address && (rightWidth (address ∷ []) width && (rightSign (address ∷ width ∷ []) sign && (rightTtl ttl && rightStrict strict)))) ⌝ }
 {
     (from <= address as u32)
         & (((width == 16) | ((width == 32) & (address as u32 + 1 < numbers::ADDRESSES)))
-            & (((sign == 0) | ((sign == 1) & (width == 16))) & (ttl <= numbers::MOST_TTL)))
+            & (((sign == 0) | ((sign == 1) & (width == 16)))
+                & ((ttl <= numbers::MOST_TTL) & (strict <= 1))))
 }
 
 // The first address above a tag; and that a column's number is an address.
@@ -47,8 +48,9 @@ pub fn is_valid<'a>(
     width: &'a [u16; numbers::MOST_TAGS],
     sign: &'a [u16; numbers::MOST_TAGS],
     ttl: &'a [u16; numbers::MOST_TAGS],
+    strict: &'a [u16; numbers::MOST_TAGS],
 ) -> bool
-    ensures { λ r. ⌜ r ≡ valid (valueOf (settings timeout join tags (now (addr .entry)) (now (width .entry)) (now (sign .entry)) (now (ttl .entry)))) ⌝ }
+    ensures { λ r. ⌜ r ≡ valid (valueOf (settings timeout join tags (now (addr .entry)) (now (width .entry)) (now (sign .entry)) (now (ttl .entry)) (now (strict .entry)))) ⌝ }
 {
     if !head_right(timeout, join, tags) {
         return false;
@@ -57,7 +59,7 @@ pub fn is_valid<'a>(
     let mut from: u32 = 0;
     let mut k: usize = 0;
     while k < tags as usize {
-        right = right & tag_right(from, addr[k], width[k], sign[k], ttl[k]);
+        right = right & tag_right(from, addr[k], width[k], sign[k], ttl[k], strict[k]);
         from = above(addr[k], width[k]);
         k += 1;
     }

@@ -3,11 +3,12 @@
 use Prim.Native.Nat.{ℕ, _+_, _-_, _≤_, _<_}
 use mathlib.Core.Path.{_≡_, refl, ap, sym, subst, _∙_}
 use mathlib.Core.Logic.{⊎-elim, _⊎_, inl, inr, _↔_, Iff·trans}
-use mathlib.Core.Bool.{true, false, true≢false}
+use mathlib.Core.Bool.{true, false, cond, not, _&&_, true≢false}
 use mathlib.Core.Option.{some, Option·getD}
 use mathlib.Core.List.{List, [], _∷_, _++_, map, map-append, append-assoc, List·Memᴰ}
 use native.Mathlib.Omega.{arith}
 use lib.ListN.{length, getD, take}
+use lib.Dec.{eqb}
 use Rattle.numbers.specs.Numbers.{ids, places, distance, latestTime}
 use Rattle.laws.specs.Lists.{lastGiven, lastOf}
 use Rattle.laws.specs.Search.{count}
@@ -15,7 +16,7 @@ use Rattle.laws.specs.Bits.{has}
 use Rattle.laws.specs.Bytes.{over}
 use Rattle.laws.proofs.Choice.{never}
 use Rattle.laws.proofs.ListLaws.{splits}
-use Rattle.wire.specs.Frame.{idOf, laid}
+use Rattle.wire.specs.Frame.{idOf, functionOf, misframed, laid}
 use Rattle.bcd.specs.Bcd.{inRange}
 use Rattle.bcd.specs.Words.{numberOf}
 use Rattle.settings.specs.declared.Settings.{Settings}
@@ -24,15 +25,18 @@ use Rattle.settings.specs.Values.{valueOf}
 use Rattle.settings.specs.TagWords.{kindOf, tagOf, Ascending}
 use Rattle.settings.proofs.ValidLaws.{valid-exactly}
 use Rattle.settings.proofs.TagLaws.{valid-ascends}
-use Rattle.pdu.specs.Requests.{legal}
+use Rattle.pdu.specs.Requests.{classOf, badFunction, badLength, askedOf, faultOf, checkedOf}
 use Rattle.pdu.specs.Replies.{What, excepts}
 use Rattle.pdu.specs.Words.{whatOf, closedBit}
 use Rattle.pdu.specs.Spoiling.{spoils}
 use Rattle.pdu.specs.declared.Table.the-variants.{Registers}
 use Rattle.pdu.specs.declared.Asked.the-variants.{Read}
+use Rattle.pdu.specs.declared.Checked.the-variants as check
 use Rattle.rewrite.specs.Registers.{registersAt}
 use Rattle.rewrite.specs.Rewriting.{ownIn}
-use Rattle.rewrite.specs.Plain.{Whole, OfBits}
+use Rattle.rewrite.specs.Plain.{Has, InRun, Whole, OfBits}
+use Rattle.rewrite.specs.Legal.{legal}
+use Rattle.rewrite.specs.Strict.{Carries, Violates, HasDigits}
 use Rattle.cache.specs.Cache.{Cached, inCache}
 use Rattle.cache.specs.Plain.{Keyed, Fresh, Takes}
 use Rattle.book.specs.Book.{Party, Live, Event, at}
@@ -40,11 +44,12 @@ use Rattle.book.specs.Book.Event.{passed, issued}
 use Rattle.book.specs.Ledger.{Ticket, Apart, Differing, Anew, partiesOf}
 use Rattle.book.specs.Traced.{touches, issuedId, behind, Outstanding}
 use Rattle.book.specs.Desk.{AllLive, isLive}
-use Rattle.machine.specs.Machine.{Machine, Note, rules, settings}
+use Rattle.machine.specs.Machine.{Machine, Note, rules, settings, clocked}
 use Rattle.machine.specs.Calls.{Call, Outcome, outOf, listOf, timeOf}
 use Rattle.machine.specs.Calls.Call.{attach, detach, request, reply, tick, linkLost}
 use Rattle.machine.specs.Refusals.{refusal}
-use Rattle.machine.specs.Outcomes.{outcome}
+use Rattle.machine.specs.Requests.{excepted, served}
+use Rattle.machine.specs.Outcomes.{granted, outcome}
 use Rattle.machine.specs.Granted.{concerns}
 use Rattle.machine.specs.Numbers.{ten, numbers, isIssued, isJoined, isException, isTimedOut, isNothingDue, isHit}
 use Rattle.machine.specs.Waiting.{nextDeadline}
@@ -57,10 +62,11 @@ use Rattle.machine.specs.declared.Answer.the-variants as answer
 use Rattle.machine.specs.declared.Report.{Report}
 use Rattle.machine.specs.declared.NextDeadline.{NextDeadline}
 use Rattle.machine.specs.RefusalTable.{table, Applies}
-use Rattle.machine.specs.Requested.{NoneToJoin, Carries, Hits, Issues, Joins, Excepts, Accepts, Stands}
+use Rattle.machine.specs.Requested.{NoneToJoin, Hits, Issues, Joins, Excepts, Accepts, Stands}
 use Rattle.machine.specs.PartysFrames.{PartysFrame}
 use Rattle.machine.specs.Answered.{showing, Lent, tickAt, ticksAt}
 use Rattle.machine.proofs.NumberLaws.{refusal-told, refusal-exactly, exception-exactly, join-exactly}
+use Rattle.machine.proofs.OutcomeLaws.{granted-is}
 use Rattle.machine.proofs.AskLaws.{bits-carry-none}
 use Rattle.machine.proofs.StateLaws.{seen-issue}
 use Rattle.machine.proofs.MeetsLaws.{spoils-in-bytes}
@@ -578,6 +584,54 @@ module _ (from : Settings) {r : Report} {d d′ : Device} (ls : List Line) (fres
   -- And it counts no tag that is raw for partial cover: each register lies in a tag wholly inside the range, and tags do not overlap.
   pub a-hit-cuts-no-tag : (c t : ℕ) (f o : List ℕ) {saw : Seen} {d″ : Device} → Called d′ (request c t f o) saw d″ → saw .report .outcome ≡ isHit → saw .report .partial ≡ 0
   a-hit-cuts-no-tag c t f o s e = claim.a-hit-cuts-no-tag v xs (adopted-valid (valueOf from)) c t f o _ _ _ (hit-says c t f o s e)
+
+  -- Request #108: "If a write covers a strict tag partly, or its value is outside the range, the client gets exception 03 and nothing is issued." A write 06 or 16 that is not refused and whose
+  -- bytes give neither exception 03 nor 02 reports exception 03 exactly if some strict tag has a register in the write and another outside it, or lies in it with a value outside its range, in
+  -- plain numbers (`Violates`). All ten numbers, the buffer, and that nothing is issued, closed or dropped then: `an-exception-is-this`. What is lent is bytes, which a line does not say.
+  pub a-strict-tag-forbids-exactly : (c t : ℕ) (f o : List ℕ) → ((k : ℕ) → getD f k 0 < 256) → {saw : Seen} {d″ : Device} → Called d′ (request c t f o) saw d″ → saw .report .refusal ≡ 0
+      → checkedOf f ≡ check.Legal (askedOf f) → (base start quantity : ℕ) → Carries (asking f .asked) base start quantity
+      → ((saw .report .outcome ≡ isException) × (saw .report .code ≡ 3)) ↔ Violates (inForce from .tags) f base start quantity
+  a-strict-tag-forbids-exactly c t f o bytes s z fine base start quantity carries =
+      let x = request c t f o in
+      let h = passes x s z in
+      rw (sees x s) (Iff·trans (exception-exactly _ 3) (claim.a-strict-tag-forbids-exactly v xs c t f o h bytes fine base start quantity carries))
+
+  -- "The check follows exception 02 in 01's order": a request that is not refused reports exception 03 exactly if its bytes give that, or they give neither 03 nor 02 and it is a write of
+  -- registers that a strict tag forbids. No read, no write of coils and no other function is forbidden, and bytes that give 02 do not get 03.
+  pub only-a-strict-tag-forbids : (c t : ℕ) (f o : List ℕ) → ((k : ℕ) → getD f k 0 < 256) → {saw : Seen} {d″ : Device} → Called d′ (request c t f o) saw d″ → saw .report .refusal ≡ 0
+      → ((saw .report .outcome ≡ isException) × (saw .report .code ≡ 3))
+      ↔ ((checkedOf f ≡ check.Excepted 3)
+      ⊎ ((checkedOf f ≡ check.Legal (askedOf f))
+      × ((base : ℕ) × (start : ℕ) × (quantity : ℕ) × Carries (asking f .asked) base start quantity × Violates (inForce from .tags) f base start quantity)))
+  only-a-strict-tag-forbids c t f o bytes s z =
+      let x = request c t f o in
+      let h = passes x s z in
+      rw (sees x s) (Iff·trans (exception-exactly _ 3) (claim.only-a-strict-tag-forbids v xs c t f o h bytes))
+
+  -- "No frame to the device ever holds, at a strict tag, a word its kind does not allow, for the register writes 06 and 16." In the buffer after a write that is issued, a strict tag of which
+  -- any register is written lies wholly in the write and has there digits that its kind allows, and these decode to the number that the client wrote there (`HasDigits`): function, addresses
+  -- and quantity as the written frame has them.
+  pub what-goes-out-at-a-strict-tag : (c t : ℕ) (f o : List ℕ) → ((k : ℕ) → getD f k 0 < 256) → {saw : Seen} {d″ : Device} → Called d′ (request c t f o) saw d″ → saw .report .outcome ≡ isIssued
+      → (base start quantity : ℕ) → Carries (asking (saw .frame) .asked) base start quantity
+      → (tag : Tag) → List·Memᴰ tag (inForce from .tags) → tag .strict ≡ 1 → (y : ℕ) → Has tag y → InRun start quantity y → HasDigits tag f (saw .frame) base start quantity
+  what-goes-out-at-a-strict-tag c t f o bytes s e base start quantity carries tag listed strict y has in-run =
+      let x = request c t f o in
+      rw (sees x s)
+      (claim.what-goes-out-at-a-strict-tag v xs (adopted-valid (valueOf from)) c t f o _ _ _ _ (rw (lived .after) at (report-tells x s .issued e)) bytes base start quantity (rw (sees x s) at carries) tag listed strict y has in-run)
+
+  -- "Lenient tags keep today's counts." Where no tag in force is strict, a request that is not refused shows and leaves what it did before, and which request is legal is as it was: its bytes
+  -- alone decide. Where some are, the counts of what is issued are still those of `Rewrites`, which does not ask whether a tag is strict (`an-issue-is-this`).
+  pub without-a-strict-tag-as-before : ((tag : Tag) → List·Memᴰ tag (inForce from .tags) → tag .strict ≡ 1 → ⊥)
+      → (c t : ℕ) (f o : List ℕ) {saw : Seen} {d″ : Device} → Called d′ (request c t f o) saw d″ → saw .report .refusal ≡ 0
+      → (saw ≡ seenOf (cond (eqb (faultOf f) 0) (served (clocked (machineIn d′) t) c f o) (excepted (clocked (machineIn d′) t) (faultOf f) f o)))
+      × (machineIn d″ ≡ cond (eqb (faultOf f) 0) (served (clocked (machineIn d′) t) c f o) (excepted (clocked (machineIn d′) t) (faultOf f) f o) .after)
+      × (legal (inForce from) f ≡ (not (misframed f) && (not (badFunction (functionOf f)) && (not (badLength (classOf (functionOf f)) f) && eqb (faultOf f) 0))))
+  unfolding granted
+  without-a-strict-tag-as-before lenient c t f o s z =
+      let x = request c t f o in
+      let w = claim.without-a-strict-tag-as-before v xs lenient c t f o in
+      let comes = granted-is (afterCalls v xs) x (passes x s z) ∙ w .0 in
+      rw (lived .after) (sees x s ∙ ap seenOf comes, rw (lived .after) at (left x s) ∙ ap (λ (y : Outcome). y .after) comes, w .1)
 
   -- Tender 3: live proxy ids differ, place by place of the device.
   pub live-ids-differ : (i j : ℕ) → (getD (d′ .ids) i 0 ≡ 0 → ⊥) → getD (d′ .ids) i 0 ≡ getD (d′ .ids) j 0 → i ≡ j

@@ -71,7 +71,7 @@ module _ (t : List ℕ) {r : SettingsRead} (promise : ReadPromised t r) where
 
   -- "Refusal 10 on reading returns timeout 3000, join 1 and no tags."
   pub a-wrong-text-gives-the-usual-settings : (k : ℕ) → FirstWrong t k
-      → r .settings ≡ record { timeout = 3000; join = 1; tags = 0; addr = replicate 256 0; width = replicate 256 0; sign = replicate 256 0; ttl = replicate 256 0 }
+      → r .settings ≡ record { timeout = 3000; join = 1; tags = 0; addr = replicate 256 0; width = replicate 256 0; sign = replicate 256 0; ttl = replicate 256 0; strict = replicate 256 0 }
   a-wrong-text-gives-the-usual-settings = says.read-says t promise .usual
 
   -- "Lines of key=value in this order, each ended by LF, decimals without leading zeros, nothing else": such a text is read, and the settings that it gives have the numbers of its lines.

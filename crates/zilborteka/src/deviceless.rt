@@ -35,6 +35,7 @@ pub extern "C" fn zb_settings_write(from: &Settings, text: &mut [u8]) -> Report
         &from.width,
         &from.sign,
         &from.ttl,
+        &from.strict,
         text,
     )
 }

@@ -40,6 +40,7 @@ pub extern "C" fn zb_fresh(st: &mut Device, from: &Settings) -> Report
         &from.width,
         &from.sign,
         &from.ttl,
+        &from.strict,
     ))
 }
 

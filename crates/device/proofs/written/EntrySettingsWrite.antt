@@ -1,4 +1,4 @@
--- Every entry point `f(from: &Settings, text: &mut [u8]) -> machine/Report` whose body is `g(&from.timeout, &from.join, &from.tags, &from.addr, &from.width, &from.sign, &from.ttl, text)` meets its contract where its core g meets its own at the fields that are lent. Written by tools/gen.py.
+-- Every entry point `f(from: &Settings, text: &mut [u8]) -> machine/Report` whose body is `g(&from.timeout, &from.join, &from.tags, &from.addr, &from.width, &from.sign, &from.ttl, &from.strict, text)` meets its contract where its core g meets its own at the fields that are lent. Written by tools/gen.py.
 --     Rel, CoreRel     what the contract of the entry point, and that of the core, is a relation of: parameters at entry, result, slices at exit; the same at the fields that are lent
 --     function g       the MIR of such an entry point
 --     clauses R, core-clauses Rc   the contracts `ensures { λ r. ⌜ R .. ⌝ }`
@@ -53,11 +53,11 @@ abbrev pub Rel : Type 1
 Rel = Settings → List ℕ → Report → List ℕ → Type 0
 
 abbrev pub CoreRel : Type 1
-CoreRel = ℕ → ℕ → ℕ → List ℕ → List ℕ → List ℕ → List ℕ → List ℕ → Report → List ℕ → Type 0
+CoreRel = ℕ → ℕ → ℕ → List ℕ → List ℕ → List ℕ → List ℕ → List ℕ → List ℕ → Report → List ℕ → Type 0
 
 -- what is shared
 abbrev shown : List Use
-shown = lend MS0.m-timeout ∷ lend MS0.m-join ∷ lend MS0.m-tags ∷ lend MS0.m-addr ∷ lend MS0.m-width ∷ lend MS0.m-sign ∷ lend MS0.m-ttl ∷ []
+shown = lend MS0.m-timeout ∷ lend MS0.m-join ∷ lend MS0.m-tags ∷ lend MS0.m-addr ∷ lend MS0.m-width ∷ lend MS0.m-sign ∷ lend MS0.m-ttl ∷ lend MS0.m-strict ∷ []
 
 infixr 1 _$ₛ_
 abbrev _$ₛ_ : (Code → Code) → Code → Code
@@ -80,6 +80,7 @@ function g = record {
       local (tyRef erased imm (tyArray (tyInt w16) 256)) valueLocal ∷
       local (tyRef erased imm (tyArray (tyInt w16) 256)) valueLocal ∷
       local (tyRef erased imm (tyArray (tyInt w16) 256)) valueLocal ∷
+      local (tyRef erased imm (tyArray (tyInt w16) 256)) valueLocal ∷
       local (tyRef erased mut (tyInt w8)) valueLocal ∷
       local (sliceTy (tyRef erased mut (tyInt w8))) valueLocal ∷ [];
   body =
@@ -90,9 +91,10 @@ function g = record {
       seq (assign (place 7 []) (addrOf (place 1 (deref P0′.mir ∷ field 4 ∷ [])))) $ₛ
       seq (assign (place 8 []) (addrOf (place 1 (deref P0′.mir ∷ field 5 ∷ [])))) $ₛ
       seq (assign (place 9 []) (addrOf (place 1 (deref P0′.mir ∷ field 6 ∷ [])))) $ₛ
-      seq (assign (place 10 []) (addrOf (place 2 (field 0 ∷ deref (tyInt w8) ∷ [])))) $ₛ
-      seq (assign (place 11 []) (aggregate (copy (place 10 []) ∷ copy (place 2 (field 1 ∷ [])) ∷ []))) $ₛ
-      seq (call g (copy (place 3 []) ∷ copy (place 4 []) ∷ copy (place 5 []) ∷ copy (place 6 []) ∷ copy (place 7 []) ∷ copy (place 8 []) ∷ copy (place 9 []) ∷ copy (place 11 []) ∷ []) (place 0 [])) $ₛ
+      seq (assign (place 10 []) (addrOf (place 1 (deref P0′.mir ∷ field 7 ∷ [])))) $ₛ
+      seq (assign (place 11 []) (addrOf (place 2 (field 0 ∷ deref (tyInt w8) ∷ [])))) $ₛ
+      seq (assign (place 12 []) (aggregate (copy (place 11 []) ∷ copy (place 2 (field 1 ∷ [])) ∷ []))) $ₛ
+      seq (call g (copy (place 3 []) ∷ copy (place 4 []) ∷ copy (place 5 []) ∷ copy (place 6 []) ∷ copy (place 7 []) ∷ copy (place 8 []) ∷ copy (place 9 []) ∷ copy (place 10 []) ∷ copy (place 12 []) ∷ []) (place 0 [])) $ₛ
       return;
 }
 
@@ -107,12 +109,12 @@ abbrev pub core-signature : Signature
 core-signature = record {
   lifetimes = 2;
   outlives = [];
-  params = RefOf (0 ∷ []) tt (plain (λ κs. u32)) (λ κs. tt) ∷ RefOf (0 ∷ []) tt (plain (λ κs. u32)) (λ κs. tt) ∷ RefOf (0 ∷ []) tt (plain (λ κs. u32)) (λ κs. tt) ∷ RefOf (0 ∷ []) tt (plain (λ κs. Array u16 256)) (λ κs. tt) ∷ RefOf (0 ∷ []) tt (plain (λ κs. Array u16 256)) (λ κs. tt) ∷ RefOf (0 ∷ []) tt (plain (λ κs. Array u16 256)) (λ κs. tt) ∷ RefOf (0 ∷ []) tt (plain (λ κs. Array u16 256)) (λ κs. tt) ∷ (SliceRefMutOf (1 ∷ []) tt (plain (λ κs. u8)) (λ κs. tt)) ∷ [];
+  params = RefOf (0 ∷ []) tt (plain (λ κs. u32)) (λ κs. tt) ∷ RefOf (0 ∷ []) tt (plain (λ κs. u32)) (λ κs. tt) ∷ RefOf (0 ∷ []) tt (plain (λ κs. u32)) (λ κs. tt) ∷ RefOf (0 ∷ []) tt (plain (λ κs. Array u16 256)) (λ κs. tt) ∷ RefOf (0 ∷ []) tt (plain (λ κs. Array u16 256)) (λ κs. tt) ∷ RefOf (0 ∷ []) tt (plain (λ κs. Array u16 256)) (λ κs. tt) ∷ RefOf (0 ∷ []) tt (plain (λ κs. Array u16 256)) (λ κs. tt) ∷ RefOf (0 ∷ []) tt (plain (λ κs. Array u16 256)) (λ κs. tt) ∷ (SliceRefMutOf (1 ∷ []) tt (plain (λ κs. u8)) (λ κs. tt)) ∷ [];
   result = plain (λ κs. Res.the-row);
 }
 
 abbrev pub core-ended : Ended
-core-ended = record { signature = core-signature; kept = (yes, (yes, (yes, (yes, (yes, (yes, (yes, (yes, tt)))))))) }
+core-ended = record { signature = core-signature; kept = (yes, (yes, (yes, (yes, (yes, (yes, (yes, (yes, (yes, tt))))))))) }
 
 module _ {M : Type 1} (𝓤 : URA M) (R : Rel) where
   abbrev pub clauses : Clauses 𝓤 ended
@@ -123,7 +125,7 @@ module _ {M : Type 1} (𝓤 : URA M) (Rc : CoreRel) where
   core-clauses κs a = record {
     ghost = Unit {0};
     requires = λ _. emp 𝓤;
-    ensures = λ _ r e. fact 𝓤 (Rc (a .0 .now) (a .1 .0 .now) (a .1 .1 .0 .now) (a .1 .1 .1 .0 .now) (a .1 .1 .1 .1 .0 .now) (a .1 .1 .1 .1 .1 .0 .now) (a .1 .1 .1 .1 .1 .1 .0 .now) (a .1 .1 .1 .1 .1 .1 .1 .0 .now) r (e .1 .1 .1 .1 .1 .1 .1 .0 .now));
+    ensures = λ _ r e. fact 𝓤 (Rc (a .0 .now) (a .1 .0 .now) (a .1 .1 .0 .now) (a .1 .1 .1 .0 .now) (a .1 .1 .1 .1 .0 .now) (a .1 .1 .1 .1 .1 .0 .now) (a .1 .1 .1 .1 .1 .1 .0 .now) (a .1 .1 .1 .1 .1 .1 .1 .0 .now) (a .1 .1 .1 .1 .1 .1 .1 .1 .0 .now) r (e .1 .1 .1 .1 .1 .1 .1 .1 .0 .now));
   }
 
   module _ (H : Heap 𝓤) (A : Atoms 𝓤) where
@@ -134,7 +136,7 @@ module _ {M : Type 1} (𝓤 : URA M) (Rc : CoreRel) where
 abbrev stayed : Stays (ended .signature .params) (ended .kept)
 stayed = (stay-dropped (RefOf (0 ∷ []) tt (plain (λ κs. P0.the-row)) (λ κs. tt)) yes, (gave-slice (1 ∷ []) tt (plain (λ _. u8)), tt))
 
-module _ {M : Type 1} (𝓤 : URA M) (H : Heap 𝓤) (A : Atoms 𝓤) (W : Given 𝓤 H A) (g : Name) (R : Rel) (Rc : CoreRel) (imp : ((p0 : Settings) (p1 : List ℕ) (r : Report) (z1 : List ℕ) → Rc (p0 .timeout) (p0 .join) (p0 .tags) (p0 .addr) (p0 .width) (p0 .sign) (p0 .ttl) p1 r z1 → R p0 p1 r z1)) (κ0 κ1 : Lft) (q0 q1 : Share) (p0 : RefT Settings) (p1 : RefT (List ℕ)) (fit1 : Room u8 (length (p1 .now))) where
+module _ {M : Type 1} (𝓤 : URA M) (H : Heap 𝓤) (A : Atoms 𝓤) (W : Given 𝓤 H A) (g : Name) (R : Rel) (Rc : CoreRel) (imp : ((p0 : Settings) (p1 : List ℕ) (r : Report) (z1 : List ℕ) → Rc (p0 .timeout) (p0 .join) (p0 .tags) (p0 .addr) (p0 .width) (p0 .sign) (p0 .ttl) (p0 .strict) p1 r z1 → R p0 p1 r z1)) (κ0 κ1 : Lft) (q0 q1 : Share) (p0 : RefT Settings) (p1 : RefT (List ℕ)) (fit1 : Room u8 (length (p1 .now))) where
   -- the parameters of the entry point
   abbrev Tail : List RattleType
   Tail = ShrRef (named 0) κ0 P0.the-row ∷ MutSlice (named 1) κ1 u8 ∷ []
@@ -190,34 +192,35 @@ module _ {M : Type 1} (𝓤 : URA M) (H : Heap 𝓤) (A : Atoms 𝓤) (W : Given
     walk : ent 𝓤 (onEntry 𝓤 H A signature (κ0, (κ1, tt)) (q0, (q1, tt)) a vals) (WpFn 𝓤 H C Λ (function g) (vptr (p0 .ptr .0) (p0 .ptr .1) ∷ sliceVal (p1 .ptr) (length (p1 .now)) ∷ []) Post)
     walk =
         qed W ((‵ (flft κ0 q0) ⊛ (‵ (flft κ1 q1) ⊛ ‵ ftrue)) ∷ ‵ (owns (Tail) a vals) ∷ []) ∵ enter ! C Λ (function g) (vptr (p0 .ptr .0) (p0 .ptr .1) ∷ sliceVal (p1 .ptr) (length (p1 .now)) ∷ []) _ $
-        alloc1 ! (λ l0. alloc1 ! (λ l1. alloc1 ! (λ l2. alloc1 ! (λ l3. alloc1 ! (λ l4. alloc1 ! (λ l5. alloc1 ! (λ l6. alloc1 ! (λ l7. alloc1 ! (λ l8. alloc1 ! (λ l9. alloc1 ! (λ l10. alloc1 ! (λ l11. alloc0 ! $ params1 ! $
-        pass1 ! (init ! 20 refl (tt, tt)) $ pass1 ! (init ! 18 refl (tt, (tt, (record { fits = fit1 .0 }, tt)))) $ pass0 ! $
+        alloc1 ! (λ l0. alloc1 ! (λ l1. alloc1 ! (λ l2. alloc1 ! (λ l3. alloc1 ! (λ l4. alloc1 ! (λ l5. alloc1 ! (λ l6. alloc1 ! (λ l7. alloc1 ! (λ l8. alloc1 ! (λ l9. alloc1 ! (λ l10. alloc1 ! (λ l11. alloc1 ! (λ l12. alloc0 ! $ params1 ! $
+        pass1 ! (init ! 22 refl (tt, tt)) $ pass1 ! (init ! 20 refl (tt, (tt, (record { fits = fit1 .0 }, tt)))) $ pass0 ! $
         -- the fields' addresses, and the slices again
-        assigns ! (addr ! (from ! (hop ! (look ! 20 refl) (fld ! refl (stop !))))) (from ! (stop !)) (init ! 16 refl (tt, tt)) $
-        assigns ! (addr ! (from ! (hop ! (look ! 20 refl) (fld ! refl (stop !))))) (from ! (stop !)) (init ! 14 refl (tt, tt)) $
-        assigns ! (addr ! (from ! (hop ! (look ! 20 refl) (fld ! refl (stop !))))) (from ! (stop !)) (init ! 12 refl (tt, tt)) $
-        assigns ! (addr ! (from ! (hop ! (look ! 20 refl) (fld ! refl (stop !))))) (from ! (stop !)) (init ! 10 refl (tt, tt)) $
-        assigns ! (addr ! (from ! (hop ! (look ! 20 refl) (fld ! refl (stop !))))) (from ! (stop !)) (init ! 8 refl (tt, tt)) $
-        assigns ! (addr ! (from ! (hop ! (look ! 20 refl) (fld ! refl (stop !))))) (from ! (stop !)) (init ! 6 refl (tt, tt)) $
-        assigns ! (addr ! (from ! (hop ! (look ! 20 refl) (fld ! refl (stop !))))) (from ! (stop !)) (init ! 4 refl (tt, tt)) $
-        assigns ! (addr ! (from ! (fld ! refl (hop ! (look-in ! 18 (sub ! 0 refl (whole !))) (stop !))))) (from ! (stop !)) (init ! 2 refl (tt, tt)) $
-        assigns ! (agg ! (and-then ! (load ! (from ! (stop !)) (look ! 2 refl)) (and-then ! (load ! (from ! (fld ! refl (stop !))) (look-in ! 18 (sub ! 1 refl (whole !)))) (no-more !)))) (from ! (stop !)) (init ! 0 refl (tt, (tt, (record { fits = fit1 .0 }, tt)))) $
+        assigns ! (addr ! (from ! (hop ! (look ! 22 refl) (fld ! refl (stop !))))) (from ! (stop !)) (init ! 18 refl (tt, tt)) $
+        assigns ! (addr ! (from ! (hop ! (look ! 22 refl) (fld ! refl (stop !))))) (from ! (stop !)) (init ! 16 refl (tt, tt)) $
+        assigns ! (addr ! (from ! (hop ! (look ! 22 refl) (fld ! refl (stop !))))) (from ! (stop !)) (init ! 14 refl (tt, tt)) $
+        assigns ! (addr ! (from ! (hop ! (look ! 22 refl) (fld ! refl (stop !))))) (from ! (stop !)) (init ! 12 refl (tt, tt)) $
+        assigns ! (addr ! (from ! (hop ! (look ! 22 refl) (fld ! refl (stop !))))) (from ! (stop !)) (init ! 10 refl (tt, tt)) $
+        assigns ! (addr ! (from ! (hop ! (look ! 22 refl) (fld ! refl (stop !))))) (from ! (stop !)) (init ! 8 refl (tt, tt)) $
+        assigns ! (addr ! (from ! (hop ! (look ! 22 refl) (fld ! refl (stop !))))) (from ! (stop !)) (init ! 6 refl (tt, tt)) $
+        assigns ! (addr ! (from ! (hop ! (look ! 22 refl) (fld ! refl (stop !))))) (from ! (stop !)) (init ! 4 refl (tt, tt)) $
+        assigns ! (addr ! (from ! (fld ! refl (hop ! (look-in ! 20 (sub ! 0 refl (whole !))) (stop !))))) (from ! (stop !)) (init ! 2 refl (tt, tt)) $
+        assigns ! (agg ! (and-then ! (load ! (from ! (stop !)) (look ! 2 refl)) (and-then ! (load ! (from ! (fld ! refl (stop !))) (look-in ! 20 (sub ! 1 refl (whole !)))) (no-more !)))) (from ! (stop !)) (init ! 0 refl (tt, (tt, (record { fits = fit1 .0 }, tt)))) $
         -- the shared struct's borrow is taken apart into those of its fields
-        move ! (24 ∷ []) $ split ! $ move ! (26 ∷ []) $ fsplit ! $ fsplit3 ! $ drop ! $ drop ! $ move ! (0 ∷ 2 ∷ 1 ∷ []) $
+        move ! (26 ∷ []) $ split ! $ move ! (28 ∷ []) $ fsplit ! $ fsplit3 ! $ drop ! $ drop ! $ move ! (0 ∷ 2 ∷ 1 ∷ []) $
         use3 W (later (some (λ (δs : Names shown). ‵ (owns Tail′ (tail′ δs) tail-vals′) ⊛ ‵ (flft κ0 q0)))) (share-all (named 0) κ0 𝓤 H A (F0.Whole (p0 .now) (p0 .ptr .0) (p0 .ptr .1)) (p0 .ptr .0) (p0 .ptr .1) W q0 (F0.halved 𝓤 H A W (p0 .now) (p0 .ptr .0) (p0 .ptr .1)) Rest rest rest-vals shown zero (MS0.tuple (p0 .now)) (F0.holds 𝓤 H A W (p0 .now) (p0 .ptr .0) (p0 .ptr .1))) $ await ! tt $ pick ! (λ δs. split ! $
         move ! (1 ∷ 2 ∷ []) $ join ! $ move ! (0 ∷ 1 ∷ []) $ use2 W (raw (Core 𝓤 Rc H A .pre (to-core δs))) (with-emp 𝓤 _) $
         calls-at ! fm (Core 𝓤 Rc H A) known (to-core δs)
-        (and-then ! (load ! (from ! (stop !)) (look ! 17 refl)) (and-then ! (load ! (from ! (stop !)) (look ! 15 refl)) (and-then ! (load ! (from ! (stop !)) (look ! 13 refl)) (and-then ! (load ! (from ! (stop !)) (look ! 11 refl)) (and-then ! (load ! (from ! (stop !)) (look ! 9 refl)) (and-then ! (load ! (from ! (stop !)) (look ! 7 refl)) (and-then ! (load ! (from ! (stop !)) (look ! 5 refl)) (and-then ! (load ! (from ! (stop !)) (look ! 1 refl)) (no-more !))))))))) (λ v.
+        (and-then ! (load ! (from ! (stop !)) (look ! 19 refl)) (and-then ! (load ! (from ! (stop !)) (look ! 17 refl)) (and-then ! (load ! (from ! (stop !)) (look ! 15 refl)) (and-then ! (load ! (from ! (stop !)) (look ! 13 refl)) (and-then ! (load ! (from ! (stop !)) (look ! 11 refl)) (and-then ! (load ! (from ! (stop !)) (look ! 9 refl)) (and-then ! (load ! (from ! (stop !)) (look ! 7 refl)) (and-then ! (load ! (from ! (stop !)) (look ! 5 refl)) (and-then ! (load ! (from ! (stop !)) (look ! 1 refl)) (no-more !)))))))))) (λ v.
         use1 W (later (some (λ (r : Report). ((‵ (flft κ0 q0) ⊛ (‵ (flft κ1 q1) ⊛ ‵ ftrue)) ⊛ ‵ (Res.the-row .own r (v ∷ []))) ⊛ raw (ensured 𝓤 H A core-ended (core-clauses 𝓤 Rc) (κ0, (κ1, tt)) (passed δs) tt r)))) (id⊢ 𝓤 _) $ await ! tt $ pick ! (λ r. split ! $ move ! (1 ∷ []) $
-        use1 W (some (λ (ws : (Unit {0} × (Unit {0} × (Unit {0} × (Unit {0} × (Unit {0} × (Unit {0} × (Unit {0} × (List ℕ × Unit {0}))))))))). ‵ (fsep ftrue (fsep ftrue (fsep ftrue (fsep ftrue (fsep ftrue (fsep ftrue (fsep ftrue (fsep (fsep (finally u8 (p1 .name) (ws .1 .1 .1 .1 .1 .1 .1 .0)) (feq ℕ (length (ws .1 .1 .1 .1 .1 .1 .1 .0)) (length (p1 .now)))) ftrue)))))))) ⊛ raw (fact 𝓤 (Rc (p0 .now .timeout) (p0 .now .join) (p0 .now .tags) (p0 .now .addr) (p0 .now .width) (p0 .now .sign) (p0 .now .ttl) (p1 .now) r (ws .1 .1 .1 .1 .1 .1 .1 .0))))) (id⊢ 𝓤 _) $ pick ! (λ ws. split ! $ move ! (1 ∷ []) $
-        heard ! (Rc (p0 .now .timeout) (p0 .now .join) (p0 .now .tags) (p0 .now .addr) (p0 .now .width) (p0 .now .sign) (p0 .now .ttl) (p1 .now) r (ws .1 .1 .1 .1 .1 .1 .1 .0)) (λ e. move ! (1 ∷ []) $ split ! $
-        move ! (2 ∷ []) $ fsplit ! $ drop ! $ fsplit ! $ drop ! $ fsplit ! $ drop ! $ fsplit ! $ drop ! $ fsplit ! $ drop ! $ fsplit ! $ drop ! $ fsplit ! $ drop ! $ fsplit ! $ fsplit ! $ move ! (1 ∷ []) $ feqL ! (λ e1. move ! (1 ∷ []) $ drop ! $ move ! (2 ∷ []) $ peeks ! Res.the-row (Is Res.the-row) (shows 𝓤 H A Res.the-row) r (v ∷ []) (λ is.
-        move ! (0 ∷ 1 ∷ 2 ∷ []) $ land ! (from ! (stop !)) (init ! 25 refl (LL.lawful Res.the-type Res′.the-laws 𝓤 H A W .typed r _ is .0)) $
-        returns ! (look ! 25 refl) $ forget ! 3 refl $ forget ! 5 refl $ forget ! 7 refl $ forget ! 9 refl $ forget ! 11 refl $ forget ! 13 refl $ forget ! 15 refl $ forget ! 17 refl $ forget ! 19 refl $ forget ! 21 refl $ forget ! 23 refl $ forget ! 25 refl $
-        move ! (25 ∷ 26 ∷ []) $ free1 ! $ move ! (23 ∷ 24 ∷ []) $ free1 ! $ move ! (21 ∷ 22 ∷ []) $ free1 ! $ move ! (19 ∷ 20 ∷ []) $ free1 ! $ move ! (17 ∷ 18 ∷ []) $ free1 ! $ move ! (15 ∷ 16 ∷ []) $ free1 ! $ move ! (13 ∷ 14 ∷ []) $ free1 ! $ move ! (11 ∷ 12 ∷ []) $ free1 ! $ move ! (9 ∷ 10 ∷ []) $ free1 ! $ move ! (7 ∷ 8 ∷ []) $ free1 ! $ move ! (5 ∷ 6 ∷ []) $ free1 ! $ move ! (3 ∷ 4 ∷ []) $ free1 ! $ free0 ! $
-        keep ! (0 ∷ 1 ∷ 2 ∷ []) $ by ! (exits r v (ws .1 .1 .1 .1 .1 .1 .1 .0) (imp (p0 .now) (p1 .now) r (ws .1 .1 .1 .1 .1 .1 .1 .0) e) e1))))))))))))))))))))
+        use1 W (some (λ (ws : (Unit {0} × (Unit {0} × (Unit {0} × (Unit {0} × (Unit {0} × (Unit {0} × (Unit {0} × (Unit {0} × (List ℕ × Unit {0})))))))))). ‵ (fsep ftrue (fsep ftrue (fsep ftrue (fsep ftrue (fsep ftrue (fsep ftrue (fsep ftrue (fsep ftrue (fsep (fsep (finally u8 (p1 .name) (ws .1 .1 .1 .1 .1 .1 .1 .1 .0)) (feq ℕ (length (ws .1 .1 .1 .1 .1 .1 .1 .1 .0)) (length (p1 .now)))) ftrue))))))))) ⊛ raw (fact 𝓤 (Rc (p0 .now .timeout) (p0 .now .join) (p0 .now .tags) (p0 .now .addr) (p0 .now .width) (p0 .now .sign) (p0 .now .ttl) (p0 .now .strict) (p1 .now) r (ws .1 .1 .1 .1 .1 .1 .1 .1 .0))))) (id⊢ 𝓤 _) $ pick ! (λ ws. split ! $ move ! (1 ∷ []) $
+        heard ! (Rc (p0 .now .timeout) (p0 .now .join) (p0 .now .tags) (p0 .now .addr) (p0 .now .width) (p0 .now .sign) (p0 .now .ttl) (p0 .now .strict) (p1 .now) r (ws .1 .1 .1 .1 .1 .1 .1 .1 .0)) (λ e. move ! (1 ∷ []) $ split ! $
+        move ! (2 ∷ []) $ fsplit ! $ drop ! $ fsplit ! $ drop ! $ fsplit ! $ drop ! $ fsplit ! $ drop ! $ fsplit ! $ drop ! $ fsplit ! $ drop ! $ fsplit ! $ drop ! $ fsplit ! $ drop ! $ fsplit ! $ fsplit ! $ move ! (1 ∷ []) $ feqL ! (λ e1. move ! (1 ∷ []) $ drop ! $ move ! (2 ∷ []) $ peeks ! Res.the-row (Is Res.the-row) (shows 𝓤 H A Res.the-row) r (v ∷ []) (λ is.
+        move ! (0 ∷ 1 ∷ 2 ∷ []) $ land ! (from ! (stop !)) (init ! 27 refl (LL.lawful Res.the-type Res′.the-laws 𝓤 H A W .typed r _ is .0)) $
+        returns ! (look ! 27 refl) $ forget ! 3 refl $ forget ! 5 refl $ forget ! 7 refl $ forget ! 9 refl $ forget ! 11 refl $ forget ! 13 refl $ forget ! 15 refl $ forget ! 17 refl $ forget ! 19 refl $ forget ! 21 refl $ forget ! 23 refl $ forget ! 25 refl $ forget ! 27 refl $
+        move ! (27 ∷ 28 ∷ []) $ free1 ! $ move ! (25 ∷ 26 ∷ []) $ free1 ! $ move ! (23 ∷ 24 ∷ []) $ free1 ! $ move ! (21 ∷ 22 ∷ []) $ free1 ! $ move ! (19 ∷ 20 ∷ []) $ free1 ! $ move ! (17 ∷ 18 ∷ []) $ free1 ! $ move ! (15 ∷ 16 ∷ []) $ free1 ! $ move ! (13 ∷ 14 ∷ []) $ free1 ! $ move ! (11 ∷ 12 ∷ []) $ free1 ! $ move ! (9 ∷ 10 ∷ []) $ free1 ! $ move ! (7 ∷ 8 ∷ []) $ free1 ! $ move ! (5 ∷ 6 ∷ []) $ free1 ! $ move ! (3 ∷ 4 ∷ []) $ free1 ! $ free0 ! $
+        keep ! (0 ∷ 1 ∷ 2 ∷ []) $ by ! (exits r v (ws .1 .1 .1 .1 .1 .1 .1 .1 .0) (imp (p0 .now) (p1 .now) r (ws .1 .1 .1 .1 .1 .1 .1 .1 .0) e) e1)))))))))))))))))))))
 
-module _ {M : Type 1} (𝓤 : URA M) (H : Heap 𝓤) (A : Atoms 𝓤) (W : Given 𝓤 H A) (g : Name) (R : Rel) (Rc : CoreRel) (imp : ((p0 : Settings) (p1 : List ℕ) (r : Report) (z1 : List ℕ) → Rc (p0 .timeout) (p0 .join) (p0 .tags) (p0 .addr) (p0 .width) (p0 .sign) (p0 .ttl) p1 r z1 → R p0 p1 r z1)) where
+module _ {M : Type 1} (𝓤 : URA M) (H : Heap 𝓤) (A : Atoms 𝓤) (W : Given 𝓤 H A) (g : Name) (R : Rel) (Rc : CoreRel) (imp : ((p0 : Settings) (p1 : List ℕ) (r : Report) (z1 : List ℕ) → Rc (p0 .timeout) (p0 .join) (p0 .tags) (p0 .addr) (p0 .width) (p0 .sign) (p0 .ttl) (p0 .strict) p1 r z1 → R p0 p1 r z1)) where
   entry-walks : (C : Calls 𝓤 H) (Λ : Loops 𝓤 H) → FmC 𝓤 H (W .laws) C → Triple 𝓤 (C g) (Core 𝓤 Rc H A) → Walks 𝓤 H A ended stayed (WpFn 𝓤 H C Λ (function g)) (clauses 𝓤 R)
   entry-walks C Λ fm known = walked 𝓤 H A ended stayed (clauses 𝓤 R) (WpFn 𝓤 H C Λ (function g)) (λ κs. (ptr-vals, (slice-vals, tt)))
       (λ κs. (shr-tells (named 0) (κs .0) P0.the-row, (mut-slice-tells (named 1) (κs .1 .0) u8, tt)))

@@ -32,12 +32,15 @@ m-sign = record { row = Array u16 256; ty = tyArray (tyInt w16) 256 }
 abbrev pub m-ttl : Member
 m-ttl = record { row = Array u16 256; ty = tyArray (tyInt w16) 256 }
 
+abbrev pub m-strict : Member
+m-strict = record { row = Array u16 256; ty = tyArray (tyInt w16) 256 }
+
 abbrev pub ms : List Member
-ms = m-timeout ∷ m-join ∷ m-tags ∷ m-addr ∷ m-width ∷ m-sign ∷ m-ttl ∷ []
+ms = m-timeout ∷ m-join ∷ m-tags ∷ m-addr ∷ m-width ∷ m-sign ∷ m-ttl ∷ m-strict ∷ []
 
 abbrev pub tuple : Settings → Denots (rowsOf ms)
-tuple h = (h .timeout, (h .join, (h .tags, (h .addr, (h .width, (h .sign, (h .ttl, tt)))))))
+tuple h = (h .timeout, (h .join, (h .tags, (h .addr, (h .width, (h .sign, (h .ttl, (h .strict, tt))))))))
 
 -- a field that is an array stands in the struct's value as `map (λ x. x)` of its list
 pub to-tuple : (h : Settings) → T.the-type .to h ≡ tuple h
-to-tuple h = λ i. (h .timeout, (h .join, (h .tags, (map-id (h .addr) i, (map-id (h .width) i, (map-id (h .sign) i, (map-id (h .ttl) i, tt)))))))
+to-tuple h = λ i. (h .timeout, (h .join, (h .tags, (map-id (h .addr) i, (map-id (h .width) i, (map-id (h .sign) i, (map-id (h .ttl) i, (map-id (h .strict) i, tt))))))))

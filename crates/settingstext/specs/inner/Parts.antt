@@ -17,8 +17,8 @@ pub record Laid (w : List ℕ) (at : ℕ) (before after : List ℕ) (next : ℕ)
 unfoldable pub headText : ℕ → ℕ → ℕ → List ℕ
 headText timeout join tags = lineOf versionKey (newest .number) ++ textOfLines (newest .head) (timeout ∷ join ∷ tags ∷ [])
 
-unfoldable pub tagText : ℕ → ℕ → ℕ → ℕ → List ℕ
-tagText address width sign ttl = textOfLines (newest .tag) (address ∷ width ∷ sign ∷ ttl ∷ [])
+unfoldable pub tagText : ℕ → ℕ → ℕ → ℕ → ℕ → List ℕ
+tagText address width sign ttl strict = textOfLines (newest .tag) (address ∷ width ∷ sign ∷ ttl ∷ strict ∷ [])
 
 unfoldable pub tagsText : List Tag → List ℕ
-tagsText ts = flatMap (λ (t : Tag). tagText (t .address) (t .width) (t .sign) (t .ttl)) ts
+tagsText ts = flatMap (λ (t : Tag). tagText (t .address) (t .width) (t .sign) (t .ttl) (t .strict)) ts

@@ -49,7 +49,7 @@ placed text (some x) = numberedAt (x .number) (length text - length (x .rest))
 
 unfoldable pub placedTag : List ℕ → Read (List ℕ) → TagRead
 placedTag text (wrong k) = WrongAt k
-placedTag text (got ns r) = Tagged (getD ns 0 0) (getD ns 1 0) (getD ns 2 0) (getD ns 3 0) (length text - length r)
+placedTag text (got ns r) = Tagged (getD ns 0 0) (getD ns 1 0) (getD ns 2 0) (getD ns 3 0) (getD ns 4 0) (length text - length r)
 
 -- a line of a tag, with a number of at most `most`, that there is since a version: an older one has no line for it, and the number is 0
 unfoldable pub laterRead : (version since at : ℕ) (text key : List ℕ) (most : ℕ) → LineRead

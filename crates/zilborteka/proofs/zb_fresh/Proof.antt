@@ -25,7 +25,7 @@ abbrev R : Rel
 R = λ st from r st′. Freshly from r st′
 
 abbrev Rc : CoreRel
-Rc = λ ids asked callers deadlines counts clients originals top cursor attached clock timeout join «tag_count» «tag_words» cache shown «from_timeout» «from_join» «from_tags» addr width sign ttl r ids′ asked′ callers′ deadlines′ counts′ clients′ originals′ top′ cursor′ attached′ clock′ timeout′ join′ «tag_count′» «tag_words′» cache′ shown′. Freshened (settings «from_timeout» «from_join» «from_tags» addr width sign ttl) r (lent ids′ asked′ callers′ deadlines′ counts′ clients′ originals′ top′ cursor′ attached′ clock′ timeout′ join′ «tag_count′» «tag_words′» cache′ shown′)
+Rc = λ ids asked callers deadlines counts clients originals top cursor attached clock timeout join «tag_count» «tag_words» cache shown «from_timeout» «from_join» «from_tags» addr width sign ttl strict r ids′ asked′ callers′ deadlines′ counts′ clients′ originals′ top′ cursor′ attached′ clock′ timeout′ join′ «tag_count′» «tag_words′» cache′ shown′. Freshened (settings «from_timeout» «from_join» «from_tags» addr width sign ttl strict) r (lent ids′ asked′ callers′ deadlines′ counts′ clients′ originals′ top′ cursor′ attached′ clock′ timeout′ join′ «tag_count′» «tag_words′» cache′ shown′)
 
 abbrev Rk : TellerRel
 Rk = λ a r. r ≡ numbers a

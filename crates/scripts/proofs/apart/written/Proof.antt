@@ -10,7 +10,7 @@ use Rattle.scripts.proofs.apart.written.Tie as tie
 
 returns : tie.Need-returns
 returns c =
-    let a = c .before .before .before .before .before .before .before .before .before .before .before .args in
+    let a = c .before .before .before .before .before .before .before .before .before .before .before .before .args in
     let w = c .before .before .before .write-text in
     let same : a .lent - 0 ≡ a .lent = omega arith in
     c .told .ensures ∙ rw (same, told-writing (w .result) (a .lent) (rw same at (w .ensures)))

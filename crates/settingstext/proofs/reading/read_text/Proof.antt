@@ -16,10 +16,10 @@ use Rattle.settingstext.proofs.reading.read_text.Statement.{statement}
 use Rattle.settingstext.proofs.reading.read_text.Tie as tie
 
 abbrev Inv-loop : tie.InvT-loop
-Inv-loop text head count addr₀ width₀ sign₀ ttl₀ stopped₀ at₀ line₀ least₀ k₀ addr width sign ttl stopped at line least k = (stopped ≡ head .wrong) × Listed (head .version) text (drop (head .next) text) (head .tags) k at line least addr width sign ttl
+Inv-loop text head count addr₀ width₀ sign₀ ttl₀ strict₀ stopped₀ at₀ line₀ least₀ k₀ addr width sign ttl strict stopped at line least k = (stopped ≡ head .wrong) × Listed (head .version) text (drop (head .next) text) (head .tags) k at line least addr width sign ttl strict
 
 abbrev μ-loop : tie.MeasureT-loop
-μ-loop text head count addr₀ width₀ sign₀ ttl₀ stopped₀ at₀ line₀ least₀ k₀ addr width sign ttl stopped at line least k = head .tags - k
+μ-loop text head count addr₀ width₀ sign₀ ttl₀ strict₀ stopped₀ at₀ line₀ least₀ k₀ addr width sign ttl strict stopped at line least k = head .tags - k
 
 loop-holds : tie.Need-loop-holds Inv-loop μ-loop
 loop-holds c = (refl, listed-none _ _ _ _ (c .before .read-head .ensures .inside))
@@ -28,13 +28,13 @@ tag-at-requires : tie.Need-tag-at-requires Inv-loop μ-loop
 tag-at-requires c κs = let l = c .before .loop .inv .1 in let h = c .before .before .before .read-head .ensures in (l .inside, h .listed .0, omega (arith, line-small l (h .few) (h .listed)))
 
 -- in a turn that read a tag: there is a place for it, and its numbers are small
-small : (c : tie.After-known-told2 Inv-loop μ-loop) → (c .before .before .before .before .before .loop .k < mostTags) × (c .before .address .given .0 .0 < addresses) × (c .before .address .given .0 .1 .0 < addresses) × (c .before .address .given .0 .1 .1 .0 < addresses) × (c .before .address .given .0 .1 .1 .1 .0 < addresses)
+small : (c : tie.After-known-told2 Inv-loop μ-loop) → (c .before .before .before .before .before .loop .k < mostTags) × (c .before .address .given .0 .0 < addresses) × (c .before .address .given .0 .1 .0 < addresses) × (c .before .address .given .0 .1 .1 .0 < addresses) × (c .before .address .given .0 .1 .1 .1 .0 < addresses) × (c .before .address .given .0 .1 .1 .1 .1 .0 < addresses)
 small c =
     let turn = c .before .before .before .before in
     let l = turn .before .loop .inv .1 in
     let h = turn .before .before .before .read-head .ensures in
-    let t = tagged _ _ _ _ _ _ _ _ _ _ (h .listed .0) (omega (arith, h .listed .1)) (l .inside) (sym (c .before .address .given .1) ∙ c .before .before .before .tag-at .ensures (l .prior) (l .low)) in
-    (omega (arith, turn .loop-test .taken, h .few), t .small .0, t .small .1, t .small .2, t .small .3)
+    let t = tagged _ _ _ _ _ _ _ _ _ _ _ (h .listed .0) (omega (arith, h .listed .1)) (l .inside) (sym (c .before .address .given .1) ∙ c .before .before .before .tag-at .ensures (l .prior) (l .low)) in
+    (omega (arith, turn .loop-test .taken, h .few), t .small .0, t .small .1, t .small .2, t .small .3, t .small .4)
 
 -- its line's number is small, and so is the version
 low-line : (c : tie.After-known-told2 Inv-loop μ-loop) → (c .before .before .before .before .before .loop .line ≤ 5 + length tagLines * mostTags) × (c .before .before .before .before .before .before .before .read-head .result .version ≤ newestVersion)
@@ -50,11 +50,11 @@ loop-again c =
     let l = turn .before .loop .inv in
     let h = turn .before .before .before .read-head .ensures in (
       l .0,
-      listed-more _ (h .listed) _ _ 0 0 _ _ _ _ _ _ _ _ _ (l .1) (turn .loop-test .taken) (h .few) _ _ _ _ _ (sym (read .before .address .given .1) ∙ read .before .before .before .tag-at .ensures (l .1 .prior) (l .1 .low)),
+      listed-more _ (h .listed) _ _ 0 0 _ _ _ _ _ _ _ _ _ _ (l .1) (turn .loop-test .taken) (h .few) _ _ _ _ _ _ (sym (read .before .address .given .1) ∙ read .before .before .before .tag-at .ensures (l .1 .prior) (l .1 .low)),
     )
 
 -- behind the loop: all tags were read, or a wrong line stopped it
-found : (c : tie.After-first-wrong Inv-loop μ-loop) → let here = c .before .before in let h = here .before .before .read-head .result in Found (now (here .before .before .before .before .args .text)) (c .first-wrong .result) (settings (h .timeout) (h .join) (h .tags) (here .loop .addr) (here .loop .width) (here .loop .sign) (here .loop .ttl))
+found : (c : tie.After-first-wrong Inv-loop μ-loop) → let here = c .before .before in let h = here .before .before .read-head .result in Found (now (here .before .before .before .before .args .text)) (c .first-wrong .result) (settings (h .timeout) (h .join) (h .tags) (here .loop .addr) (here .loop .width) (here .loop .sign) (here .loop .ttl) (here .loop .strict))
 found c =
     let here = c .before .before in
     let head = here .before .before .read-head in
@@ -73,5 +73,6 @@ read-text-spec =
     (tie.spec Inv-loop μ-loop (λ c κs. search needs) (λ c. search needs) loop-holds tag-at-requires (λ c. search needs) (λ c. search needs)
     (λ c. omega (arith, small c .1)) (λ c. omega (arith, small c .0)) (λ c. small c .0) (λ c. omega (arith, small c .2)) (λ c. omega (arith, small c .0)) (λ c. small c .0)
     (λ c. omega (arith, small c .3)) (λ c. omega (arith, small c .0)) (λ c. small c .0)
-    (λ c. omega (arith, small c .4)) (λ c. omega (arith, small c .0)) (λ c. small c .0) (λ c. omega (arith, small c .1, small c .2)) (λ c. omega (arith, low-line (c .before))) (λ c. omega (arith, low-line (c .before))) (λ c. search needs) (λ c. search needs) loop-again
+    (λ c. omega (arith, small c .4)) (λ c. omega (arith, small c .0)) (λ c. small c .0)
+    (λ c. omega (arith, small c .5)) (λ c. omega (arith, small c .0)) (λ c. small c .0) (λ c. omega (arith, small c .1, small c .2)) (λ c. omega (arith, low-line (c .before))) (λ c. omega (arith, low-line (c .before))) (λ c. search needs) (λ c. search needs) loop-again
     (λ c κs. search needs) (λ c κs. search needs) returns)

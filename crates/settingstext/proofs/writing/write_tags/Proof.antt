@@ -10,19 +10,19 @@ use Rattle.settingstext.proofs.writing.write_tags.Statement.{statement}
 use Rattle.settingstext.proofs.writing.write_tags.Tie as tie
 
 abbrev Inv-loop : tie.InvT-loop
-Inv-loop tags addr width sign ttl at text₀ next₀ k₀ text next k = (tags ≤ mostTags) × Written (settings 0 0 tags addr width sign ttl) at text₀ text next k
+Inv-loop tags addr width sign ttl strict at text₀ next₀ k₀ text next k = (tags ≤ mostTags) × Written (settings 0 0 tags addr width sign ttl strict) at text₀ text next k
 
 abbrev μ-loop : tie.MeasureT-loop
-μ-loop tags addr width sign ttl at text₀ next₀ k₀ text next k = tags - k
+μ-loop tags addr width sign ttl strict at text₀ next₀ k₀ text next k = tags - k
 
 loop-holds : tie.Need-loop-holds Inv-loop μ-loop
 loop-holds c = (search needs, written-none _ _ _ (c .before .pre .1))
 
 write-tag-requires : tie.Need-write-tag-requires Inv-loop μ-loop
-write-tag-requires c κs = tag-room (omega arith) (c .before .before .before .before .before .before .loop .inv .1)
+write-tag-requires c κs = tag-room (omega arith) (c .before .before .before .before .before .before .before .loop .inv .1)
 
 loop-again : tie.Need-loop-again Inv-loop μ-loop
-loop-again c = let i = c .before .before .before .before .before .before .before .before .before .loop .inv in (i .0, written-more (omega arith) (search needs) (i .1) (c .before .before .write-tag .ensures))
+loop-again c = let i = c .before .before .before .before .before .before .before .before .before .before .loop .inv in (i .0, written-more (omega arith) (search needs) (i .1) (c .before .before .write-tag .ensures))
 
 same-length : tie.Need-same-length Inv-loop μ-loop
 same-length c = c .before .loop .inv .1 .long
@@ -34,4 +34,4 @@ pub write-tags-spec : {M : Type 1} → statement M
 write-tags-spec =
     tie.close
     (tie.spec Inv-loop μ-loop loop-holds (λ c. search needs) (λ c. search needs) (λ c. search needs) (λ c. search needs)
-    (λ c. search needs) (λ c. search needs) (λ c. search needs) (λ c. search needs) write-tag-requires (λ c. search needs) (λ c. search needs) loop-again same-length returns)
+    (λ c. search needs) (λ c. search needs) (λ c. search needs) (λ c. search needs) (λ c. search needs) (λ c. search needs) write-tag-requires (λ c. search needs) (λ c. search needs) loop-again same-length returns)

@@ -18,7 +18,7 @@ abbrev R : Rel
 R = λ from text r text′. WritePromised from text r text′
 
 abbrev Rc : CoreRel
-Rc = λ timeout join tags addr width sign ttl text r text′. WritePromised (settings timeout join tags addr width sign ttl) text r text′
+Rc = λ timeout join tags addr width sign ttl strict text r text′. WritePromised (settings timeout join tags addr width sign ttl strict) text r text′
 
 pub zb-settings-write-spec : {M : Type 1} → stated.statement M
 unfolding code.routine tablesOf
