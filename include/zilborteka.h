@@ -33,7 +33,7 @@ extern "C" {
    write. */
 typedef struct zb_state {
     uint32_t ids[ZB_PLACES];             /* a live place: its proxy id plus 1; 0: free */
-    uint64_t asked[ZB_PLACES];           /* what was asked, in one word; bit 32: nothing joins it any more */
+    uint64_t asked[ZB_PLACES];           /* what was asked, in one word; bit 32 of a read's: nothing joins it any more */
     uint8_t  callers[ZB_PLACES];         /* the client that it was issued for */
     uint64_t deadlines[ZB_PLACES];
     uint8_t  counts[ZB_PLACES];          /* parties of the entry */

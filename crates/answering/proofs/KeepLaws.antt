@@ -11,14 +11,13 @@ use lib.Dec.{eqb}
 use lib.Seq.{take-at}
 use borrow.Author.Tests.{eqb-true, ne-eqb, not-true}
 use Rattle.laws.specs.Bytes.{over}
-use Rattle.laws.specs.Bits.{has}
 use Rattle.laws.proofs.Choice.{true-or, or-either, and-left, and-right, never}
 use Rattle.wire.specs.Frame.{misframed, laid}
 use Rattle.wire.proofs.FrameLaws.{length-laid, laid-framed}
 use Rattle.settings.specs.Grammar.{Tag}
 use Rattle.settings.specs.TagWords.{Ascending}
 use Rattle.pdu.specs.Replies.{What, what, excepts, answering}
-use Rattle.pdu.specs.Words.{wordOf, whatOf, closedBit, Proper}
+use Rattle.pdu.specs.Words.{wordOf, whatOf, closedIn, Proper}
 use Rattle.pdu.specs.declared.Table.the-variants.{Bits, Registers}
 use Rattle.pdu.specs.declared.Asked.{Asked}
 use Rattle.pdu.specs.declared.Asked.the-variants.{Read, SingleWrite, MultipleWrite, Other}
@@ -58,12 +57,12 @@ module _ (tags : List Tag) (word : ℕ) (e : Live What Note) (f : List ℕ) (ask
   unfilled n = ⊎-elim (λ (t : fills tags e f ≡ true). absurd (n t)) (λ (t : fills tags e f ≡ false). rw t refl) (true-or (fills tags e f))
 
   -- An exception, and a reply to what is closed, has no life,
-  pub given-none : (excepts (whatOf word .function) f || has word closedBit) ≡ true → 0 ≡ cond (fills tags e f) (lifeOf tags (e .what)) 0
+  pub given-none : (excepts (whatOf word .function) f || closedIn word) ≡ true → 0 ≡ cond (fills tags e f) (lifeOf tags (e .what)) 0
   unfolding noteOf
   given-none t = unfilled (λ does.
       let x = fills-exactly tags e f .0 does in
       let a : excepts (whatOf word .function) f ≡ false = ap (λ (w : What). excepts (w .function) f) (sym asks) ∙ x .0 in
-      let b : has word closedBit ≡ false = ap (λ (n : Note). n .closed) (sym noted) ∙ x .1 .0 in
+      let b : closedIn word ≡ false = ap (λ (n : Note). n .closed) (sym noted) ∙ x .1 .0 in
       false≢true (sym (rw (a, b) refl) ∙ t))
 
   -- nor has one to what is not cacheable,
@@ -71,7 +70,7 @@ module _ (tags : List Tag) (word : ℕ) (e : Live What Note) (f : List ℕ) (ask
   given-other q n = unfilled (λ does. false≢true (sym n ∙ ap (cacheableBy tags) (sym q) ∙ ap (λ (w : What). cacheable tags w) (sym asks) ∙ fills-exactly tags e f .0 does .1 .1))
 
   -- and any other one has the life of its read.
-  pub given-read : {a : Asked} {life : ℕ} → excepts (whatOf word .function) f ≡ false → has word closedBit ≡ false → whatOf word .asked ≡ a
+  pub given-read : {a : Asked} {life : ℕ} → excepts (whatOf word .function) f ≡ false → closedIn word ≡ false → whatOf word .asked ≡ a
       → life ≡ cond (cacheableBy tags a) (lifeBy tags a) 0 → life ≡ cond (fills tags e f) (lifeOf tags (e .what)) 0
   unfolding noteOf
   given-read {a} x n q l =

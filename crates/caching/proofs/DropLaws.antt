@@ -15,8 +15,7 @@ use Rattle.laws.proofs.ListLaws.{tab-ext, map-tab, tab-repeat, getD-repeat}
 use Rattle.pdu.specs.Replies.{What}
 use Rattle.pdu.specs.Words.{whatOf}
 use Rattle.pdu.specs.Spoiling.{spoils}
-use Rattle.pdu.specs.declared.Table.{Table}
-use Rattle.pdu.specs.declared.Asked.the-variants.{Read}
+use Rattle.pdu.specs.Reads.{isRead}
 use Rattle.pdu.proofs.SpoilingLaws.{read-spoils-none}
 use Rattle.cache.specs.Cache.{emptied, keptFrom, droppedBy}
 use Rattle.cache.proofs.CacheLaws.{emptied-sorted, dropped-sorted}
@@ -46,10 +45,10 @@ dropped-next k w cache₀ cache d = record {
 }
 
 -- a read drops nothing
-pub dropped-read : (k : ℕ) (w : What) (cache : List ℕ) (t : Table) (s q : ℕ) → w .asked ≡ Read t s q → DroppedTo k w cache cache
-dropped-read k w cache t s q e = record {
+pub dropped-read : (k : ℕ) (w : What) (cache : List ℕ) → isRead (w .asked) ≡ true → DroppedTo k w cache cache
+dropped-read k w cache e = record {
   long = refl;
-  done = λ p h l. rw (read-spoils-none w (whatOf (getD cache p 0)) t s q e);
+  done = λ p h l. rw (read-spoils-none w (whatOf (getD cache p 0)) e);
   rest = λ p l. refl;
 }
 

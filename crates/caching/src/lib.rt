@@ -156,23 +156,8 @@ pub fn drop_met(cache: &mut [u64; numbers::CACHE_NUMBERS], unit: u8, what: Asked
     requires { ⌜ Bounded (now cache) ⌝ }
     ensures { λ r. ⌜ ((w : What) → w .unit ≡ unit → w .asked ≡ what → Drops w (now (cache .entry)) (now (cache .exit))) ⌝ }
 {
-    match what {
-        Asked::Read {
-            table: _,
-            start: _,
-            quantity: _,
-        } => {}
-        Asked::SingleWrite {
-            table: _,
-            address: _,
-            value: _,
-        } => drop_each(cache, unit, what),
-        Asked::MultipleWrite {
-            table: _,
-            start: _,
-            quantity: _,
-        } => drop_each(cache, unit, what),
-        Asked::Other => drop_each(cache, unit, what),
+    if !pdu::is_read(what) {
+        drop_each(cache, unit, what);
     }
 }
 

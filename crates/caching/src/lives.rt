@@ -10,20 +10,20 @@ use values::tagwords::tag_address;
 use values::tagwords::tag_ttl;
 
 // For how long a reply to a read of these registers is shown again: the smallest ttl of the tags that its registers lie in, or 0 where some register lies in none that is wholly inside the range and has a ttl.
-pub fn life_of(tags: &[u64; numbers::MOST_TAGS], tagged: usize, start: u16, quantity: u16) -> u16
-    requires { ⌜ TagWords tagged (now tags) ⌝ }
-    ensures { λ r. ⌜ r ≡ cond (cacheableBy (tagsOf tagged (now (tags .entry))) (Read Registers start quantity)) (lifeBy (tagsOf tagged (now (tags .entry))) (Read Registers start quantity)) 0 ⌝ }
+pub fn life_of(words: &[u64; numbers::MOST_TAGS], count: usize, start: u16, quantity: u16) -> u16
+    requires { ⌜ TagWords count (now words) ⌝ }
+    ensures { λ r. ⌜ r ≡ cond (cacheableBy (tagsOf count (now (words .entry))) (Read Registers start quantity)) (lifeBy (tagsOf count (now (words .entry))) (Read Registers start quantity)) 0 ⌝ }
 {
     let end = start as usize + quantity as usize;
     // The tags do not overlap, so that each must begin where the one before ended.
     let mut at = start as usize;
     let mut life: u16 = 0;
-    let mut i = first_tag(tags, tagged, at);
+    let mut i = first_tag(words, count, at);
     while at < end {
-        if tagged <= i {
+        if count <= i {
             return 0;
         }
-        let word = tags[i];
+        let word = words[i];
         let last = rewrite::last_of(word);
         let ttl = tag_ttl(word);
         if !((tag_address(word) as usize == at) & ((last < end) & (0 < ttl))) {

@@ -1,9 +1,9 @@
 // What was asked as one word, and from its word again.
 ghost use mathlib.Core.Path.{_≡_};
 ghost use Prim.Native.Nat.{_%_, _<_};
-ghost use Rattle.laws.specs.Bits.{has, with};
+ghost use Rattle.laws.specs.Bits.{with};
 ghost use Rattle.pdu.specs.Replies.{what};
-ghost use Rattle.pdu.specs.Words.{askedBits, askedFrom, wordOf, whatOf, closedBit, whatIn, entryOf};
+ghost use Rattle.pdu.specs.Words.{askedBits, askedFrom, wordOf, whatOf, closedBit, closedIn, whatIn, entryOf};
 use pdu::Asked;
 use pdu::Class;
 use pdu::Entry;
@@ -16,7 +16,7 @@ const FIELDS: u64 = 65536;
 
 const KEPT: u64 = FIELDS * FIELDS * FIELDS;
 
-// Bit 32 of a live place's word: the request is closed.
+// Bit 32 of a live place's word, where that is a read's: the read is closed.
 const CLOSED: u64 = FIELDS * FIELDS;
 
 // What a class keeps of what was asked, in 48 bits.
@@ -109,11 +109,11 @@ pub fn asked_in(word: u64) -> Asked
     asked_from(pdu::class_of(function_in(word)), word % KEPT)
 }
 
-// Whether a word has bit 32, and the word with it.
+// Whether a word is that of a read and has bit 32, and the word with it.
 pub fn is_closed(word: u64) -> bool
-    ensures { λ r. ⌜ r ≡ has word closedBit ⌝ }
+    ensures { λ r. ⌜ r ≡ closedIn word ⌝ }
 {
-    word / CLOSED % 2 == 1
+    pdu::is_read(asked_in(word)) & (word / CLOSED % 2 == 1)
 }
 
 pub fn closed_word(word: u64) -> u64

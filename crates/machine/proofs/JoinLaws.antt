@@ -3,7 +3,7 @@
 use Prim.Native.Nat.{ℕ}
 use mathlib.Core.Path.{_≡_, ap, sym, _∙_}
 use mathlib.Core.Logic.{⊎-elim, _⊎_, inl, inr, _↔_}
-use mathlib.Core.Bool.{Bool, true, false, cond, not, _||_, true≢false, and-true, and-false}
+use mathlib.Core.Bool.{Bool, true, false, cond, not, _&&_, _||_, true≢false, and-true, and-false}
 use mathlib.Core.List.{List}
 use lib.ListN.{getD}
 use lib.Dec.{eqb}
@@ -12,8 +12,8 @@ use Rattle.laws.proofs.Choice.{true-or, and-left, and-right, never}
 use Rattle.laws.proofs.TestLaws.{holds-eq, holds-not, holds-and, holds-or}
 use Rattle.settings.specs.Grammar.{Value}
 use Rattle.pdu.specs.Replies.{What, what}
-use Rattle.pdu.specs.Reads.{equalReads}
-use Rattle.pdu.proofs.ReadLaws.{equal-exact, equal-self, equal-other}
+use Rattle.pdu.specs.Reads.{isRead, equalReads}
+use Rattle.pdu.proofs.ReadLaws.{read-is, no-read, equal-exact, equal-self, equal-other}
 use Rattle.pdu.specs.declared.Table.{Table}
 use Rattle.pdu.specs.declared.Table.the-variants.{Bits, Registers}
 use Rattle.pdu.specs.declared.Asked.the-variants.{Read, SingleWrite, MultipleWrite, Other}
@@ -50,14 +50,22 @@ unfolding joins
 joins-none v w u n off = simp (alike-none v w u off, and-false)
 
 -- A read may join its like when joining is on.
-pub joins-read : (v : Value) (w : What) (t : Table) (s q : ℕ) → w .asked ≡ Read t s q → alike v w w ≡ eqb (v .join) 1
+joins-read : (v : Value) (w : What) (t : Table) (s q : ℕ) → w .asked ≡ Read t s q → alike v w w ≡ eqb (v .join) 1
 unfolding alike
 joins-read v w t s q e = rw (equal-self w t s q e) (and-true (eqb (v .join) 1))
 
 -- What is no read joins nothing.
-pub joins-other : (v : Value) (w u : What) → ((t : Table) (s q : ℕ) → w .asked ≡ Read t s q → ⊥) → alike v w u ≡ false
+joins-other : (v : Value) (w u : What) → ((t : Table) (s q : ℕ) → w .asked ≡ Read t s q → ⊥) → alike v w u ≡ false
 unfolding alike
 joins-other v w u other = simp (equal-other w u other, and-false)
+
+-- Both in one: a request may join its like exactly if joining is on and it is a read.
+pub joins-self : (v : Value) (w : What) → alike v w w ≡ (eqb (v .join) 1 && isRead (w .asked))
+joins-self v w =
+    ⊎-elim
+    (λ (t : isRead (w .asked) ≡ true). let r = read-is (w .asked) t in joins-read v w (r .0) (r .1) (r .2) (r .3) ∙ rw t (sym (and-true (eqb (v .join) 1))))
+    (λ (t : isRead (w .asked) ≡ false). joins-other v w w (no-read (w .asked) t) ∙ rw t (sym (and-false (eqb (v .join) 1))))
+    (true-or (isRead (w .asked)))
 
 alike-on : (v : Value) (w u : What) → alike v w u ≡ true → v .join ≡ 1
 unfolding alike
@@ -66,9 +74,9 @@ alike-on v w u t = eqb-true (v .join) 1 (and-left (eqb (v .join) 1) _ t)
 one-of : (n a b : ℕ) → ((eqb n a || eqb n b) ≡ true) ↔ ((n ≡ a) ⊎ (n ≡ b))
 one-of n a b = holds-or (eqb n a) (eqb n b) (holds-eq n a) (holds-eq n b)
 
-no-read : (f : List ℕ) → (eqb (getD f 7 0) 1 || eqb (getD f 7 0) 2) ≡ false → (eqb (getD f 7 0) 3 || eqb (getD f 7 0) 4) ≡ false → (t : Table) (s q : ℕ) → asking f .asked ≡ Read t s q → ⊥
+unread : (f : List ℕ) → (eqb (getD f 7 0) 1 || eqb (getD f 7 0) 2) ≡ false → (eqb (getD f 7 0) 3 || eqb (getD f 7 0) 4) ≡ false → (t : Table) (s q : ℕ) → asking f .asked ≡ Read t s q → ⊥
 unfolding asking spelled
-no-read f x y t s q = rw (x, y) (by (eqb (getD f 7 0) 5) (eqb (getD f 7 0) 6) (eqb (getD f 7 0) 15) (eqb (getD f 7 0) 16) _ _)
+unread f x y t s q = rw (x, y) (by (eqb (getD f 7 0) 5) (eqb (getD f 7 0) 6) (eqb (getD f 7 0) 15) (eqb (getD f 7 0) 16) _ _)
   where
     by : (coil single coils multiple : Bool) (a b : ℕ)
         → cond coil (SingleWrite Bits a b) (cond single (SingleWrite Registers a b) (cond coils (MultipleWrite Bits a b) (cond multiple (MultipleWrite Registers a b) Other))) ≡ Read t s q → ⊥
@@ -85,7 +93,7 @@ alike-reads v f u t =
     (λ x. inl (one-of n 1 2 .0 x))
     (λ (x : (eqb n 1 || eqb n 2) ≡ false). ⊎-elim
     (λ y. inr (one-of n 3 4 .0 y))
-    (λ (y : (eqb n 3 || eqb n 4) ≡ false). absurd (true≢false (sym t ∙ joins-other v (wanted f) u (λ r s q e. no-read f x y r s q (sym (asked-spelled f) ∙ e)))))
+    (λ (y : (eqb n 3 || eqb n 4) ≡ false). absurd (true≢false (sym t ∙ joins-other v (wanted f) u (λ r s q e. unread f x y r s q (sym (asked-spelled f) ∙ e)))))
     (true-or (eqb n 3 || eqb n 4)))
     (true-or (eqb n 1 || eqb n 2))
 

@@ -45,22 +45,7 @@ pub fn close<'a>(
     requires { ⌜ top ≤ places ⌝ }
     ensures { λ r. ⌜ ((word : ℕ) → whatOf word .unit ≡ unit → whatOf word .asked ≡ what → Closes word top (now (ids .entry)) (now (asked .entry)) (now (asked .exit))) ⌝ }
 {
-    match what {
-        Asked::Read {
-            table: _,
-            start: _,
-            quantity: _,
-        } => {}
-        Asked::SingleWrite {
-            table: _,
-            address: _,
-            value: _,
-        } => close_met(ids, asked, top, unit, what),
-        Asked::MultipleWrite {
-            table: _,
-            start: _,
-            quantity: _,
-        } => close_met(ids, asked, top, unit, what),
-        Asked::Other => close_met(ids, asked, top, unit, what),
+    if !pdu::is_read(what) {
+        close_met(ids, asked, top, unit, what);
     }
 }

@@ -1,7 +1,8 @@
--- Equal reads ask the same and have the same fault, a read is equal to itself, and what is no read is equal to nothing.
+-- What is a read, and of which functions; equal reads ask the same and have the same fault, a read is equal to itself, and what is no read is equal to nothing.
 -- Assumes nothing.
 use Prim.Native.Nat.{ℕ}
 use mathlib.Core.Path.{_≡_, refl, ap, sym, _∙_}
+use mathlib.Core.Logic.{_↔_, Iff·trans, ⊎-elim, ⊎-map, _⊎_, inl, inr}
 use mathlib.Core.Bool.{true, false, _&&_, false≢true, and-false}
 use mathlib.Core.List.{List}
 use lib.Dec.{eqb}
@@ -12,13 +13,44 @@ use Rattle.wire.specs.Frame.{functionOf}
 use Rattle.pdu.specs.Requests.{classOf, startOf, quantityOf, badValue, badAddress, askedBy, askedOf, faultBy, faultOf}
 use Rattle.pdu.specs.Replies.{What, what}
 use Rattle.pdu.specs.Spoiling.{sameTable}
-use Rattle.pdu.specs.Reads.{sameRead, equalReads}
+use Rattle.pdu.specs.Reads.{isRead, sameRead, equalReads}
+use Rattle.pdu.specs.Words.{askedFrom, whatOf}
 use Rattle.pdu.specs.declared.Class.{Class}
 use Rattle.pdu.specs.declared.Class.the-variants.{Reads, WritesOne, WritesMany, Others}
 use Rattle.pdu.specs.declared.Table.{Table}
+use Rattle.pdu.specs.declared.Table.the-variants.{Bits, Registers}
 use Rattle.pdu.specs.declared.Asked.{Asked}
 use Rattle.pdu.specs.declared.Asked.the-variants.{Read, SingleWrite, MultipleWrite, Other}
-use Rattle.pdu.proofs.SpoilingLaws.{same-table}
+use Rattle.pdu.proofs.SpoilingLaws.{same-table, class-exact}
+
+-- What is a read reads so many from some start on, of bits or of registers.
+pub read-is : (a : Asked) → isRead a ≡ true → (t : Table) × (s : ℕ) × (q : ℕ) × (a ≡ Read t s q)
+unfolding isRead
+read-is (Read t s q) e = (t, s, q, refl)
+read-is (SingleWrite t a v) e = absurd (false≢true e)
+read-is (MultipleWrite t s q) e = absurd (false≢true e)
+read-is Other e = absurd (false≢true e)
+
+-- What is no read reads nothing.
+pub no-read : (a : Asked) → isRead a ≡ false → (t : Table) (s q : ℕ) → a ≡ Read t s q → ⊥
+unfolding isRead
+no-read a e t s q r = false≢true (sym e ∙ ap isRead r)
+
+-- a class asks for a read exactly if it is one of reads
+read-class-exact : (c : Class) (n : ℕ) → (isRead (askedFrom c n) ≡ true) ↔ ((c ≡ Reads Bits) ⊎ (c ≡ Reads Registers))
+unfolding isRead askedFrom
+read-class-exact (Reads Bits) n = (λ e. inl refl, λ w. refl)
+read-class-exact (Reads Registers) n = (λ e. inr refl, λ w. refl)
+read-class-exact (WritesOne t) n = (λ e. absurd (false≢true e), λ w. ⊎-elim (λ z. never (cc)) (λ z. never (cc)) w)
+read-class-exact (WritesMany t) n = (λ e. absurd (false≢true e), λ w. ⊎-elim (λ z. never (cc)) (λ z. never (cc)) w)
+read-class-exact Others n = (λ e. absurd (false≢true e), λ w. ⊎-elim (λ z. never (cc)) (λ z. never (cc)) w)
+
+-- A word is that of a read exactly where its function is 01, 02, 03 or 04.
+pub reads-exactly : (n : ℕ) → let f = whatOf n .function in (isRead (whatOf n .asked) ≡ true) ↔ (((f ≡ 1) ⊎ (f ≡ 2)) ⊎ ((f ≡ 3) ⊎ (f ≡ 4)))
+unfolding whatOf
+reads-exactly n =
+    let f = whatOf n .function in
+    Iff·trans (read-class-exact (classOf f) _) (⊎-map (class-exact f (Reads Bits) .0) (class-exact f (Reads Registers) .0), ⊎-map (class-exact f (Reads Bits) .1) (class-exact f (Reads Registers) .1))
 
 whats : {i j f g : ℕ} {a b : Asked} → i ≡ j → f ≡ g → a ≡ b → what i f a ≡ what j g b
 whats p q r = rw (p, q, r)

@@ -1,4 +1,4 @@
--- Which reads a request spoils, in plain numbers; a read spoils nothing, and nothing spoils itself.
+-- Which reads a request spoils, in plain numbers; a read spoils nothing, nothing but a read is spoiled, and nothing spoils itself.
 -- Assumes nothing.
 use Prim.Native.Nat.{ℕ, _+_, _≤_, _<_, max}
 use mathlib.Core.Path.{_≡_, refl, ap, sym, _∙_}
@@ -15,6 +15,7 @@ use Rattle.pdu.specs.Requests.{classOf, askedBy, checkedOf}
 use Rattle.pdu.specs.Replies.{What, what}
 use Rattle.pdu.specs.Words.{askedBits, askedFrom, Lawful, Proper}
 use Rattle.pdu.specs.Spoiling.{sameTable, overlap, meets, spoils}
+use Rattle.pdu.specs.Reads.{isRead}
 use Rattle.pdu.specs.declared.Table.{Table}
 use Rattle.pdu.specs.declared.Table.the-variants.{Bits, Registers}
 use Rattle.pdu.specs.declared.Class.{Class}
@@ -58,7 +59,7 @@ named n =
     by : {c : Class} → classOf n ≡ c → Named c n → Named (classOf n) n
     by e h = rw e h
 
-class-exact : (n : ℕ) (c : Class) → (classOf n ≡ c) ↔ Named c n
+pub class-exact : (n : ℕ) (c : Class) → (classOf n ≡ c) ↔ Named c n
 class-exact n c = (λ e. rw e at (named n), back c)
   where
     back : (k : Class) → Named k n → classOf n ≡ k
@@ -167,15 +168,29 @@ spoils-exactly w r p q =
     (Iff·trans (meets-sorted (w .asked) (r .asked) (p .some) (q .some)) (sorted-plainly w r p q))
 
 -- A read spoils nothing.
-pub read-spoils-none : (w r : What) (t : Table) (s q : ℕ) → w .asked ≡ Read t s q → spoils w r ≡ false
-unfolding spoils meets
-read-spoils-none w r t s q e = rw (e, none (r .asked)) (and-false (eqb (w .unit) (r .unit)))
+pub read-spoils-none : (w r : What) → isRead (w .asked) ≡ true → spoils w r ≡ false
+unfolding spoils meets isRead
+read-spoils-none w r e = rw (none (w .asked) (r .asked) e) (and-false (eqb (w .unit) (r .unit)))
   where
-    none : (b : Asked) → meets (Read t s q) b ≡ false
-    none (Read r u p) = refl
-    none (SingleWrite r a v) = refl
-    none (MultipleWrite r u p) = refl
-    none Other = refl
+    none : (a b : Asked) → isRead a ≡ true → meets a b ≡ false
+    none a (SingleWrite r b v) e = refl
+    none a (MultipleWrite r u p) e = refl
+    none a Other e = refl
+    none (Read t s q) (Read r u p) e = refl
+    none (SingleWrite t a v) (Read r u p) e = absurd (false≢true e)
+    none (MultipleWrite t s q) (Read r u p) e = absurd (false≢true e)
+    none Other (Read r u p) e = absurd (false≢true e)
+
+-- Nothing but a read is spoiled.
+pub spoiled-reads : (w r : What) → spoils w r ≡ true → isRead (r .asked) ≡ true
+unfolding spoils meets isRead
+spoiled-reads w r e = met (w .asked) (r .asked) (and-right (eqb (w .unit) (r .unit)) (meets (w .asked) (r .asked)) e)
+  where
+    met : (a b : Asked) → meets a b ≡ true → isRead b ≡ true
+    met a (Read r s q) e = refl
+    met a (SingleWrite r b v) e = e
+    met a (MultipleWrite r s q) e = e
+    met a Other e = e
 
 -- Nothing spoils its like.
 pub spoils-itself : (w : What) → spoils w w ≡ false

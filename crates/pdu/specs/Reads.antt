@@ -1,11 +1,18 @@
--- Which two requests are equal reads: what a read joins (document 01, step 3), and what a reply that is cached is known by (#107).
+-- What is a read, and which two requests are equal reads: what a read joins (document 01, step 3), and what a reply that is cached is known by (#107).
 -- Assumes nothing.
-use mathlib.Core.Bool.{Bool, false, _&&_}
+use mathlib.Core.Bool.{Bool, true, false, _&&_}
 use lib.Dec.{eqb}
 use Rattle.pdu.specs.Replies.{What}
 use Rattle.pdu.specs.Spoiling.{sameTable}
 use Rattle.pdu.specs.declared.Asked.{Asked}
 use Rattle.pdu.specs.declared.Asked.the-variants.{Read, SingleWrite, MultipleWrite, Other}
+
+-- a read: 01 to 04
+unfoldable pub isRead : Asked → Bool
+isRead (Read t s q) = true
+isRead (SingleWrite t a v) = false
+isRead (MultipleWrite t s q) = false
+isRead Other = false
 
 -- both are reads of one table, with equal start and quantity
 unfoldable pub sameRead : Asked → Asked → Bool

@@ -1,16 +1,18 @@
--- What was asked as one word: unit and function in the highest 16 bits, and 48 bits for what the function's class keeps. A class keeps 32 bits and looks at no other, so that
--- bit 32 is free: the live table has it for a read that is closed.
+-- What was asked as one word: unit and function in the highest 16 bits, and 48 bits for what the function's class keeps. A read keeps 32 bits and looks at no other, so that
+-- bit 32 of its word is free: the live table has it for a read that is closed. In the word of any other function that bit says nothing of the kind.
 -- Assumes nothing.
 use Prim.Native.Nat.{ℕ, _+_, _*_, _/_, _%_, _≤_, _<_}
 use mathlib.Core.Path.{_≡_}
 use mathlib.Core.Logic.{_⊎_}
-use mathlib.Core.Bool.{false}
+use mathlib.Core.Bool.{Bool, false, _&&_}
 use Rattle.numbers.specs.Numbers.{coilOff, coilOn, addresses}
+use Rattle.laws.specs.Bits.{has}
 use Rattle.pdu.specs.Requests.{classOf, mostReadOf, mostWrittenOf, badFunction}
 use Rattle.pdu.specs.declared.Table.the-variants.{Bits, Registers}
 use Rattle.pdu.specs.declared.Class.{Class}
 use Rattle.pdu.specs.declared.Class.the-variants.{Reads, WritesOne, WritesMany, Others}
 use Rattle.pdu.specs.Replies.{What, what}
+use Rattle.pdu.specs.Reads.{isRead}
 use Rattle.pdu.specs.declared.Asked.{Asked}
 use Rattle.pdu.specs.declared.Asked.the-variants.{Read, SingleWrite, MultipleWrite, Other}
 use Rattle.pdu.specs.declared.ProxyId.{ProxyId}
@@ -36,9 +38,13 @@ unfoldable pub whatOf : ℕ → What
 whatOf n =
     what (n / 281474976710656 / 256 % 256) (n / 281474976710656 % 256) (askedFrom (classOf (n / 281474976710656 % 256)) (n % 281474976710656))
 
--- the bit of a live place's word that says that the request is closed
+-- the bit of a live place's word that says, where the word is a read's, that the read is closed
 abbrev pub closedBit : ℕ
 closedBit = 32
+
+-- the word is a read's, and has bit 32: it is closed; in the word of any other function that bit may be a part of what is kept
+unfoldable pub closedIn : ℕ → Bool
+closedIn n = isRead (whatOf n .asked) && has n closedBit
 
 -- what an entry keeps of its request, and the entry that a word makes with an id and a deadline
 abbrev pub whatIn : Entry → What

@@ -5,6 +5,7 @@ ghost use Rattle.numbers.specs.Numbers.{ids};
 ghost use Rattle.laws.specs.Circle.{turn};
 ghost use Rattle.wire.specs.Frame.{idOf};
 ghost use Rattle.pdu.specs.Requests.{classOf, bytesFor, mostReadOf, mostWrittenOf};
+ghost use Rattle.pdu.specs.Reads.{isRead};
 
 // Where the fields stand that requests and replies share: behind the function the start (05, 06: the address) and the quantity (05, 06: the value).
 pub const START_AT: usize = 8;
@@ -118,6 +119,30 @@ pub fn class_of(function: u8) -> Class
         return Class::WritesMany(Table::Registers);
     }
     Class::Others
+}
+
+// Whether a read is asked.
+pub fn is_read(asked: Asked) -> bool
+    ensures { λ r. ⌜ r ≡ isRead asked ⌝ }
+{
+    match asked {
+        Asked::Read {
+            table: _,
+            start: _,
+            quantity: _,
+        } => true,
+        Asked::SingleWrite {
+            table: _,
+            address: _,
+            value: _,
+        } => false,
+        Asked::MultipleWrite {
+            table: _,
+            start: _,
+            quantity: _,
+        } => false,
+        Asked::Other => false,
+    }
 }
 
 // The bytes that so many bits or registers take.

@@ -9,7 +9,7 @@ ghost use mathlib.Core.Option.{none};
 ghost use mathlib.Core.List.{List, []};
 ghost use Prim.Native.Nat.{ℕ, _-_, _≤_, _<_};
 ghost use lib.ListN.{length, getD};
-ghost use Rattle.numbers.specs.Numbers.{ids as idCount, places, room, exceptionFrame, leastFrame, frameBuffer};
+ghost use Rattle.numbers.specs.Numbers.{ids as idCount, places, room, exceptionFrame, leastFrame, frameBuffer, cachePlaces};
 ghost use Rattle.laws.specs.Search.{best};
 ghost use Rattle.wire.specs.Frame.{idOf};
 ghost use Rattle.settings.specs.Grammar.{Value};
@@ -67,24 +67,7 @@ fn except_caller(out: &mut [u8], frame: &[u8], code: u8) -> Answer
 fn may_join(join: u32, what: Asked) -> bool
     ensures { λ r. ⌜ ((v : Value) (w : What) → v .join ≡ join → w .asked ≡ what → r ≡ alike v w w) ⌝ }
 {
-    match what {
-        Asked::Read {
-            table: _,
-            start: _,
-            quantity: _,
-        } => join == 1,
-        Asked::SingleWrite {
-            table: _,
-            address: _,
-            value: _,
-        } => false,
-        Asked::MultipleWrite {
-            table: _,
-            start: _,
-            quantity: _,
-        } => false,
-        Asked::Other => false,
-    }
+    (join == 1) & pdu::is_read(what)
 }
 
 // What a legal request asks, as one word.
@@ -264,7 +247,7 @@ fn show_cached<'a>(
     frame: &[u8],
     out: &mut [u8],
 ) -> Answer
-    requires { ⌜ SoundCache (now cache) (now shown) × (place < 64) × (inCache (cacheOf (now cache) (now shown)) place ≡ none → ⊥) ⌝ }
+    requires { ⌜ SoundCache (now cache) (now shown) × (place < cachePlaces) × (inCache (cacheOf (now cache) (now shown)) place ≡ none → ⊥) ⌝ }
     requires { ⌜ (frameBuffer ≤ length (now out)) × (leastFrame ≤ length (now frame)) ⌝ }
     ensures { λ r. ⌜ ((m : Machine) → done r m (now (out .exit)) [] ≡ hitOn m (now (frame .entry)) (now (out .entry)) (inCache (cacheOf (now (cache .entry)) (now (shown .entry))) place)) ⌝ }
 {

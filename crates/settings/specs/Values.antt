@@ -45,7 +45,7 @@ settingsOf v =
 abbrev pub usual : Value
 usual = record { timeout = usualTimeout; join = 1; tags = [] }
 
--- two settings values are equal when timeout, join and the listed tags with their signs, ttls and strict marks are
+-- two settings values are equal when timeout, join and the listed tags with their signs, ttls and strict are
 unfoldable pub sameTags : List Tag → List Tag → Bool
 sameTags [] [] = true
 sameTags [] (u ∷ us) = false

@@ -25,7 +25,7 @@ module _ (n w c d k : ℕ) where
       (λ (t : eqb n 0 ≡ false). let z = eqb-false n 0 t in rw t (omega (arith, z)))
       (true-or (eqb n 0))
 
-  -- The word of a live place comes back: that of what was asked, with bit 32 where it is closed.
+  -- The word of a live place comes back: that of what was asked, with bit 32 where it is a read that is closed.
   pub word-made : Fit w → wordIn (placeOf n w c d k) ≡ w
   unfolding wordIn placeOf noteOf
   word-made f = rw (entry-what (idIn n) w d) (f .1)

@@ -13,7 +13,7 @@ use Rattle.state_by_value.specs.declared.Place.{Place}
 unfoldable pub numberOf : Place → ℕ
 numberOf p = cond (p .live) (p .entry .id .0 + 1) 0
 
--- what was asked, as one word, with bit 32 where that is closed
+-- what was asked, as one word, with bit 32 where that is closed, as only a read can be
 unfoldable pub wordIn : Place → ℕ
 wordIn p = placeWord (whatIn (p .entry)) (record { closed = p .closed })
 

@@ -13,15 +13,14 @@ use lib.Dec.{eqb}
 use borrow.Author.Tests.{ne-eqb, eqb-false}
 use Rattle.numbers.specs.Numbers.{places}
 use Rattle.laws.specs.Bits.{has, with}
-use Rattle.laws.proofs.Choice.{true-or, eq-or, lt-or}
+use Rattle.laws.proofs.Choice.{true-or, eq-or, lt-or, and-right}
 use Rattle.laws.proofs.BitLaws.{with-there, in-with}
 use Rattle.laws.proofs.ListLaws.{tab-ext, map-tab}
-use Rattle.pdu.specs.Words.{wordOf, whatOf, closedBit, Proper}
+use Rattle.pdu.specs.Words.{wordOf, whatOf, closedBit, closedIn, Proper}
 use Rattle.pdu.specs.Spoiling.{spoils}
-use Rattle.pdu.specs.declared.Table.{Table}
-use Rattle.pdu.specs.declared.Asked.the-variants.{Read}
+use Rattle.pdu.specs.Reads.{isRead}
 use Rattle.pdu.proofs.WordLaws.{marked-back}
-use Rattle.pdu.proofs.SpoilingLaws.{read-spoils-none}
+use Rattle.pdu.proofs.SpoilingLaws.{read-spoils-none, spoiled-reads}
 use Rattle.book.specs.Book.{marked}
 use Rattle.machine.specs.Requests.{closing}
 use Rattle.table.specs.Columns.{columns, noteOf, placeWord, entryAt, tableOf, SoundTable}
@@ -33,20 +32,25 @@ Fit n = Proper (whatOf n) × (placeWord (whatOf n) (noteOf n) ≡ n)
 
 -- such a word, marked, is the marked word of what it asks, whether it was marked before or not
 marked-is : (n : ℕ) → Fit n → with (wordOf (whatOf n)) closedBit ≡ with n closedBit
-unfolding noteOf placeWord
+unfolding noteOf placeWord closedIn
 marked-is n f =
     ⊎-elim
-    (λ (t : has n closedBit ≡ true). (rw t at (f .1)) ∙ sym (with-there n closedBit t))
-    (λ (t : has n closedBit ≡ false). ap (λ (x : ℕ). with x closedBit) (rw t at (f .1)))
-    (true-or (has n closedBit))
+    (λ (t : closedIn n ≡ true). (rw t at (f .1)) ∙ sym (with-there n closedBit (and-right (isRead (whatOf n .asked)) (has n closedBit) t)))
+    (λ (t : closedIn n ≡ false). ap (λ (x : ℕ). with x closedBit) (rw t at (f .1)))
+    (true-or (closedIn n))
 
--- and the marked word asks the same, and is that of a closed request
-marked-word : (n : ℕ) → Fit n → (whatOf (with n closedBit) ≡ whatOf n) × (noteOf (with n closedBit) ≡ record { closed = true }) × Fit (with n closedBit)
+-- a read that the marked word asks as well is closed there
+marked-closed : (n : ℕ) → whatOf (with n closedBit) ≡ whatOf n → isRead (whatOf n .asked) ≡ true → closedIn (with n closedBit) ≡ true
+unfolding closedIn
+marked-closed n a r = rw (a, r) (in-with n closedBit closedBit ∙ or-true (has n closedBit))
+
+-- and of a read the marked word asks the same, and is that of a closed one
+marked-word : (n : ℕ) → Fit n → isRead (whatOf n .asked) ≡ true → (whatOf (with n closedBit) ≡ whatOf n) × (noteOf (with n closedBit) ≡ record { closed = true }) × Fit (with n closedBit)
 unfolding noteOf placeWord
-marked-word n f =
+marked-word n f r =
     let e = marked-is n f in
-    let a : whatOf (with n closedBit) ≡ whatOf n = rw e at (marked-back (whatOf n) (f .0)) in
-    let t : has (with n closedBit) closedBit ≡ true = in-with n closedBit closedBit ∙ or-true (has n closedBit) in
+    let a : whatOf (with n closedBit) ≡ whatOf n = rw e at (marked-back (whatOf n) (f .0) r) in
+    let t = marked-closed n a r in
     (a, rw t, (rw a (f .0), rw (a, t) e))
 
 -- the word m asks what n asked, and says besides what becomes of that once the request of `word` was issued
@@ -57,7 +61,7 @@ after-word : (word id n : ℕ) → eqb id 0 ≡ false → Fit n → Becomes word
 unfolding closing
 after-word word id n live f =
     ⊎-elim
-    (λ (t : spoils (whatOf word) (whatOf n) ≡ true). let m = marked-word n f in rw (live, t) (m .0, m .1 ∙ rw (or-true (noteOf n .closed)) refl, m .2))
+    (λ (t : spoils (whatOf word) (whatOf n) ≡ true). let m = marked-word n f (spoiled-reads (whatOf word) (whatOf n) t) in rw (live, t) (m .0, m .1 ∙ rw (or-true (noteOf n .closed)) refl, m .2))
     (λ (t : spoils (whatOf word) (whatOf n) ≡ false). rw (live, t) (refl, rw (or-false (noteOf n .closed)) refl, f))
     (true-or (spoils (whatOf word) (whatOf n)))
 
@@ -72,9 +76,9 @@ pub closed-none : (word : ℕ) (is ws : List ℕ) → ClosedTo 0 word is ws ws
 closed-none word is ws = record { long = refl; done = λ p h l. absurd (omega arith); rest = λ p h. refl }
 
 -- a read closes none
-pub closed-read : (k word : ℕ) (is ws : List ℕ) (t : Table) (s q : ℕ) → whatOf word .asked ≡ Read t s q → ClosedTo k word is ws ws
-closed-read k word is ws t s q e =
-    record { long = refl; done = λ p h l. rw (read-spoils-none (whatOf word) (whatOf (getD ws p 0)) t s q e, and-false (not (eqb (getD is p 0) 0))); rest = λ p h. refl }
+pub closed-read : (k word : ℕ) (is ws : List ℕ) → isRead (whatOf word .asked) ≡ true → ClosedTo k word is ws ws
+closed-read k word is ws e =
+    record { long = refl; done = λ p h l. rw (read-spoils-none (whatOf word) (whatOf (getD ws p 0)) e, and-false (not (eqb (getD is p 0) 0))); rest = λ p h. refl }
 
 -- the turn at the place k
 pub closed-next : (k word : ℕ) (is ws₀ ws : List ℕ) → ClosedTo k word is ws₀ ws → ClosedTo (k + 1) word is ws₀ (set ws k (wordAfter word (getD is k 0) (getD ws k 0)))

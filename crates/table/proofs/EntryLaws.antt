@@ -15,13 +15,12 @@ use lib.Dec.{eqb}
 use borrow.Author.Tests.{eq-eqb, ne-eqb, eqb-true}
 use Rattle.numbers.specs.Numbers.{ids, places, room, partyPlaces}
 use Rattle.laws.specs.Lists.{tab}
-use Rattle.laws.specs.Bits.{has}
 use Rattle.laws.proofs.Choice.{true-or, eq-or, lt-or}
 use Rattle.laws.proofs.ListLaws.{tab-ext, tab-set, getD-tab, getD-repeat, tab-repeat}
 use Rattle.pdu.specs.Replies.{What}
-use Rattle.pdu.specs.Words.{wordOf, whatOf, closedBit, Proper}
+use Rattle.pdu.specs.Words.{wordOf, whatOf, closedIn, Proper}
 use Rattle.book.specs.Book.{Live, entry}
-use Rattle.pdu.proofs.WordLaws.{word-unmarked}
+use Rattle.pdu.proofs.WordLaws.{word-unclosed}
 use Rattle.machine.specs.Machine.{Note, opened}
 use Rattle.table.specs.Columns.{Columns, columns, party, partiesAt, noteOf, placeWord, entryAt, tableOf, SoundTable}
 use Rattle.table.specs.inner.Changes.{Runs, reach, blank}
@@ -51,7 +50,7 @@ live-at c k h live = table-at c k h ∙ rw (ne-eqb (getD (c .ids) k 0) 0 live)
 pub word-open : (n : ℕ) → Proper (whatOf n) × (wordOf (whatOf n) ≡ n) → (noteOf n ≡ opened) × (placeWord (whatOf n) (noteOf n) ≡ n)
 unfolding noteOf placeWord
 word-open n w =
-    let t : has n closedBit ≡ false = rw (w .1) at (word-unmarked (whatOf n) (w .0)) in
+    let t : closedIn n ≡ false = rw (w .1) at (word-unclosed (whatOf n) (w .0)) in
     (rw t, rw t (w .1))
 
 -- two tables that agree but at one place

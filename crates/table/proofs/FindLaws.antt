@@ -27,7 +27,7 @@ use Rattle.machine.specs.Waiting.{noDeadline, deadlineOf, nextDeadline}
 use Rattle.machine.specs.Requests.{alike, joins}
 use Rattle.table.specs.Columns.{Columns, noteOf, placeWord, entryAt, bookOf, SoundTable}
 use Rattle.table.specs.inner.Places.{isFree, isTaken, holds, isOpen, isDue, isLower, isSooner, freeIdFrom}
-use Rattle.pdu.proofs.WordLaws.{word-back, word-unmarked}
+use Rattle.pdu.proofs.WordLaws.{word-back, word-unclosed}
 use Rattle.machine.proofs.JoinLaws.{joins-exact, joins-like, joins-none}
 use Rattle.table.proofs.ViewLaws.{at-place, entry-free, free-same, holds-same, due-same, lower-same, sooner-same, live-same}
 
@@ -90,7 +90,7 @@ module _ (v : Value) (c : Columns) (x t : ℕ) (s : SoundTable c) where
         let n = getD (c .asked) k 0 in
         let held = s .proper k (eqb-false _ _ live) in
         same-test _ _
-        (λ e. rw (eqb-true n (wordOf w) e, word-back w proper) (joins-like v w (noteOf (wordOf w)) (word-unmarked w proper) may))
+        (λ e. rw (eqb-true n (wordOf w) e, word-back w proper) (joins-like v w (noteOf (wordOf w)) (word-unclosed w proper) may))
         (λ e. let j = joins-exact v w (whatOf n) (noteOf n) e in eq-eqb n (wordOf w) (sym (held .1) ∙ rw (j .0, ← j .1)))
 
     open-same : (k : ℕ) → isOpen (c .ids) (c .asked) (c .deadlines) (c .counts) (wordOf w) t k ≡ isOpenIn room t (joins v w) (entryAt c k)

@@ -9,14 +9,14 @@ use lib.ListN.{length, getD}
 use lib.Dec.{eqb}
 use Rattle.numbers.specs.Numbers.{ids, places, room, partyPlaces}
 use Rattle.laws.specs.Lists.{tab}
-use Rattle.laws.specs.Bits.{has, with}
+use Rattle.laws.specs.Bits.{with}
 use Rattle.settings.specs.Grammar.{Value}
 use Rattle.pdu.specs.Replies.{What}
-use Rattle.pdu.specs.Words.{wordOf, whatOf, closedBit, Proper}
+use Rattle.pdu.specs.Words.{wordOf, whatOf, closedBit, closedIn, Proper}
 use Rattle.book.specs.Book.{Party, Live, book, entry}
 use Rattle.machine.specs.Machine.{Note, Live-book}
 
--- 0 in `ids` is a free place, else the proxy id + 1; `asked` is what was asked as one word, with bit 32 set where that is closed; `callers` is the client that it was issued for; the parties of place k
+-- 0 in `ids` is a free place, else the proxy id + 1; `asked` is what was asked as one word, with bit 32 where it is a read that is closed; `callers` is the client that it was issued for; the parties of place k
 -- stand from k × room on, `counts` of them; no place from `top` on is live
 pub record Columns : Type 0 where
   pub ids : List ℕ
@@ -41,9 +41,9 @@ run cs os base n = tab n (λ j. party (getD cs (base + j) 0) (getD os (base + j)
 abbrev pub partiesAt : (counts clients originals : List ℕ) → ℕ → List Party
 partiesAt ns cs os k = run cs os (k * room) (getD ns k 0)
 
--- what a word says besides what was asked: bit 32, whether the request is closed; and the word that a live place has
+-- what a word says besides what was asked: whether it is a read that is closed, by bit 32; and the word that a live place has
 unfoldable pub noteOf : ℕ → Note
-noteOf n = record { closed = has n closedBit }
+noteOf n = record { closed = closedIn n }
 
 unfoldable pub placeWord : What → Note → ℕ
 placeWord w n = cond (n .closed) (with (wordOf w) closedBit) (wordOf w)
@@ -62,7 +62,7 @@ abbrev pub bookOf : Value → Columns → (cursor clock : ℕ) → Live-book
 bookOf v c x t = book v (tableOf c) x t
 
 -- what every call keeps: the columns have their lengths, ids are ids, no place from top on is live, no place has more parties than there is room for, and a live
--- place's word is that of something that may be asked, with bit 32 where it is closed and no other bit besides
+-- place's word is that of something that may be asked, with bit 32 where it is a read that is closed and no other bit besides
 pub record SoundTable (c : Columns) : Type 0 where
   pub ids-long : length (c .ids) ≡ places
   pub asked-long : length (c .asked) ≡ places

@@ -27,11 +27,12 @@ use Rattle.settings.proofs.ValidLaws.{valid-exactly}
 use Rattle.settings.proofs.TagLaws.{valid-ascends}
 use Rattle.pdu.specs.Requests.{classOf, badFunction, badLength, askedOf, faultOf, checkedOf}
 use Rattle.pdu.specs.Replies.{What, excepts}
-use Rattle.pdu.specs.Words.{whatOf, closedBit}
+use Rattle.pdu.specs.Words.{whatOf, closedBit, closedIn}
 use Rattle.pdu.specs.Spoiling.{spoils}
 use Rattle.pdu.specs.declared.Table.the-variants.{Registers}
 use Rattle.pdu.specs.declared.Asked.the-variants.{Read}
 use Rattle.pdu.specs.declared.Checked.the-variants as check
+use Rattle.pdu.proofs.ReadLaws.{reads-exactly}
 use Rattle.rewrite.specs.Registers.{registersAt}
 use Rattle.rewrite.specs.Rewriting.{ownIn}
 use Rattle.rewrite.specs.Plain.{Has, InRun, Whole, OfBits}
@@ -413,14 +414,16 @@ module _ (from : Settings) {r : Report} {d d′ : Device} (ls : List Line) (fres
       → (ks : List Line) × (x : Line) × (ys : List Line) × (ls ≡ ks ++ x ∷ ys) × IssuedBy (inForce from) (x .saw) id w u p (x .call)
   what-an-issue-is id w u p m = let i = line-told v ls (issued id w u p) m in (i .0, i .1, i .2, i .3, seen-issue v (i .1 .saw) id w u p (i .1 .call) (i .4))
 
-  -- Request #102: a live place of the device is open, so that its word has no bit 32, exactly if nothing that spoils what it asks was issued since its own issue.
+  -- Request #102: a live place of the device whose function is 01, 02, 03 or 04 is open, so that its word has no bit 32, exactly if nothing that spoils what it asks was issued since its own
+  -- issue. In the word of any other function bit 32 says nothing of the kind: nothing joins that.
   pub what-is-open : (k id : ℕ) → getD (d′ .ids) k 0 ≡ id + 1
       → let w = whatOf (getD (d′ .asked) k 0) in
-      (has (getD (d′ .asked) k 0) closedBit ≡ false) ↔ Unspoiled (toldIn (inForce from) ls) id w (getD (d′ .deadlines) k 0)
-  unfolding noteOf
-  what-is-open k id e =
+      ((w .function ≡ 1) ⊎ (w .function ≡ 2)) ⊎ ((w .function ≡ 3) ⊎ (w .function ≡ 4))
+      → (has (getD (d′ .asked) k 0) closedBit ≡ false) ↔ Unspoiled (toldIn (inForce from) ls) id w (getD (d′ .deadlines) k 0)
+  unfolding noteOf closedIn
+  what-is-open k id e reads =
       let i : getD (d′ .ids) k 0 - 1 ≡ id = omega arith in
-      rw (i, ← lived .told) at (claim.what-is-open v xs k _ (rw (lived .after) at (place-live d′ (lived .next) k (λ z. omega arith))))
+      rw (reads-exactly (getD (d′ .asked) k 0) .1 reads, i, ← lived .told) at (claim.what-is-open v xs k _ (rw (lived .after) at (place-live d′ (lived .next) k (λ z. omega arith))))
 
   -- A read after a write is not stale: where a line tells that any request was issued, and a later request joins that it spoils, what this one joins was issued after it, and is live
   -- since.

@@ -5,8 +5,7 @@ use mathlib.Core.Bool.{Bool, true, false, _||_}
 use denote.Ref.{now}
 use Rattle.laws.proofs.Choice.{or-left, or-right}
 use Rattle.pdu.specs.Replies.{excepts}
-use Rattle.pdu.specs.Words.{whatOf, closedBit}
-use Rattle.laws.specs.Bits.{has}
+use Rattle.pdu.specs.Words.{whatOf, closedIn}
 use Rattle.rewrite.specs.inner.Lent.{tagsOf}
 use Rattle.cache.specs.Life.{cacheableBy}
 use Rattle.answering.proofs.KeepLaws.{given-none, given-read, given-other}
@@ -16,12 +15,12 @@ use Rattle.answering.proofs.life_given.Tie as tie
 
 -- what the first test says
 tested : (c : tie.After-is-closed) {b : Bool} → (c .before .is-exception .result || c .is-closed .result) ≡ b
-    → let s = c .before .before .before .before in (excepts (whatOf (s .args .word) .function) (now (s .args .frame)) || has (s .args .word) closedBit) ≡ b
+    → let s = c .before .before .before .before in (excepts (whatOf (s .args .word) .function) (now (s .args .frame)) || closedIn (s .args .word)) ≡ b
 tested c {b} e =
     let s = c .before .before .before .before in
     let x : excepts (whatOf (s .args .word) .function) (now (s .args .frame)) ≡ c .before .is-exception .result =
     sym (c .before .is-exception .ensures ∙ ap (λ n. excepts n (now (s .args .frame))) (c .before .before .function-in .ensures)) in
-    let y : has (s .args .word) closedBit ≡ c .is-closed .result = sym (c .is-closed .ensures) in
+    let y : closedIn (s .args .word) ≡ c .is-closed .result = sym (c .is-closed .ensures) in
     rw (x, y) e
 
 returns : tie.Need-returns

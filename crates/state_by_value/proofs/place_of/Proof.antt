@@ -1,4 +1,4 @@
--- `state_by_value::place_of` meets its contract: the entry is made of the id and the word, the place is live where the number is not 0 and closed by bit 32.
+-- `state_by_value::place_of` meets its contract: the entry is made of the id and the word, the place is live where the number is not 0, and closed where the word is a read's and has bit 32.
 -- Assumes nothing.
 use borrow.Author.Needs.{needs}
 use Rattle.table.specs.Columns.{noteOf}

@@ -1,4 +1,4 @@
--- `state_by_value::word_in` meets its contract: the word is that of the place's entry, with bit 32 where it is closed.
+-- `state_by_value::word_in` meets its contract: the word is that of the place's entry, with bit 32 where that is closed, as only a read can be.
 -- Assumes nothing.
 use borrow.Author.Needs.{needs}
 use Rattle.table.specs.Columns.{placeWord}

@@ -46,7 +46,7 @@ pub record Struck (top client : ℕ) (ns cs os ns′ cs′ os′ : List ℕ) : T
   pub above : (k : ℕ) → top ≤ k → partiesAt ns′ cs′ os′ k ≡ partiesAt ns cs os k
   pub runs : Runs ns′ cs′ os′
 
--- the word of a place with that id once the request of `word` was issued: with bit 32 where the place is live and what is asked there is spoiled
+-- the word of a place with that id once the request of `word` was issued: with bit 32 where the place is live and what is asked there is spoiled, which only a read is
 abbrev pub wordAfter : (word id held : ℕ) → ℕ
 wordAfter word id held = cond (not (eqb id 0) && spoils (whatOf word) (whatOf held)) (with held closedBit) held
 

@@ -19,24 +19,24 @@ use Rattle.caching.proofs.lives.life_of.Statement.{statement}
 use Rattle.caching.proofs.lives.life_of.Tie as tie
 
 abbrev Inv-loop : tie.InvT-loop
-Inv-loop tags tagged start quantity end at₀ life₀ i₀ at life i =
-    (i ≤ tagged) × (lifeOrNone start quantity (tagsOf tagged tags) ≡ tiled at (start + quantity) life (drop i (tagsOf tagged tags)))
+Inv-loop words count start quantity end at₀ life₀ i₀ at life i =
+    (i ≤ count) × (lifeOrNone start quantity (tagsOf count words) ≡ tiled at (start + quantity) life (drop i (tagsOf count words)))
 
 abbrev μ-loop : tie.MeasureT-loop
-μ-loop tags tagged start quantity end at₀ life₀ i₀ at life i = tagged - i
+μ-loop words count start quantity end at₀ life₀ i₀ at life i = count - i
 
 loop-holds : tie.Need-loop-holds Inv-loop μ-loop
 loop-holds c =
     let s = c .before in
     let a = s .args in
-    (rw (c .first-tag .ensures) (first-le (reaches (now (a .tags)) (a .start)) (a .tagged)), life-starts (a .tagged) (now (a .tags)) (s .pre) (a .start) (a .quantity) (c .first-tag .ensures))
+    (rw (c .first-tag .ensures) (first-le (reaches (now (a .words)) (a .start)) (a .count)), life-starts (a .count) (now (a .words)) (s .pre) (a .start) (a .quantity) (c .first-tag .ensures))
 
 returns : tie.Need-returns Inv-loop μ-loop
 returns c =
     let l = c .before .before .loop in
     let s = c .before .before .before .before in
     let a = s .args in
-    life-short (a .tagged) (now (a .tags)) (s .pre) (a .start) (a .quantity) (l .i) (l .at) (l .life) (l .inv .1) (omega arith) (c .if1 .taken)
+    life-short (a .count) (now (a .words)) (s .pre) (a .start) (a .quantity) (l .i) (l .at) (l .life) (l .inv .1) (omega arith) (c .if1 .taken)
 
 returns-2 : tie.Need-returns-2 Inv-loop μ-loop
 returns-2 c =
@@ -44,11 +44,11 @@ returns-2 c =
     let l = w .before .before .before .before .loop in
     let s = w .before .before .before .before .before .before in
     let a = s .args in
-    life-stops (a .tagged) (now (a .tags)) (s .pre) (a .start) (a .quantity) (l .i) (l .at) (l .life) (l .inv .1) (omega arith) (omega arith)
+    life-stops (a .count) (now (a .words)) (s .pre) (a .start) (a .quantity) (l .i) (l .at) (l .life) (l .inv .1) (omega arith) (omega arith)
     (not-true _ (rw (c .before .tag-address .ensures, c .before .before .tag-ttl .ensures, w .last-of .ensures) at (c .if2 .taken)))
 
 -- the tag there is the next
-next : (c : tie.Else2 Inv-loop μ-loop) → (let l = c .before .before .before .before .before .before .before in let a = l .before .before .args in isNext (l .loop .at) (a .start + a .quantity) (tagOf (getD (now (a .tags)) (l .loop .i) 0)) ≡ true)
+next : (c : tie.Else2 Inv-loop μ-loop) → (let l = c .before .before .before .before .before .before .before in let a = l .before .before .args in isNext (l .loop .at) (a .start + a .quantity) (tagOf (getD (now (a .words)) (l .loop .i) 0)) ≡ true)
 next c = not-false _ (rw (c .before .tag-address .ensures, c .before .before .tag-ttl .ensures, c .before .before .before .last-of .ensures) at (c .if2 .left))
 
 add-at : tie.Need-add-at Inv-loop μ-loop
@@ -56,7 +56,7 @@ add-at c =
     let w = c .before .before .before .before in
     let l = w .before .before .before .before .loop in
     let a = w .before .before .before .before .before .before .args in
-    omega (arith, w .last-of .ensures, next-low (l .at) (a .start + a .quantity) (tagOf (getD (now (a .tags)) (l .i) 0)) (next (c .before)))
+    omega (arith, w .last-of .ensures, next-low (l .at) (a .start + a .quantity) (tagOf (getD (now (a .words)) (l .i) 0)) (next (c .before)))
 
 loop-again : tie.Need-loop-again Inv-loop μ-loop
 loop-again c =
@@ -64,9 +64,9 @@ loop-again c =
     let l = w .before .before .before .before .loop in
     let s = w .before .before .before .before .before .before in
     let a = s .args in
-    let g = life-goes (a .tagged) (now (a .tags)) (s .pre) (a .start) (a .quantity) (l .i) (l .at) (l .life) (l .inv .1) (omega arith) (omega arith) (next (c .before)) in
+    let g = life-goes (a .count) (now (a .words)) (s .pre) (a .start) (a .quantity) (l .i) (l .at) (l .life) (l .inv .1) (omega arith) (omega arith) (next (c .before)) in
     let ttl = c .before .before .before .tag-ttl .ensures in
-    let e : lower (l .life) (ttlOf (tagOf (getD (now (a .tags)) (l .i) 0))) ≡ c .if3 .life =
+    let e : lower (l .life) (ttlOf (tagOf (getD (now (a .words)) (l .i) 0))) ≡ c .if3 .life =
     ⊎-elim (λ x. rw (rw ttl at (x .0 .taken)) (sym (x .1 ∙ ttl))) (λ x. rw (rw ttl at (x .0 .left)) (sym (x .1))) (c .if3 .came) in
     (omega arith, rw (w .last-of .ensures, ← e) g)
 
@@ -75,7 +75,7 @@ returns-3 c =
     let l = c .before .loop in
     let s = c .before .before .before in
     let a = s .args in
-    life-ends (a .tagged) (now (a .tags)) (s .pre) (a .start) (a .quantity) (l .i) (l .at) (l .life) (l .inv .1) (omega arith)
+    life-ends (a .count) (now (a .words)) (s .pre) (a .start) (a .quantity) (l .i) (l .at) (l .life) (l .inv .1) (omega arith)
 
 pub life-of-spec : {M : Type 1} → statement M
 life-of-spec =
