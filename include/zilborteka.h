@@ -30,7 +30,8 @@ extern "C" {
 
 /* One device's state, which only these calls make and change; the host owns the memory and lends it for each call.
    The fields are spelled out so that a host can place a device statically. They are not for the host to read or
-   write. */
+   write. A word of `asked` has unit and function in its highest 16 bits; below them a 22 keeps its address and both
+   masks, a 23 where and how many registers it reads and writes. */
 typedef struct zb_state {
     uint32_t ids[ZB_PLACES];             /* a live place: its proxy id plus 1; 0: free */
     uint64_t asked[ZB_PLACES];           /* what was asked, in one word; bit 32 of a read's: nothing joins it any more */
@@ -108,7 +109,7 @@ enum {
     ZB_REFUSED_FRAME = 4,    /* request or reply: size not 8 to 260, protocol not 0, or length field not size - 6;
                                 split, stream: the header is wrong */
     ZB_REFUSED_FUNCTION = 5, /* request: function 0 or 128 to 255 */
-    ZB_REFUSED_LENGTH = 6,   /* the PDU's length is wrong for request 01 to 06, 15 or 16 */
+    ZB_REFUSED_LENGTH = 6,   /* the PDU's length is wrong for request 01 to 06, 15, 16, 22 or 23 */
     ZB_REFUSED_UNKNOWN = 7,  /* the reply's id is not live */
     ZB_REFUSED_MISMATCH = 8, /* the reply's id is live but it does not answer that request; the entry stays */
     ZB_REFUSED_ATTACHED = 9, /* attach of an attached client */

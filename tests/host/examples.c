@@ -1,4 +1,4 @@
-/* Shows document 01's examples from C, with those of requests #102 and #105 to #108, each refusal of each call by a
+/* Shows document 01's examples from C, with those of requests #102 and #105 to #109, each refusal of each call by a
    case written by hand, and that the header's structs lie as the archive has them. Every call also goes to the model, with
    guard bytes around what is lent. */
 #include "pair.h"
@@ -832,9 +832,31 @@ static void the_longest_and_the_latest(void)
 }
 
 /* Registers 16 to 19 are cached, of 03 and 04; then comes a request, and both are asked again. */
+typedef struct {
+    const char *what;
+    bool kept;
+    const char *frame;
+} drop_row;
+
+static void take_drops(const drop_row *rows, size_t count)
+{
+    static const key holding = {1, 3, 16, 4}, input = {1, 4, 16, 4};
+    for (size_t n = 0; n < count; n++) {
+        begin_cached(1);
+        shown s = fill(10, holding, 1), t = fill(10, input, 2);
+        request(3, 10, rows[n].frame);
+        zb_answer a = ask(5, 10, 7, holding);
+        expect(rows[n].kept ? is_hit(a, 7, &s) : a.outcome == ZB_ISSUED, rows[n].what, __LINE__);
+        a = ask(5, 10, 8, input);
+        expect(rows[n].kept ? is_hit(a, 8, &t) : a.outcome == ZB_ISSUED, rows[n].what, __LINE__);
+    }
+}
+
+#define TAKE_DROPS(rows) take_drops(rows, sizeof rows / sizeof *rows)
+
 static void what_an_issue_drops(void)
 {
-    static const struct { const char *what; bool kept; const char *frame; } rows[] = {
+    static const drop_row rows[] = {
         {"a write that ends one before", true, "20 02 00 00 00 0D 01 10 00 0D 00 03 06 00 00 00 00 00 00"},
         {"one behind", true, "20 02 00 00 00 06 01 06 00 14 00 07"},
         {"from the left", false, "20 02 00 00 00 0D 01 10 00 0E 00 03 06 00 00 00 00 00 00"},
@@ -850,23 +872,15 @@ static void what_an_issue_drops(void)
         {"a coil", true, "20 02 00 00 00 06 01 05 00 11 FF 00"},
         {"coils", true, "20 02 00 00 00 08 01 0F 00 10 00 04 01 00"},
         {"an other", false, "20 02 00 00 00 02 01 2B"},
-        {"an other with the address in it", false, "20 02 00 00 00 06 01 17 00 80 00 01"},
+        {"an other with the address in it", false, "20 02 00 00 00 06 01 18 00 80 00 01"},
+        {"an other, 8", false, "20 02 00 00 00 06 01 08 00 00 00 00"},
         {"an other for another unit", true, "20 02 00 00 00 02 02 2B"},
         {"a read of the same registers", true, "20 02 00 00 00 06 01 03 00 11 00 02"},
         {"a write of none, exception 03", true, "20 02 00 00 00 07 01 10 00 10 00 00 00"},
         {"a byte count that does not fit, 03", true, "20 02 00 00 00 0A 01 10 00 10 00 02 03 00 00 00"},
         {"a write that is refused", true, "20 02 00 00 00 05 01 06 00 10 00"},
     };
-    static const key holding = {1, 3, 16, 4}, input = {1, 4, 16, 4};
-    for (size_t n = 0; n < sizeof rows / sizeof *rows; n++) {
-        begin_cached(1);
-        shown s = fill(10, holding, 1), t = fill(10, input, 2);
-        request(3, 10, rows[n].frame);
-        zb_answer a = ask(5, 10, 7, holding);
-        expect(rows[n].kept ? is_hit(a, 7, &s) : a.outcome == ZB_ISSUED, rows[n].what, __LINE__);
-        a = ask(5, 10, 8, input);
-        expect(rows[n].kept ? is_hit(a, 8, &t) : a.outcome == ZB_ISSUED, rows[n].what, __LINE__);
-    }
+    TAKE_DROPS(rows);
 }
 
 /* A write beyond the last register gets 02, and the 257th live request 04: neither drops; a reply to a write does not
@@ -1147,10 +1161,12 @@ static void begin_strict(void)
 /* Exception 03 to what was asked under id 1234 of unit 1, in nine bytes; those behind them stay, which were all alike. */
 static bool is_forbidden(zb_answer a, uint8_t function)
 {
+    char hex[40];
     bool stay = true;
     for (size_t k = 9; k < ZB_FRAME_BUFFER; k++)
         stay &= pair_out()[k] == pair_out()[ZB_FRAME_BUFFER - 1];
-    return stay && is_exception(a, 3, function == 6 ? "12 34 00 00 00 03 01 86 03" : "12 34 00 00 00 03 01 90 03");
+    snprintf(hex, sizeof hex, "12 34 00 00 00 03 01 %02X 03", function + 128u);
+    return stay && is_exception(a, 3, hex);
 }
 
 static uint8_t function_of(const char *hex)
@@ -1321,12 +1337,15 @@ static void what_comes_before_a_strict_tag(void)
     EXPECT(is_exception(request(3, 10, "12 34 00 00 00 06 01 06 00 10 27 0F"), 4, "12 34 00 00 00 03 01 86 04"));
 }
 
-/* Writes that a strict tag forbids, over registers that are read: for its value, and cut at either end. */
+/* Writes that a strict tag forbids, over registers that are read: for its value, and cut at either end; and 22 on them. */
 static const char *const forbidden_writes[] = {
     "12 34 00 00 00 06 01 06 00 18 27 10", "12 34 00 00 00 06 01 06 00 19 00 00",
     "12 34 00 00 00 06 01 06 00 1A 00 00", "12 34 00 00 00 09 01 10 00 18 00 01 02 27 10",
     "12 34 00 00 00 0D 01 10 00 18 00 03 06 00 05 E1 00 05 F5", "12 34 00 00 00 0B 01 10 00 17 00 02 04 00 05 27 10",
     "12 34 00 00 00 0B 01 10 00 18 00 02 04 00 05 00 05", "12 34 00 00 00 0B 01 10 00 1A 00 02 04 00 05 00 05",
+    "12 34 00 00 00 0D 01 17 00 18 00 03 00 18 00 01 02 27 10", "12 34 00 00 00 0D 01 17 01 00 00 01 00 19 00 01 02 00 05",
+    "12 34 00 00 00 0F 01 17 01 00 00 01 00 1A 00 02 04 00 05 00 05", "12 34 00 00 00 08 01 16 00 18 00 F2 00 25",
+    "12 34 00 00 00 08 01 16 00 19 FF FF 00 00", "12 34 00 00 00 08 01 16 00 1A 00 00 12 34",
 };
 
 /* Registers 24 to 26 are read by 03 and 04 and then cached: a write that is forbidden closes and drops nothing of them, one
@@ -1412,6 +1431,706 @@ static unsigned words_that_go_out(uint32_t addr)
 static void every_strict_word(void)
 {
     EXPECT(words_that_go_out(16) == 10000 && words_that_go_out(22) == 1999 && words_that_go_out(18) == 0);
+}
+
+/* Mask writes (#109): 22 */
+
+/* MAP's own example goes out as it came and is answered by its own PDU. Its length is 7; it has no bad numbers and no range. */
+static void mask_writes(void)
+{
+    static const uint16_t pairs[] = {3, 0x1234};
+    uint8_t longest[260] = {0x12, 0x34, 0, 0, 0, 254, 1, 22};
+    begin();
+    EXPECT_REFUSED(request(3, 0, "12 34 00 00 00 02 01 16"), ZB_REFUSED_LENGTH);
+    EXPECT_REFUSED(request(3, 0, "12 34 00 00 00 06 01 16 00 04 00 F2"), ZB_REFUSED_LENGTH);
+    EXPECT_REFUSED(request(3, 0, "12 34 00 00 00 07 01 16 00 04 00 F2 00"), ZB_REFUSED_LENGTH);
+    EXPECT_REFUSED(request(3, 0, "12 34 00 00 00 09 01 16 00 04 00 F2 00 25 00"), ZB_REFUSED_LENGTH);
+    EXPECT_REFUSED(pair_request(3, 0, longest, 260, ZB_FRAME_BUFFER), ZB_REFUSED_LENGTH);
+    zb_answer a = request(3, 0, "12 34 00 00 00 08 01 16 00 04 00 F2 00 25");
+    EXPECT(is_issued(a, 0) && wrote(a, "00 00 00 00 00 08 01 16 00 04 00 F2 00 25") && raw(a, 0, 0));
+    a = reply(0, "00 00 00 00 00 08 01 16 00 04 00 F2 00 25");
+    EXPECT(a.outcome == ZB_ANSWERED && wrote(a, "00 00 00 00 00 08 01 16 00 04 00 F2 00 25") && raw(a, 0, 0));
+    EXPECT(listed(a, 1, pairs));
+    a = request(3, 0, "12 34 00 00 00 08 FF 16 FF FF FF FF FF FF");
+    EXPECT(is_issued(a, 1) && wrote(a, "00 01 00 00 00 08 FF 16 FF FF FF FF FF FF") && raw(a, 0, 0));
+    EXPECT(reply(0, "00 01 00 00 00 08 FF 16 FF FF FF FF FF FF").outcome == ZB_ANSWERED);
+    a = request(3, 0, "12 34 00 00 00 08 00 16 00 00 00 00 00 00");
+    EXPECT(is_issued(a, 2) && wrote(a, "00 02 00 00 00 08 00 16 00 00 00 00 00 00") && raw(a, 0, 0));
+    EXPECT(reply(0, "00 02 00 00 00 08 00 16 00 00 00 00 00 00").outcome == ZB_ANSWERED);
+}
+
+/* Each bit of the PDU that is another, a byte less or more, another unit: it does not answer, and the request stays live. */
+static void echoes_of_mask_writes(void)
+{
+    uint8_t echo[] = {0, 0, 0, 0, 0, 8, 1, 22, 0, 4, 0, 0xF2, 0, 0x25};
+    begin();
+    EXPECT(is_issued(request(3, 0, "12 34 00 00 00 08 01 16 00 04 00 F2 00 25"), 0));
+    for (uint32_t bit = 0; bit < 56; bit++) {
+        echo[7 + bit / 8] ^= (uint8_t)(1 << bit % 8);
+        EXPECT_REFUSED(pair_reply(0, echo, sizeof echo, ZB_FRAME_BUFFER, ZB_LIST_BUFFER), ZB_REFUSED_MISMATCH);
+        echo[7 + bit / 8] ^= (uint8_t)(1 << bit % 8);
+    }
+    EXPECT_REFUSED(reply(0, "00 00 00 00 00 08 01 16 00 04 00 25 00 F2"), ZB_REFUSED_MISMATCH); /* the masks the other way round */
+    EXPECT_REFUSED(reply(0, "00 00 00 00 00 07 01 16 00 04 00 F2 00"), ZB_REFUSED_MISMATCH);
+    EXPECT_REFUSED(reply(0, "00 00 00 00 00 06 01 16 00 04 00 F2"), ZB_REFUSED_MISMATCH);
+    EXPECT_REFUSED(reply(0, "00 00 00 00 00 09 01 16 00 04 00 F2 00 25 00"), ZB_REFUSED_MISMATCH);
+    EXPECT_REFUSED(reply(0, "00 00 00 00 00 08 02 16 00 04 00 F2 00 25"), ZB_REFUSED_MISMATCH);
+    EXPECT_REFUSED(reply(0, "00 00 00 00 00 02 01 96"), ZB_REFUSED_MISMATCH);
+    EXPECT_REFUSED(reply(0, "00 00 00 00 00 04 01 96 02 00"), ZB_REFUSED_MISMATCH);
+    EXPECT_REFUSED(reply(0, "00 00 00 00 00 03 01 97 02"), ZB_REFUSED_MISMATCH);
+    zb_answer a = reply(0, "00 00 00 00 00 03 01 96 02");
+    EXPECT(a.outcome == ZB_ANSWERED && wrote(a, "00 00 00 00 00 03 01 96 02") && raw(a, 0, 0) && a.parties == 1);
+    EXPECT(is_issued(request(3, 0, "12 34 00 00 00 08 01 16 00 04 00 F2 00 25"), 1));
+    a = tick(3000);
+    EXPECT(a.outcome == ZB_TIMED_OUT && wrote(a, "00 00 00 00 00 03 01 96 0B") && a.parties == 1);
+}
+
+/* Tags of width 32 with a register between them, a strict one among them, and of width 16 without and with a sign. */
+static void begin_between(void)
+{
+    static const struct { uint16_t addr, width, sign, ttl, strict; } tags[] = {
+        {16, 32, 0, 0, 0}, {19, 32, 0, 0, 0}, {22, 32, 0, 0, 1}, {25, 16, 0, 0, 0}, {27, 16, 1, 0, 0}, {29, 16, 0, 500, 0},
+        {31, 16, 0, 0, 1}, {33, 16, 1, 0, 1}, {65534, 32, 0, 0, 0},
+    };
+    zb_settings s = {.timeout = 3000, .join = 1, .tags = sizeof tags / sizeof *tags};
+    for (uint32_t t = 0; t < s.tags; t++) {
+        s.addr[t] = tags[t].addr;
+        s.width[t] = tags[t].width;
+        s.sign[t] = tags[t].sign;
+        s.ttl[t] = tags[t].ttl;
+        s.strict[t] = tags[t].strict;
+    }
+    EXPECT(pair_fresh(&s).outcome == ZB_DONE && pair_attach(3).outcome == ZB_DONE && pair_attach(5).outcome == ZB_DONE);
+}
+
+/* On a register of a tag, whichever it is: exception 03, whatever the masks are; beside it, and between two: it goes out. */
+static void mask_writes_and_tags(void)
+{
+    static const struct { const char *what; uint32_t address; bool tagged; } rows[] = {
+        {"far before all", 0, false}, {"before a tag of width 32", 15, false}, {"its first register", 16, true},
+        {"its second register", 17, true}, {"between two", 18, false}, {"the second tag's first", 19, true},
+        {"its second", 20, true}, {"before a strict one of width 32", 21, false}, {"its first register, strict", 22, true},
+        {"its second register, strict", 23, true}, {"behind it", 24, false}, {"width 16", 25, true}, {"behind that", 26, false},
+        {"with a sign", 27, true}, {"behind that", 28, false}, {"with a ttl", 29, true}, {"behind that", 30, false},
+        {"strict", 31, true}, {"behind that", 32, false}, {"strict with a sign", 33, true}, {"behind the last below", 34, false},
+        {"far from all", 1000, false}, {"before the last", 65533, false}, {"the last but one register", 65534, true},
+        {"the last register", 65535, true},
+    };
+    static const uint16_t masks[][2] = {{0x00F2, 0x0025}, {0xFFFF, 0x0000}, {0x0000, 0x0000}, {0x0000, 0x1234}};
+    for (size_t n = 0; n < sizeof rows / sizeof *rows; n++)
+        for (size_t m = 0; m < sizeof masks / sizeof *masks; m++) {
+            uint8_t frame[] = {0x12, 0x34, 0, 0, 0, 8, 1, 22, 0, 0, 0, 0, 0, 0};
+            put_word(frame + 8, rows[n].address);
+            put_word(frame + 10, masks[m][0]);
+            put_word(frame + 12, masks[m][1]);
+            begin_between();
+            zb_answer a = pair_request(3, 7, frame, sizeof frame, ZB_FRAME_BUFFER);
+            put_word(frame, 0);
+            bool sent = is_issued(a, 0) && raw(a, 0, 0) && a.length == sizeof frame && memcmp(pair_out(), frame, sizeof frame) == 0;
+            expect(rows[n].tagged ? is_forbidden(a, 22) : sent, rows[n].what, __LINE__);
+            EXPECT_REFUSED(tick(6), ZB_REFUSED_TIME); /* either sets the clock */
+        }
+}
+
+/* Read and write together (#109): 23 */
+
+/* Byte by byte: it reads 1024 to 1027 and writes 1026 and 1027, which are a tag of width 32. */
+static void read_and_write(void)
+{
+    static const uint16_t pairs[] = {3, 0x1234};
+    begin();
+    zb_answer a = request(3, 0, "12 34 00 00 00 0F 01 17 04 00 00 04 04 02 00 02 04 61 4E 00 BC");
+    EXPECT(is_issued(a, 0) && wrote(a, "00 00 00 00 00 0F 01 17 04 00 00 04 04 02 00 02 04 56 78 12 34") && raw(a, 0, 0));
+    a = reply(0, "00 00 00 00 00 0B 01 17 08 12 34 AB CD 56 78 12 34");
+    EXPECT(a.outcome == ZB_ANSWERED && wrote(a, "00 00 00 00 00 0B 01 17 08 04 D2 AB CD 61 4E 00 BC") && raw(a, 0, 0));
+    EXPECT(listed(a, 1, pairs));
+    a = request(3, 0, "12 34 00 00 00 11 01 17 00 03 00 06 00 0E 00 03 06 00 FF 00 FF 00 FF"); /* MAP's own */
+    EXPECT(wrote(a, "00 01 00 00 00 11 01 17 00 03 00 06 00 0E 00 03 06 00 FF 00 FF 00 FF") && raw(a, 0, 0));
+    a = reply(0, "00 01 00 00 00 0F 01 17 0C 00 FE 0A CD 00 01 00 03 00 0D 00 FF");
+    EXPECT(wrote(a, "00 00 00 00 00 0F 01 17 0C 00 FE 0A CD 00 01 00 03 00 0D 00 FF") && raw(a, 0, 0));
+}
+
+/* Which reply answers a 23 that reads three registers and writes two. */
+static void replies_to_read_and_write(void)
+{
+    static const char ask[] = "12 34 00 00 00 0F 01 17 00 10 00 03 00 20 00 02 04 00 01 00 02";
+    begin();
+    EXPECT(is_issued(request(3, 0, ask), 0));
+    EXPECT_REFUSED(reply(0, "00 00 00 00 00 07 01 17 04 00 01 00 02"), ZB_REFUSED_MISMATCH); /* by the write quantity */
+    EXPECT_REFUSED(reply(0, "00 00 00 00 00 0D 01 17 0A 00 01 00 02 00 03 00 04 00 05"), ZB_REFUSED_MISMATCH); /* by both */
+    EXPECT_REFUSED(reply(0, "00 00 00 00 00 09 01 17 04 00 01 00 02 00 03"), ZB_REFUSED_MISMATCH); /* its byte count is another */
+    EXPECT_REFUSED(reply(0, "00 00 00 00 00 09 01 17 07 00 01 00 02 00 03"), ZB_REFUSED_MISMATCH);
+    EXPECT_REFUSED(reply(0, "00 00 00 00 00 09 01 17 86 00 01 00 02 00 03"), ZB_REFUSED_MISMATCH);
+    EXPECT_REFUSED(reply(0, "00 00 00 00 00 08 01 17 06 00 01 00 02 00"), ZB_REFUSED_MISMATCH); /* a byte less */
+    EXPECT_REFUSED(reply(0, "00 00 00 00 00 0A 01 17 06 00 01 00 02 00 03 00"), ZB_REFUSED_MISMATCH); /* a byte more */
+    EXPECT_REFUSED(reply(0, "00 00 00 00 00 02 01 17"), ZB_REFUSED_MISMATCH);
+    EXPECT_REFUSED(reply(0, "00 00 00 00 00 09 02 17 06 00 01 00 02 00 03"), ZB_REFUSED_MISMATCH);
+    EXPECT_REFUSED(reply(0, "00 00 00 00 00 09 01 03 06 00 01 00 02 00 03"), ZB_REFUSED_MISMATCH);
+    EXPECT_REFUSED(reply(0, "00 00 00 00 00 06 01 17 00 20 00 02"), ZB_REFUSED_MISMATCH); /* as to a 16 */
+    EXPECT_REFUSED(reply(0, "00 00 00 00 00 02 01 97"), ZB_REFUSED_MISMATCH);
+    EXPECT_REFUSED(reply(0, "00 00 00 00 00 04 01 97 02 00"), ZB_REFUSED_MISMATCH);
+    EXPECT_REFUSED(reply(0, "00 00 00 00 00 03 01 96 02"), ZB_REFUSED_MISMATCH);
+    zb_answer a = reply(0, "00 00 00 00 00 09 01 17 06 00 01 00 02 00 03");
+    EXPECT(a.outcome == ZB_ANSWERED && wrote(a, "00 00 00 00 00 09 01 17 06 00 01 00 02 00 03") && a.parties == 1);
+    EXPECT(is_issued(request(3, 0, ask), 1));
+    a = reply(0, "00 01 00 00 00 03 01 97 02");
+    EXPECT(a.outcome == ZB_ANSWERED && wrote(a, "00 00 00 00 00 03 01 97 02") && raw(a, 0, 0) && a.parties == 1);
+    EXPECT(is_issued(request(3, 0, ask), 2));
+    a = tick(3000);
+    EXPECT(a.outcome == ZB_TIMED_OUT && wrote(a, "00 00 00 00 00 03 01 97 0B") && a.parties == 1);
+}
+
+/* A 23 by its numbers: what it says, and how long its PDU is. The registers are zeros. */
+typedef struct {
+    uint32_t read_start, reads, write_start, writes, bytes, pdu;
+} numbers;
+
+static zb_answer ask_23(uint32_t client, uint64_t now, numbers n)
+{
+    uint8_t frame[MOST_FRAME] = {0x12, 0x34, 0, 0, 0, (uint8_t)(n.pdu + 1), 1, 23};
+    put_word(frame + 8, n.read_start);
+    put_word(frame + 10, n.reads);
+    put_word(frame + 12, n.write_start);
+    put_word(frame + 14, n.writes);
+    frame[16] = (uint8_t)n.bytes;
+    return pair_request(client, now, frame, 7 + n.pdu, ZB_FRAME_BUFFER);
+}
+
+/* What a 23 comes to: refusal 6, exception 03 or 02, or 0: it goes out as long as it came, with no tag counted. */
+typedef struct {
+    const char *what;
+    numbers n;
+    uint32_t comes_to;
+} numbers_row;
+
+static void take_numbers(const numbers_row *rows, size_t count)
+{
+    begin();
+    for (size_t k = 0, issued = 0; k < count; k++) {
+        zb_answer a = ask_23(3, 0, rows[k].n);
+        bool good = is_refusal(a, ZB_REFUSED_LENGTH);
+        if (rows[k].comes_to == 0)
+            good = is_issued(a, (uint32_t)issued++) && raw(a, 0, 0) && a.length == 7 + rows[k].n.pdu;
+        if (rows[k].comes_to == 2)
+            good = is_exception(a, 2, "12 34 00 00 00 03 01 97 02");
+        if (rows[k].comes_to == 3)
+            good = is_forbidden(a, 23);
+        expect(good, rows[k].what, __LINE__);
+    }
+}
+
+#define TAKE_NUMBERS(rows) take_numbers(rows, sizeof rows / sizeof *rows)
+
+static void lengths_of_read_and_write(void)
+{
+    static const numbers_row rows[] = {
+        {"the function alone", {0, 1, 0, 1, 2, 1}, 6},
+        {"9 bytes: no byte count", {0, 1, 0, 1, 2, 9}, 6},
+        {"10 bytes, and a byte count of 2", {0, 1, 0, 1, 2, 10}, 6},
+        {"a byte less than the byte count says", {0, 1, 0, 1, 2, 11}, 6},
+        {"as long as it says", {0, 1, 0, 1, 2, 12}, 0},
+        {"a byte more", {0, 1, 0, 1, 2, 13}, 6},
+        {"a byte less, of two registers", {0, 1, 0, 2, 4, 13}, 6},
+        {"two registers", {0, 1, 0, 2, 4, 14}, 0},
+        {"a byte more", {0, 1, 0, 2, 4, 15}, 6},
+        {"byte count by the length and not by the quantity, below", {0, 1, 0, 2, 2, 12}, 3},
+        {"one below", {0, 1, 0, 2, 3, 13}, 3},
+        {"one above", {0, 1, 0, 2, 5, 15}, 3},
+        {"above", {0, 1, 0, 2, 6, 16}, 3},
+        {"byte count the quantity", {0, 1, 0, 2, 2, 12}, 3},
+        {"none, and no registers", {0, 1, 0, 1, 0, 10}, 3},
+        {"by the quantity and not by the length", {0, 1, 0, 2, 4, 12}, 6},
+        {"by neither, below both", {0, 1, 0, 2, 3, 14}, 6},
+        {"by neither, above both", {0, 1, 0, 2, 5, 14}, 6},
+        {"by neither, between them", {0, 1, 0, 3, 5, 14}, 6},
+        {"by neither, and all else wrong too", {65535, 0, 65535, 122, 5, 14}, 6},
+        {"twice the quantity is 256 more than the byte count", {0, 1, 0, 129, 2, 12}, 3},
+        {"the longest that goes out", {0, 1, 0, 121, 242, 252}, 0},
+        {"a byte more: the longest frame", {0, 1, 0, 121, 242, 253}, 6},
+        {"the same with a byte count for it", {0, 1, 0, 121, 243, 253}, 3},
+        {"a byte less", {0, 1, 0, 121, 242, 251}, 6},
+        {"the same with a byte count for it", {0, 1, 0, 121, 241, 251}, 3},
+    };
+    TAKE_NUMBERS(rows);
+}
+
+static void quantities_of_read_and_write(void)
+{
+    static const numbers_row rows[] = {
+        {"reads 0", {0, 0, 0, 1, 2, 12}, 3},
+        {"reads 1", {0, 1, 0, 1, 2, 12}, 0},
+        {"reads 125", {0, 125, 0, 1, 2, 12}, 0},
+        {"reads 126", {0, 126, 0, 1, 2, 12}, 3},
+        {"reads 127", {0, 127, 0, 1, 2, 12}, 3},
+        {"reads 128", {0, 128, 0, 1, 2, 12}, 3},
+        {"reads 129", {0, 129, 0, 1, 2, 12}, 3},
+        {"reads 257", {0, 257, 0, 1, 2, 12}, 3},
+        {"reads 65,535", {0, 65535, 0, 1, 2, 12}, 3},
+        {"writes 0", {0, 1, 0, 0, 0, 10}, 3},
+        {"writes 0, with a register", {0, 1, 0, 0, 2, 12}, 3},
+        {"writes 1", {0, 1, 0, 1, 2, 12}, 0},
+        {"writes 121", {0, 1, 0, 121, 242, 252}, 0},
+        {"writes 122, with 121 registers", {0, 1, 0, 122, 242, 252}, 3},
+        {"writes 123, with 121 registers", {0, 1, 0, 123, 242, 252}, 3},
+        {"writes 128", {0, 1, 0, 128, 0, 10}, 3},
+        {"writes 257, with one register", {0, 1, 0, 257, 2, 12}, 3},
+        {"writes 65,535", {0, 1, 0, 65535, 2, 12}, 3},
+        {"reads and writes 0", {0, 0, 0, 0, 0, 10}, 3},
+        {"reads 125 and writes 121", {0, 125, 0, 121, 242, 252}, 0},
+    };
+    uint8_t beyond[261] = {0x12, 0x34, 0, 0, 0, 255, 1, 23, 0, 0, 0, 1, 0, 0, 0, 122, 244};
+    TAKE_NUMBERS(rows);
+    /* 122 registers have no room in a frame */
+    EXPECT_REFUSED(pair_request(3, 0, beyond, sizeof beyond, ZB_FRAME_BUFFER), ZB_REFUSED_FRAME);
+}
+
+static void ranges_of_read_and_write(void)
+{
+    static const numbers_row rows[] = {
+        {"reads the last register", {65535, 1, 0, 1, 2, 12}, 0},
+        {"reads one beyond it", {65535, 2, 0, 1, 2, 12}, 2},
+        {"reads the last 125", {65411, 125, 0, 1, 2, 12}, 0},
+        {"reads one beyond them", {65412, 125, 0, 1, 2, 12}, 2},
+        {"reads far beyond", {65535, 125, 0, 1, 2, 12}, 2},
+        {"writes the last register", {0, 1, 65535, 1, 2, 12}, 0},
+        {"writes one beyond it", {0, 1, 65535, 2, 4, 14}, 2},
+        {"writes the last 121", {0, 1, 65415, 121, 242, 252}, 0},
+        {"writes one beyond them", {0, 1, 65416, 121, 242, 252}, 2},
+        {"writes far beyond", {0, 1, 65535, 121, 242, 252}, 2},
+        {"both up to the last", {65411, 125, 65415, 121, 242, 252}, 0},
+        {"both beyond it", {65412, 125, 65416, 121, 242, 252}, 2},
+        {"reads up to it, writes beyond", {65411, 125, 65416, 121, 242, 252}, 2},
+        {"reads beyond it, writes up to it", {65412, 125, 65415, 121, 242, 252}, 2},
+        {"reads beyond it, writes 0", {65535, 2, 0, 0, 0, 10}, 3},
+        {"reads beyond it, writes 122", {65535, 2, 0, 122, 242, 252}, 3},
+        {"reads beyond it, its byte count is wrong", {65535, 2, 0, 1, 3, 13}, 3},
+        {"writes beyond it, reads 0", {0, 0, 65535, 2, 4, 14}, 3},
+        {"writes beyond it, reads 126", {0, 126, 65535, 2, 4, 14}, 3},
+        {"writes beyond it, its byte count is wrong", {0, 1, 65535, 2, 3, 13}, 3},
+        {"reads 126, beyond it by that one", {65411, 126, 0, 1, 2, 12}, 3},
+        {"beyond it in all, and a byte too short", {65535, 2, 65535, 2, 4, 13}, 6},
+    };
+    TAKE_NUMBERS(rows);
+}
+
+/* A 23 as a client asks it and as it is sent, what the controller says and what the client is told, each with its counts. */
+typedef struct {
+    const char *what, *asked, *sent;
+    uint32_t partial, value;
+    const char *said, *told;
+    uint32_t partial_back, value_back;
+} parts_row;
+
+static void take_parts(const parts_row *rows, size_t count)
+{
+    for (size_t n = 0; n < count; n++) {
+        begin_strict();
+        zb_answer a = request(3, 7, rows[n].asked);
+        expect(is_issued(a, 0) && wrote(a, rows[n].sent) && raw(a, rows[n].partial, rows[n].value), rows[n].what, __LINE__);
+        a = reply(8, rows[n].said);
+        bool good = a.outcome == ZB_ANSWERED && wrote(a, rows[n].told) && raw(a, rows[n].partial_back, rows[n].value_back);
+        expect(good && a.parties == 1, rows[n].what, __LINE__);
+    }
+}
+
+#define TAKE_PARTS(rows) take_parts(rows, sizeof rows / sizeof *rows)
+
+/* Tags 17, 20 and 23 are lenient, of width 16, of width 32 and with a sign; 16, 18 and 22 are strict ones of these kinds. */
+static void parts_that_cut_tags(void)
+{
+    static const parts_row rows[] = {
+        {"the read part alone cuts a tag at its first end", "12 34 00 00 00 0F 01 17 00 15 00 01 00 14 00 02 04 61 4E 00 BC",
+         "00 00 00 00 00 0F 01 17 00 15 00 01 00 14 00 02 04 56 78 12 34", 0, 0,
+         "00 00 00 00 00 05 01 17 02 12 34", "00 00 00 00 00 05 01 17 02 12 34", 1, 0},
+        {"at its last end", "12 34 00 00 00 0F 01 17 00 14 00 01 00 14 00 02 04 61 4E 00 BC",
+         "00 00 00 00 00 0F 01 17 00 14 00 01 00 14 00 02 04 56 78 12 34", 0, 0,
+         "00 00 00 00 00 05 01 17 02 12 34", "00 00 00 00 00 05 01 17 02 12 34", 1, 0},
+        {"it cuts two, a strict one and a lenient one", "12 34 00 00 00 0F 01 17 00 13 00 02 00 14 00 02 04 61 4E 00 BC",
+         "00 00 00 00 00 0F 01 17 00 13 00 02 00 14 00 02 04 56 78 12 34", 0, 0,
+         "00 00 00 00 00 07 01 17 04 12 34 00 AB", "00 00 00 00 00 07 01 17 04 12 34 00 AB", 2, 0},
+        {"the write part alone cuts it at its first end", "12 34 00 00 00 0D 01 17 00 14 00 02 00 15 00 01 02 00 07",
+         "00 00 00 00 00 0D 01 17 00 14 00 02 00 15 00 01 02 00 07", 1, 0,
+         "00 00 00 00 00 07 01 17 04 56 78 12 34", "00 00 00 00 00 07 01 17 04 61 4E 00 BC", 0, 0},
+        {"at its last end", "12 34 00 00 00 11 01 17 00 14 00 02 00 12 00 03 06 00 10 00 00 00 07",
+         "00 00 00 00 00 11 01 17 00 14 00 02 00 12 00 03 06 00 16 00 00 00 07", 1, 0,
+         "00 00 00 00 00 07 01 17 04 56 78 12 34", "00 00 00 00 00 07 01 17 04 61 4E 00 BC", 0, 0},
+        {"both cut it", "12 34 00 00 00 0D 01 17 00 14 00 01 00 15 00 01 02 00 07",
+         "00 00 00 00 00 0D 01 17 00 14 00 01 00 15 00 01 02 00 07", 1, 0,
+         "00 00 00 00 00 05 01 17 02 12 34", "00 00 00 00 00 05 01 17 02 12 34", 1, 0},
+        {"both cut it at one end, together they have it", "12 34 00 00 00 0D 01 17 00 15 00 01 00 14 00 01 02 00 07",
+         "00 00 00 00 00 0D 01 17 00 15 00 01 00 14 00 01 02 00 07", 1, 0,
+         "00 00 00 00 00 05 01 17 02 00 AB", "00 00 00 00 00 05 01 17 02 00 AB", 1, 0},
+        {"the write part has no tag", "12 34 00 00 00 0D 01 17 00 11 00 01 00 1C 00 01 02 27 10",
+         "00 00 00 00 00 0D 01 17 00 11 00 01 00 1C 00 01 02 27 10", 0, 0,
+         "00 00 00 00 00 05 01 17 02 12 34", "00 00 00 00 00 05 01 17 02 04 D2", 0, 0},
+        {"the read part has no tag", "12 34 00 00 00 0D 01 17 00 1C 00 01 00 11 00 01 02 04 D2",
+         "00 00 00 00 00 0D 01 17 00 1C 00 01 00 11 00 01 02 12 34", 0, 0,
+         "00 00 00 00 00 05 01 17 02 12 34", "00 00 00 00 00 05 01 17 02 12 34", 0, 0},
+    };
+    TAKE_PARTS(rows);
+}
+
+/* Values in each part by themselves, and parts over the same registers. */
+static void parts_with_values(void)
+{
+    static const parts_row rows[] = {
+        {"raw for its value in the write part alone", "12 34 00 00 00 0D 01 17 00 11 00 01 00 11 00 01 02 27 10",
+         "00 00 00 00 00 0D 01 17 00 11 00 01 00 11 00 01 02 27 10", 0, 1,
+         "00 00 00 00 00 05 01 17 02 27 10", "00 00 00 00 00 05 01 17 02 0A 96", 0, 0}, /* no echo: 2,710 is read (#106) */
+        {"in the read part alone", "12 34 00 00 00 0D 01 17 00 11 00 01 00 11 00 01 02 27 0F",
+         "00 00 00 00 00 0D 01 17 00 11 00 01 00 11 00 01 02 99 99", 0, 0,
+         "00 00 00 00 00 05 01 17 02 00 AB", "00 00 00 00 00 05 01 17 02 00 AB", 0, 1},
+        {"in both", "12 34 00 00 00 0D 01 17 00 11 00 01 00 11 00 01 02 27 10",
+         "00 00 00 00 00 0D 01 17 00 11 00 01 00 11 00 01 02 27 10", 0, 1,
+         "00 00 00 00 00 05 01 17 02 00 AB", "00 00 00 00 00 05 01 17 02 00 AB", 0, 1},
+        {"the same registers, read back", "12 34 00 00 00 11 01 17 00 16 00 03 00 16 00 03 06 FF FB FC 19 27 0F",
+         "00 00 00 00 00 11 01 17 00 16 00 03 00 16 00 03 06 F0 05 F9 99 99 99", 0, 0,
+         "00 00 00 00 00 09 01 17 06 F0 05 F9 99 99 99", "00 00 00 00 00 09 01 17 06 FF FB FC 19 27 0F", 0, 0},
+        {"it reads from the second that it writes on", "12 34 00 00 00 0F 01 17 00 11 00 03 00 10 00 02 04 00 10 00 20",
+         "00 00 00 00 00 0F 01 17 00 11 00 03 00 10 00 02 04 00 16 00 32", 0, 0,
+         "00 00 00 00 00 09 01 17 06 00 32 00 16 00 00", "00 00 00 00 00 09 01 17 06 00 20 00 10 00 00", 0, 0},
+        {"it writes from the second that it reads on", "12 34 00 00 00 0D 01 17 00 10 00 02 00 11 00 01 02 00 20",
+         "00 00 00 00 00 0D 01 17 00 10 00 02 00 11 00 01 02 00 32", 0, 0,
+         "00 00 00 00 00 07 01 17 04 00 16 00 32", "00 00 00 00 00 07 01 17 04 00 10 00 20", 0, 0},
+        {"a sign in the write part, cut and raw tags in the read part",
+         "12 34 00 00 00 0D 01 17 00 15 00 03 00 17 00 01 02 FF FF",
+         "00 00 00 00 00 0D 01 17 00 15 00 03 00 17 00 01 02 F0 01", 0, 0,
+         "00 00 00 00 00 09 01 17 06 12 34 F0 00 F0 12", "00 00 00 00 00 09 01 17 06 12 34 F0 00 FF F4", 1, 1},
+        {"cut and raw in both", "12 34 00 00 00 11 01 17 00 15 00 03 00 15 00 03 06 00 07 FF FB 03 E8",
+         "00 00 00 00 00 11 01 17 00 15 00 03 00 15 00 03 06 00 07 F0 05 03 E8", 1, 1,
+         "00 00 00 00 00 09 01 17 06 12 34 F0 00 F0 00", "00 00 00 00 00 09 01 17 06 12 34 F0 00 F0 00", 1, 2},
+    };
+    TAKE_PARTS(rows);
+}
+
+/* Strict tags forbid a write part as they forbid a 16, and a read part nothing; register 28 lies in no tag. */
+static void strict_by_23(void)
+{
+    static const strict_row rows[] = {
+        {"9,999", "12 34 00 00 00 0D 01 17 00 1C 00 01 00 10 00 01 02 27 0F",
+         "00 00 00 00 00 0D 01 17 00 1C 00 01 00 10 00 01 02 99 99", 0, 0},
+        {"10,000", "12 34 00 00 00 0D 01 17 00 1C 00 01 00 10 00 01 02 27 10", NULL, 0, 0},
+        {"10,000, lenient", "12 34 00 00 00 0D 01 17 00 1C 00 01 00 11 00 01 02 27 10",
+         "00 00 00 00 00 0D 01 17 00 1C 00 01 00 11 00 01 02 27 10", 0, 1},
+        {"the first register of width 32", "12 34 00 00 00 0D 01 17 00 1C 00 01 00 12 00 01 02 00 00", NULL, 0, 0},
+        {"the second register", "12 34 00 00 00 0D 01 17 00 1C 00 01 00 13 00 01 02 00 00", NULL, 0, 0},
+        {"it ends inside", "12 34 00 00 00 0F 01 17 00 1C 00 01 00 11 00 02 04 00 05 00 00", NULL, 0, 0},
+        {"it begins inside", "12 34 00 00 00 11 01 17 00 1C 00 01 00 13 00 03 06 00 00 00 05 00 00", NULL, 0, 0},
+        {"at the last addresses", "12 34 00 00 00 0F 01 17 00 1C 00 01 FF FE 00 02 04 00 00 00 05", NULL, 0, 0},
+        {"the last register", "12 34 00 00 00 0D 01 17 00 1C 00 01 FF FF 00 01 02 27 0F",
+         "00 00 00 00 00 0D 01 17 00 1C 00 01 FF FF 00 01 02 99 99", 0, 0},
+        {"99,999,999", "12 34 00 00 00 0F 01 17 00 1C 00 01 00 12 00 02 04 E0 FF 05 F5",
+         "00 00 00 00 00 0F 01 17 00 1C 00 01 00 12 00 02 04 99 99 99 99", 0, 0},
+        {"100,000,000", "12 34 00 00 00 0F 01 17 00 1C 00 01 00 12 00 02 04 E1 00 05 F5", NULL, 0, 0},
+        {"-999", "12 34 00 00 00 0D 01 17 00 1C 00 01 00 16 00 01 02 FC 19",
+         "00 00 00 00 00 0D 01 17 00 1C 00 01 00 16 00 01 02 F9 99", 0, 0},
+        {"-1,000", "12 34 00 00 00 0D 01 17 00 1C 00 01 00 16 00 01 02 FC 18", NULL, 0, 0},
+        {"0x8000", "12 34 00 00 00 0D 01 17 00 1C 00 01 00 16 00 01 02 80 00", NULL, 0, 0},
+        {"the second of two is wrong", "12 34 00 00 00 11 01 17 00 1C 00 01 00 18 00 03 06 00 05 E1 00 05 F5", NULL, 0, 0},
+        {"a lenient one is wrong beside it", "12 34 00 00 00 0F 01 17 00 1C 00 01 00 10 00 02 04 00 10 27 10",
+         "00 00 00 00 00 0F 01 17 00 1C 00 01 00 10 00 02 04 00 16 27 10", 0, 1},
+    };
+    WRITE_ROWS(rows);
+}
+
+static void strict_in_the_read_part(void)
+{
+    static const strict_row rows[] = {
+        {"alone", "12 34 00 00 00 0D 01 17 00 10 00 01 00 1C 00 01 02 27 10",
+         "00 00 00 00 00 0D 01 17 00 10 00 01 00 1C 00 01 02 27 10", 0, 0},
+        {"alone and cut", "12 34 00 00 00 0D 01 17 00 13 00 01 00 1C 00 01 02 27 10",
+         "00 00 00 00 00 0D 01 17 00 13 00 01 00 1C 00 01 02 27 10", 0, 0},
+        {"all of them", "12 34 00 00 00 0D 01 17 00 10 00 0C 00 1C 00 01 02 FF FF",
+         "00 00 00 00 00 0D 01 17 00 10 00 0C 00 1C 00 01 02 FF FF", 0, 0},
+        {"beside a lenient one that is written raw", "12 34 00 00 00 0D 01 17 00 10 00 03 00 11 00 01 02 27 10",
+         "00 00 00 00 00 0D 01 17 00 10 00 03 00 11 00 01 02 27 10", 0, 1},
+        {"cut there, whole and right in the write part", "12 34 00 00 00 0F 01 17 00 12 00 01 00 12 00 02 04 61 4E 00 BC",
+         "00 00 00 00 00 0F 01 17 00 12 00 01 00 12 00 02 04 56 78 12 34", 0, 0},
+        {"whole there, cut in the write part", "12 34 00 00 00 0D 01 17 00 12 00 02 00 12 00 01 02 00 00", NULL, 0, 0},
+        {"whole there, wrong in the write part", "12 34 00 00 00 0F 01 17 00 12 00 02 00 12 00 02 04 E1 00 05 F5", NULL, 0, 0},
+    };
+    WRITE_ROWS(rows);
+}
+
+/* Refusals and #109's own exceptions come before those for a tag; 04 comes behind, and closes nothing. */
+static void what_comes_before_22_and_23(void)
+{
+    static const uint8_t masked[] = {0x12, 0x34, 0, 0, 0, 8, 1, 22, 0, 16, 0, 0xF2, 0, 0x25};
+    static const uint8_t both[] = {0x12, 0x34, 0, 0, 0, 13, 1, 23, 0, 28, 0, 1, 0, 16, 0, 1, 2, 0x27, 0x10};
+    uint8_t plain[] = {0, 1, 0, 0, 0, 6, 1, 6, 0, 28, 0x27, 0x10};
+    begin_strict();
+    EXPECT(tick(10).outcome == ZB_NOTHING_DUE);
+    EXPECT_REFUSED(pair_request(3, 10, masked, sizeof masked, ZB_FRAME_BUFFER - 1), ZB_REFUSED_BUFFER);
+    EXPECT_REFUSED(pair_request(4, 10, both, sizeof both, ZB_FRAME_BUFFER), ZB_REFUSED_CLIENT);
+    EXPECT_REFUSED(pair_request(3, 9, masked, sizeof masked, ZB_FRAME_BUFFER), ZB_REFUSED_TIME);
+    EXPECT_REFUSED(pair_request(3, 10, both, sizeof both - 1, ZB_FRAME_BUFFER), ZB_REFUSED_FRAME);
+    EXPECT_REFUSED(request(3, 10, "12 34 00 00 00 09 01 16 00 10 00 F2 00 25 00"), ZB_REFUSED_LENGTH);
+    EXPECT_REFUSED(request(3, 10, "12 34 00 00 00 0D 01 17 00 1C 00 01 00 10 00 01 03 27 10"), ZB_REFUSED_LENGTH);
+    /* a range beyond the last register, of either part, and a strict tag that is wrong */
+    zb_answer a = request(3, 10, "12 34 00 00 00 0F 01 17 00 1C 00 01 FF FF 00 02 04 27 10 00 00");
+    EXPECT(is_exception(a, 2, "12 34 00 00 00 03 01 97 02"));
+    a = request(3, 10, "12 34 00 00 00 0D 01 17 FF FF 00 02 00 10 00 01 02 27 10");
+    EXPECT(is_exception(a, 2, "12 34 00 00 00 03 01 97 02"));
+    EXPECT(is_issued(request(3, 10, "12 34 00 00 00 06 01 03 00 1C 00 01"), 0));
+    for (uint32_t n = 1; n < ZB_PLACES; n++) {
+        plain[9] = 29;
+        EXPECT(is_issued(pair_request(3, 10, plain, 12, ZB_FRAME_BUFFER), n));
+    }
+    EXPECT(is_forbidden(pair_request(3, 10, masked, sizeof masked, ZB_FRAME_BUFFER), 22));
+    EXPECT(is_forbidden(pair_request(3, 10, both, sizeof both, ZB_FRAME_BUFFER), 23));
+    a = request(3, 10, "12 34 00 00 00 08 01 16 00 1C 00 F2 00 25");
+    EXPECT(is_exception(a, 4, "12 34 00 00 00 03 01 96 04"));
+    a = request(3, 10, "12 34 00 00 00 0D 01 17 00 10 00 01 00 1C 00 01 02 27 10");
+    EXPECT(is_exception(a, 4, "12 34 00 00 00 03 01 97 04"));
+    EXPECT(request(5, 10, "00 07 00 00 00 06 01 03 00 1C 00 01").outcome == ZB_JOINED);
+}
+
+/* What 22 and 23 close: registers 16 to 19 are read, and lie in no tag of the document's */
+
+static void masks_close_what_they_meet(void)
+{
+    static const step steps[] = {
+        {"03", 3, "20 01 00 00 00 06 01 03 00 10 00 04", ZB_ISSUED, 0},
+        {"04", 3, "20 02 00 00 00 06 01 04 00 10 00 04", ZB_ISSUED, 1},
+        {"01", 3, "20 03 00 00 00 06 01 01 00 10 00 04", ZB_ISSUED, 2},
+        {"02", 3, "20 04 00 00 00 06 01 02 00 10 00 04", ZB_ISSUED, 3},
+        {"a 22 one before them", 3, "20 05 00 00 00 08 01 16 00 0F 00 F2 00 25", ZB_ISSUED, 4},
+        {"closes nothing", 5, "20 06 00 00 00 06 01 03 00 10 00 04", ZB_JOINED, 0},
+        {"of 04 either", 5, "20 07 00 00 00 06 01 04 00 10 00 04", ZB_JOINED, 1},
+        {"one behind them", 3, "20 08 00 00 00 08 01 16 00 14 00 F2 00 25", ZB_ISSUED, 5},
+        {"closes nothing", 5, "20 09 00 00 00 06 01 03 00 10 00 04", ZB_JOINED, 0},
+        {"one in another unit", 3, "20 0A 00 00 00 08 02 16 00 11 00 F2 00 25", ZB_ISSUED, 6},
+        {"closes nothing", 5, "20 0B 00 00 00 06 01 03 00 10 00 04", ZB_JOINED, 0},
+        {"one on the first", 3, "20 0C 00 00 00 08 01 16 00 10 00 F2 00 25", ZB_ISSUED, 7},
+        {"03 is closed", 5, "20 0D 00 00 00 06 01 03 00 10 00 04", ZB_ISSUED, 8},
+        {"04 is closed", 5, "20 0E 00 00 00 06 01 04 00 10 00 04", ZB_ISSUED, 9},
+        {"01 is not", 5, "20 0F 00 00 00 06 01 01 00 10 00 04", ZB_JOINED, 2},
+        {"nor 02", 5, "20 10 00 00 00 06 01 02 00 10 00 04", ZB_JOINED, 3},
+        {"one on the last", 3, "20 11 00 00 00 08 01 16 00 13 FF FF 00 00", ZB_ISSUED, 10},
+        {"03 is closed", 5, "20 12 00 00 00 06 01 03 00 10 00 04", ZB_ISSUED, 11},
+        {"and joined behind it", 3, "20 13 00 00 00 06 01 03 00 10 00 04", ZB_JOINED, 11},
+        {"a read of a tag", 3, "20 14 00 00 00 06 01 03 04 02 00 02", ZB_ISSUED, 12},
+        {"a 22 on it gets 03", 3, "20 15 00 00 00 08 01 16 04 03 00 F2 00 25", ZB_EXCEPTION, 0},
+        {"and closes nothing", 5, "20 16 00 00 00 06 01 03 04 02 00 02", ZB_JOINED, 12},
+    };
+    begin();
+    TAKE(steps);
+}
+
+static void both_close_by_the_write_part(void)
+{
+    static const step steps[] = {
+        {"03", 3, "20 01 00 00 00 06 01 03 00 10 00 04", ZB_ISSUED, 0},
+        {"04", 3, "20 02 00 00 00 06 01 04 00 10 00 04", ZB_ISSUED, 1},
+        {"01", 3, "20 03 00 00 00 06 01 01 00 10 00 04", ZB_ISSUED, 2},
+        {"02", 3, "20 04 00 00 00 06 01 02 00 10 00 04", ZB_ISSUED, 3},
+        {"a 23 that writes from the left", 3, "20 05 00 00 00 11 01 17 01 00 00 01 00 0E 00 03 06 00 00 00 00 00 00", ZB_ISSUED, 4},
+        {"03 is closed", 5, "20 06 00 00 00 06 01 03 00 10 00 04", ZB_ISSUED, 5},
+        {"04 is closed", 5, "20 07 00 00 00 06 01 04 00 10 00 04", ZB_ISSUED, 6},
+        {"01 is not", 5, "20 08 00 00 00 06 01 01 00 10 00 04", ZB_JOINED, 2},
+        {"nor 02", 5, "20 09 00 00 00 06 01 02 00 10 00 04", ZB_JOINED, 3},
+        {"from the right", 3, "20 0A 00 00 00 11 01 17 01 00 00 01 00 13 00 03 06 00 00 00 00 00 00", ZB_ISSUED, 7},
+        {"closes", 5, "20 0B 00 00 00 06 01 03 00 10 00 04", ZB_ISSUED, 8},
+        {"inside", 3, "20 0C 00 00 00 0D 01 17 01 00 00 01 00 11 00 01 02 00 00", ZB_ISSUED, 9},
+        {"closes", 5, "20 0D 00 00 00 06 01 03 00 10 00 04", ZB_ISSUED, 10},
+        {"around", 3, "20 0E 00 00 00 17 01 17 01 00 00 01 00 0F 00 06 0C 00 00 00 00 00 00 00 00 00 00 00 00", ZB_ISSUED, 11},
+        {"closes", 5, "20 0F 00 00 00 06 01 03 00 10 00 04", ZB_ISSUED, 12},
+        {"one that reads them too", 3, "20 10 00 00 00 0D 01 17 00 10 00 04 00 10 00 01 02 00 00", ZB_ISSUED, 13},
+        {"closes", 5, "20 11 00 00 00 06 01 03 00 10 00 04", ZB_ISSUED, 14},
+        {"and what is issued behind it is joined", 3, "20 12 00 00 00 06 01 03 00 10 00 04", ZB_JOINED, 14},
+    };
+    begin();
+    TAKE(steps);
+}
+
+static void both_close_nothing_by_the_read_part(void)
+{
+    static const step steps[] = {
+        {"03", 3, "20 01 00 00 00 06 01 03 00 10 00 04", ZB_ISSUED, 0},
+        {"04", 3, "20 02 00 00 00 06 01 04 00 10 00 04", ZB_ISSUED, 1},
+        {"a 23 that reads the same and writes one before", 3, "20 03 00 00 00 0D 01 17 00 10 00 04 00 0F 00 01 02 00 07", ZB_ISSUED, 2},
+        {"closes nothing", 5, "20 04 00 00 00 06 01 03 00 10 00 04", ZB_JOINED, 0},
+        {"of 04 either", 5, "20 05 00 00 00 06 01 04 00 10 00 04", ZB_JOINED, 1},
+        {"that writes one behind", 3, "20 06 00 00 00 0D 01 17 00 10 00 04 00 14 00 01 02 00 07", ZB_ISSUED, 3},
+        {"closes nothing", 5, "20 07 00 00 00 06 01 03 00 10 00 04", ZB_JOINED, 0},
+        {"that reads around them and writes far away", 3, "20 08 00 00 00 0D 01 17 00 00 00 7D 01 00 00 01 02 00 07", ZB_ISSUED, 4},
+        {"closes nothing", 5, "20 09 00 00 00 06 01 04 00 10 00 04", ZB_JOINED, 1},
+        {"that writes them in another unit", 3, "20 0A 00 00 00 0D 02 17 00 10 00 04 00 11 00 01 02 00 07", ZB_ISSUED, 5},
+        {"closes nothing", 5, "20 0B 00 00 00 06 01 03 00 10 00 04", ZB_JOINED, 0},
+        {"that reads 0 and writes them gets 03", 3, "20 0C 00 00 00 0D 01 17 00 10 00 00 00 11 00 01 02 00 07", ZB_EXCEPTION, 0},
+        {"and closes nothing", 5, "20 0D 00 00 00 06 01 03 00 10 00 04", ZB_JOINED, 0},
+        {"that reads beyond the last gets 02", 3, "20 0E 00 00 00 0D 01 17 FF FF 00 02 00 11 00 01 02 00 07", ZB_EXCEPTION, 0},
+        {"and closes nothing", 5, "20 0F 00 00 00 06 01 04 00 10 00 04", ZB_JOINED, 1},
+    };
+    begin();
+    TAKE(steps);
+}
+
+/* Neither is joined, and a read does not join what a 23 reads. */
+static void neither_joins(void)
+{
+    static const step steps[] = {
+        {"a 23", 3, "20 01 00 00 00 0D 01 17 00 10 00 04 00 20 00 01 02 00 07", ZB_ISSUED, 0},
+        {"the same again", 5, "20 02 00 00 00 0D 01 17 00 10 00 04 00 20 00 01 02 00 07", ZB_ISSUED, 1},
+        {"a read of what it reads", 3, "20 03 00 00 00 06 01 03 00 10 00 04", ZB_ISSUED, 2},
+        {"the same again", 5, "20 04 00 00 00 06 01 03 00 10 00 04", ZB_JOINED, 2},
+        {"the 23 again", 5, "20 05 00 00 00 0D 01 17 00 10 00 04 00 20 00 01 02 00 07", ZB_ISSUED, 3},
+        {"a 22", 3, "20 06 00 00 00 08 01 16 00 30 00 F2 00 25", ZB_ISSUED, 4},
+        {"the same again", 5, "20 07 00 00 00 08 01 16 00 30 00 F2 00 25", ZB_ISSUED, 5},
+    };
+    begin();
+    TAKE(steps);
+    EXPECT(reply(0, "00 05 00 00 00 08 01 16 00 30 00 F2 00 25").parties == 1);
+    EXPECT(reply(0, "00 02 00 00 00 0B 01 03 08 00 01 00 02 00 03 00 04").parties == 2);
+    EXPECT(pair_detach(5).outcome == ZB_DONE);
+    zb_answer a = reply(0, "00 01 00 00 00 0B 01 17 08 00 01 00 02 00 03 00 04");
+    EXPECT(a.outcome == ZB_ANSWERED && a.parties == 0); /* left by all */
+    EXPECT(reply(0, "00 00 00 00 00 0B 01 17 08 00 01 00 02 00 03 00 04").parties == 1);
+}
+
+/* Registers 16 to 19 are cached: a 22 never drops them, since they lie in tags, and a 23 by its write part alone. */
+static void what_22_and_23_drop(void)
+{
+    static const drop_row rows[] = {
+        {"a 22 one before", true, "20 02 00 00 00 08 01 16 00 0F 00 F2 00 25"},
+        {"on the first, exception 03", true, "20 02 00 00 00 08 01 16 00 10 00 F2 00 25"},
+        {"inside, exception 03", true, "20 02 00 00 00 08 01 16 00 12 00 F2 00 25"},
+        {"on the last, exception 03", true, "20 02 00 00 00 08 01 16 00 13 00 F2 00 25"},
+        {"far away", true, "20 02 00 00 00 08 01 16 01 00 00 F2 00 25"},
+        {"a 23 that reads them and writes one before", true, "20 02 00 00 00 0D 01 17 00 10 00 04 00 0F 00 01 02 00 07"},
+        {"that reads them and writes one behind", true, "20 02 00 00 00 0D 01 17 00 10 00 04 00 14 00 01 02 00 07"},
+        {"that reads them and writes far away", true, "20 02 00 00 00 0D 01 17 00 10 00 04 01 00 00 01 02 00 07"},
+        {"that writes from the left", false, "20 02 00 00 00 11 01 17 01 00 00 01 00 0E 00 03 06 00 00 00 00 00 00"},
+        {"from the right", false, "20 02 00 00 00 11 01 17 01 00 00 01 00 13 00 03 06 00 00 00 00 00 00"},
+        {"inside", false, "20 02 00 00 00 0F 01 17 01 00 00 01 00 11 00 02 04 00 00 00 00"},
+        {"inside, cutting a tag", false, "20 02 00 00 00 0D 01 17 01 00 00 01 00 12 00 01 02 00 00"},
+        {"around", false, "20 02 00 00 00 17 01 17 01 00 00 01 00 0F 00 06 0C 00 00 00 00 00 00 00 00 00 00 00 00"},
+        {"the same that it reads", false, "20 02 00 00 00 13 01 17 00 10 00 04 00 10 00 04 08 00 00 00 00 00 00 00 00"},
+        {"in another unit", true, "20 02 00 00 00 0D 02 17 00 10 00 04 00 10 00 01 02 00 07"},
+        {"and reads 126, exception 03", true, "20 02 00 00 00 0D 01 17 00 00 00 7E 00 10 00 01 02 00 07"},
+        {"and reads beyond the last, exception 02", true, "20 02 00 00 00 0D 01 17 FF FF 00 02 00 10 00 01 02 00 07"},
+        {"with a byte too many, refused", true, "20 02 00 00 00 0E 01 17 00 10 00 04 00 10 00 01 02 00 07 00"},
+    };
+    TAKE_DROPS(rows);
+}
+
+/* A 23 is no hit, and its reply fills no place: not over what is cached of its read part, and not where nothing is. */
+static void read_and_write_beside_the_cache(void)
+{
+    const key k = {1, 3, 16, 1}, other = {1, 3, 22, 1};
+    begin_cached(1);
+    shown s = fill(10, k, 0x0042);
+    zb_answer a = request(5, 10, "12 34 00 00 00 0D 01 17 00 10 00 01 01 00 00 01 02 00 07");
+    EXPECT(is_issued(a, 1) && wrote(a, "00 01 00 00 00 0D 01 17 00 10 00 01 01 00 00 01 02 00 07"));
+    a = reply(11, "00 01 00 00 00 05 01 17 02 00 17");
+    EXPECT(wrote(a, "00 00 00 00 00 05 01 17 02 00 11") && raw(a, 0, 0));
+    EXPECT(is_hit(ask(5, 11, 7, k), 7, &s));
+    EXPECT(is_issued(request(5, 11, "12 34 00 00 00 0D 01 17 00 16 00 01 01 00 00 01 02 00 07"), 2));
+    EXPECT(reply(11, "00 02 00 00 00 05 01 17 02 00 17").outcome == ZB_ANSWERED);
+    EXPECT(is_issued(ask(5, 11, 7, other), 3));
+    /* a live read that its write part meets does not fill, one that its read part alone meets does */
+    EXPECT(is_issued(request(5, 11, "12 34 00 00 00 0D 01 17 00 16 00 01 01 00 00 01 02 00 07"), 4));
+    s = say(12, (zb_answer){.id = 3}, other, 0x0042);
+    EXPECT(is_hit(ask(5, 12, 7, other), 7, &s));
+    begin_cached(1);
+    a = ask(3, 0, 1, other);
+    EXPECT(is_issued(request(5, 0, "12 34 00 00 00 0D 01 17 01 00 00 01 00 16 00 01 02 00 07"), 1));
+    EXPECT(say(10, a, other, 0x0042).answer.outcome == ZB_ANSWERED && is_issued(ask(5, 10, 7, other), 2));
+}
+
+/* What was asked of 22 and 23 is kept in their words, and no write, "other" or 23 over their registers marks them, as bit 32
+   marks a read that is closed. */
+static void words_of_22_and_23(void)
+{
+    static const uint8_t masked[] = {0x12, 0x34, 0, 0, 0, 8, 5, 22, 0xAB, 0xCD, 0x00, 0xF2, 0x80, 0x25};
+    static const uint8_t both[] = {0x12, 0x34, 0, 0, 0, 15, 5, 23, 0xAB, 0x80, 0, 125, 0xAB, 0xC0, 0, 2, 4, 0, 1, 0, 2};
+    static const uint8_t read[] = {0x12, 0x34, 0, 0, 0, 6, 5, 3, 0xAB, 0xC0, 0, 2};
+    static const uint8_t other[] = {0x12, 0x34, 0, 0, 0, 2, 5, 43};
+    static zb_state device;
+    zb_settings s = settings_of_the_document();
+    uint8_t out[ZB_FRAME_BUFFER];
+    const uint64_t mask_word = (uint64_t)5 << 56 | (uint64_t)22 << 48 | (uint64_t)0xABCD << 32 | 0x00F28025;
+    const uint64_t both_word =
+        ((uint64_t)5 << 56 | (uint64_t)23 << 48) + (((uint64_t)0xAB80 * 128 + 125) * 65536 + 0xABC0) * 128 + 2;
+    const uint64_t read_word = (uint64_t)5 << 56 | (uint64_t)3 << 48 | 0xABC00002;
+    zb_fresh(&device, &s);
+    zb_attach(&device, 3);
+    zb_request(&device, 3, 0, masked, sizeof masked, out, sizeof out);
+    zb_request(&device, 3, 0, both, sizeof both, out, sizeof out);
+    zb_request(&device, 3, 0, read, sizeof read, out, sizeof out);
+    EXPECT(device.asked[0] == mask_word && device.asked[1] == both_word && device.asked[2] == read_word);
+    zb_request(&device, 3, 0, masked, sizeof masked, out, sizeof out);
+    EXPECT(device.asked[2] == read_word);
+    zb_request(&device, 3, 0, both, sizeof both, out, sizeof out);
+    EXPECT(device.asked[2] == (read_word | (uint64_t)1 << 32));
+    zb_request(&device, 3, 0, other, sizeof other, out, sizeof out);
+    EXPECT(device.asked[0] == mask_word && device.asked[1] == both_word);
+    EXPECT(device.asked[3] == mask_word && device.asked[4] == both_word);
+}
+
+/* Demand 2: a value in a tag's range that is written by 06, 16 or 23 and read by 03, 04 or 23 comes back equal */
+
+/* A write of the tag's value by a function; a 23 reads register 28 besides. */
+static size_t put_write(uint8_t *frame, uint8_t function, uint32_t addr, uint32_t registers, uint32_t value)
+{
+    uint8_t *part = frame + (function == 23 ? 12 : 8);
+    memset(frame, 0, 32);
+    frame[6] = 1;
+    frame[7] = function;
+    if (function == 23)
+        frame[9] = 28, frame[11] = 1;
+    put_word(part, addr);
+    put_word(part + 2, function == 6 ? value : registers);
+    part[4] = (uint8_t)(2 * registers);
+    put_word(part + 5, value & 0xFFFF);
+    put_word(part + 7, value >> 16);
+    size_t size = function == 6 ? 12 : (size_t)(part + 5 + 2 * registers - frame);
+    frame[5] = (uint8_t)(size - 6);
+    return size;
+}
+
+/* A read of the tag by a function; a 23 writes register 28 besides. */
+static size_t put_read(uint8_t *frame, uint8_t function, uint32_t addr, uint32_t registers)
+{
+    size_t size = function == 23 ? put_write(frame, 23, 28, 1, 0) : 12;
+    frame[5] = (uint8_t)(size - 6);
+    frame[6] = 1;
+    frame[7] = function;
+    put_word(frame + 8, addr);
+    put_word(frame + 10, registers);
+    return size;
+}
+
+/* What is read of the tag, when the controller says what was sent for the value. */
+static uint32_t value_back(uint8_t writer, uint8_t reader, uint32_t addr, uint32_t registers, uint32_t value)
+{
+    uint8_t frame[MOST_FRAME] = {0};
+    begin_strict();
+    size_t size = put_write(frame, writer, addr, registers, value);
+    zb_answer a = pair_request(3, 0, frame, size, ZB_FRAME_BUFFER);
+    EXPECT(is_issued(a, 0) && raw(a, 0, 0));
+    uint8_t said[16] = {0, 1, 0, 0, 0, (uint8_t)(3 + 2 * registers), 1, reader, (uint8_t)(2 * registers)};
+    memcpy(said + 9, pair_out() + (writer == 6 ? 10 : writer == 16 ? 13 : 17), 2 * registers);
+    a = pair_request(3, 0, frame, put_read(frame, reader, addr, registers), ZB_FRAME_BUFFER);
+    EXPECT(is_issued(a, 1) && raw(a, 0, 0));
+    a = pair_reply(0, said, 9 + 2 * registers, ZB_FRAME_BUFFER, ZB_LIST_BUFFER);
+    EXPECT(a.outcome == ZB_ANSWERED && raw(a, 0, 0));
+    return registers == 2 ? word_of_out(11) << 16 | word_of_out(9) : word_of_out(9);
+}
+
+static void reading_back(void)
+{
+    static const uint8_t writers[] = {6, 16, 23}, readers[] = {3, 4, 23};
+    static const struct { uint32_t addr, registers, value; } rows[] = {
+        {16, 1, 0}, {16, 1, 9}, {16, 1, 10}, {16, 1, 1234}, {16, 1, 9999}, {17, 1, 9999}, {17, 1, 1000}, {22, 1, 0}, {22, 1, 999},
+        {22, 1, 0xFFFF}, {22, 1, 0xFC19}, {23, 1, 0xFFFB}, {23, 1, 10}, {18, 2, 0}, {18, 2, 9999}, {18, 2, 10000},
+        {18, 2, 12345678}, {20, 2, 65535}, {20, 2, 65536}, {20, 2, 99999999}, {25, 2, 90000009}, {65533, 2, 99990000},
+        {65535, 1, 8765},
+    };
+    for (size_t n = 0; n < sizeof rows / sizeof *rows; n++)
+        for (int w = rows[n].registers == 2; w < 3; w++)
+            for (int r = 0; r < 3; r++)
+                EXPECT(value_back(writers[w], readers[r], rows[n].addr, rows[n].registers, rows[n].value) == rows[n].value);
 }
 
 /* The mistakes that document 01 rules out */
@@ -2042,6 +2761,11 @@ int main(void)
         the_64th_key_and_the_next, one_expired_in_the_middle, ties_to_the_lowest, which_place_a_reply_takes,
         strict_of_width_16, strict_of_width_32, strict_with_a_sign, strict_beside_others, what_comes_before_a_strict_tag,
         forbidden_writes_close_and_drop_nothing, strict_tags_are_read, echoes_of_strict_tags, every_strict_word,
+        mask_writes, echoes_of_mask_writes, mask_writes_and_tags, read_and_write, replies_to_read_and_write,
+        lengths_of_read_and_write, quantities_of_read_and_write, ranges_of_read_and_write, parts_that_cut_tags,
+        parts_with_values, strict_by_23, strict_in_the_read_part, what_comes_before_22_and_23, masks_close_what_they_meet,
+        both_close_by_the_write_part, both_close_nothing_by_the_read_part, neither_joins, what_22_and_23_drop,
+        read_and_write_beside_the_cache, words_of_22_and_23, reading_back,
         cursor_and_clock_stay_after_a_lost_link, struck_room_and_successor, left_by_all,
         due_is_not_joined, next_deadline, mismatched_reply_leaves_the_entry, refusals_of_attach_and_detach,
         refusals_of_request_before_the_frame, refusals_of_request_by_the_frame, lowest_refusal_of_request,

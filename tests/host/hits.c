@@ -19,7 +19,7 @@ static uint32_t took[CACHED];    /* for each place the number of the reply that 
 static uint16_t tag_of[65536];   /* for each register the number of the tag that it lies in, from 1 */
 static ledger_write excepted;    /* the last write that got an exception */
 static uint32_t excepted_behind; /* so many replies came before it */
-static bool excepted_strict;     /* it was for a strict tag */
+static bool excepted_by_tag;     /* it was for a strict tag, or to a 22 for any */
 
 void hits_fresh(void)
 {
@@ -40,6 +40,11 @@ void hits_link_lost(void)
 static bool is_read_of_registers(const uint8_t *frame, size_t size)
 {
     return size == 12 && (frame[7] == 3 || frame[7] == 4);
+}
+
+static bool is_write_of_registers(uint8_t function)
+{
+    return function == 6 || function == 16 || function == 22 || function == 23;
 }
 
 static hits_key key_of(const uint8_t *frame)
@@ -288,7 +293,7 @@ static void look_at_last_write(const hits_reply *r)
         return;
     const ledger_write *w = ledger_written(ledger.writes - 1);
     bool is_over = w->first <= last && w->last >= first;
-    bool of_registers = w->function == 6 || w->function == 16, of_coils = w->function == 5 || w->function == 15;
+    bool of_registers = is_write_of_registers(w->function), of_coils = w->function == 5 || w->function == 15;
     if (!of_registers && !of_coils && w->unit != r->key.unit)
         reached(REACHED_KEPT_OTHER);
     if (of_registers && w->unit != r->key.unit && is_over)
@@ -299,6 +304,10 @@ static void look_at_last_write(const hits_reply *r)
         reached(REACHED_KEPT_BEFORE);
     if (of_registers && w->unit == r->key.unit && w->first == last + 1)
         reached(REACHED_KEPT_BEHIND);
+    if (w->function == 22 && w->unit == r->key.unit && (w->last + 1 == first || w->first == last + 1))
+        reached(REACHED_22_KEPT);
+    if (w->function == 23 && w->unit == r->key.unit && w->read_first <= last && w->read_last >= first)
+        reached(REACHED_23_KEPT);
 }
 
 static void count_hit(const hits_reply *r, uint64_t now)
@@ -330,7 +339,9 @@ static void count_hit(const hits_reply *r, uint64_t now)
     if (behind_closed)
         reached(REACHED_HIT_BEHIND_CLOSED);
     if (excepted_behind > (uint32_t)(r - replies) && meets(&excepted, r->key))
-        reached(excepted_strict ? REACHED_STRICT_KEPT_HIT : REACHED_KEPT_EXCEPTION);
+        reached(excepted.function == 22 ? REACHED_22_KEPT_HIT
+                : excepted_by_tag       ? REACHED_STRICT_KEPT_HIT
+                                        : REACHED_KEPT_EXCEPTION);
     look_at_last_write(r);
 }
 
@@ -338,7 +349,9 @@ static void count_hit(const hits_reply *r, uint64_t now)
 static void count_drop(const hits_reply *r, const ledger_write *w)
 {
     uint32_t first = r->key.start, last = first + r->key.quantity - 1u;
-    if (w->function != 6 && w->function != 16)
+    if (w->function == 23)
+        reached(REACHED_23_DROP);
+    if (!is_write_of_registers(w->function))
         reached(REACHED_DROP_OTHER);
     else if (w->first < first && w->last > last)
         reached(REACHED_DROP_AROUND);
@@ -442,15 +455,16 @@ void hits_refused(const uint8_t *frame, size_t size, zb_answer a)
                                                      : REACHED_HIT_REFUSED_3);
 }
 
-void hits_excepted(const uint8_t *frame, size_t size, bool strict)
+void hits_excepted(const uint8_t *frame, size_t size, bool by_tag)
 {
-    if (size < 12 || (frame[7] != 6 && frame[7] != 16))
+    if (size < 12 || !is_write_of_registers(frame[7]))
         return;
-    hits_key key = key_of(frame);
-    excepted.unit = key.unit;
-    excepted.function = key.function;
-    excepted.first = key.start;
-    excepted.last = key.function == 6 || key.quantity == 0 ? key.start : (uint32_t)key.start + key.quantity - 1;
+    const uint8_t *range = frame + (frame[7] == 23 ? 12 : 8); /* that is written */
+    uint32_t first = (uint32_t)range[0] << 8 | range[1], quantity = (uint32_t)range[2] << 8 | range[3];
+    excepted.unit = frame[6];
+    excepted.function = frame[7];
+    excepted.first = first;
+    excepted.last = frame[7] == 6 || frame[7] == 22 || quantity == 0 ? first : first + quantity - 1;
     excepted_behind = count;
-    excepted_strict = strict;
+    excepted_by_tag = by_tag;
 }

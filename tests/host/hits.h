@@ -32,8 +32,8 @@ void hits_answered(const ledger_entry *e, uint64_t now, const uint8_t *frame, zb
    must. */
 void hits_request(uint64_t now, const uint8_t *frame, size_t size, zb_answer a);
 void hits_refused(const uint8_t *frame, size_t size, zb_answer a);
-/* A request that got an exception; `strict`: for a strict tag (#108). */
-void hits_excepted(const uint8_t *frame, size_t size, bool strict);
+/* A request that got an exception; `by_tag`: for a strict tag (#108), or to a 22 for any (#109). */
+void hits_excepted(const uint8_t *frame, size_t size, bool by_tag);
 void hits_link_lost(void);
 /* One of the last replies, the last for 0; NULL where there are not so many. */
 const hits_reply *hits_recent(uint32_t back);

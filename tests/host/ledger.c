@@ -11,6 +11,7 @@
 
 enum group { NEVER, HELD, BY_REPLY, BY_TIMEOUT, BY_LEAVING, BY_LOST_LINK };
 enum { OTHERS_BETWEEN = 65536 - ZB_PLACES };
+enum { SINGLE = 12, MASK = 14 }; /* the bytes of a 06 and of a 22 */
 
 ledger_book ledger;
 static uint8_t *group_of;          /* for each serial its group */
@@ -26,6 +27,11 @@ void ledger_open(uint64_t most_calls)
         printf("no memory for the ledger\n");
         exit(1);
     }
+}
+
+static uint32_t word_at(const uint8_t *bytes)
+{
+    return (uint32_t)bytes[0] << 8 | bytes[1];
 }
 
 static uint64_t held(void)
@@ -134,7 +140,7 @@ static bool is_of_bits(uint8_t function)
 
 static bool is_write(uint8_t function)
 {
-    return function == 5 || function == 6 || function == 15 || function == 16;
+    return function == 5 || function == 6 || function == 15 || function == 16 || function == 22 || function == 23;
 }
 
 bool ledger_meets(const ledger_write *w, uint8_t unit, uint8_t function, uint32_t start, uint32_t quantity)
@@ -164,7 +170,9 @@ static const ledger_write *met_since(const ledger_entry *read)
 typedef struct {
     uint32_t joinable, full, due;
     uint32_t by_write, by_other; /* met since their issue: they cannot be joined */
+    uint32_t by_22, by_23; /* of by_write */
     uint32_t otherwise; /* of 01 for 02, and of 02 for 01: they cannot be joined */
+    uint32_t read_by_23; /* the read part of a 23, which cannot be joined */
     const ledger_entry *smallest, *first_issued, *smallest_met;
 } equals;
 
@@ -173,6 +181,8 @@ static void met_equal(equals *q, const ledger_entry *e, const ledger_write *w)
 {
     q->by_write += is_write(w->function);
     q->by_other += !is_write(w->function);
+    q->by_22 += w->function == 22;
+    q->by_23 += w->function == 23;
     if (!q->smallest_met || e->id < q->smallest_met->id)
         q->smallest_met = e;
     if (is_of_bits(e->function) && is_write(w->function))
@@ -190,6 +200,7 @@ static equals equal_reads(uint64_t now, const uint8_t *frame, size_t size)
             || e->quantity != (frame[10] << 8 | frame[11]))
             continue;
         q.otherwise += frame[7] < 3 && e->function == 3 - frame[7];
+        q.read_by_23 += frame[7] >= 3 && e->function == 23;
         if (e->function != frame[7])
             continue;
         q.due += is_due(e, now);
@@ -214,11 +225,32 @@ static equals equal_reads(uint64_t now, const uint8_t *frame, size_t size)
 static void keep_write(const ledger_entry *e)
 {
     ledger_write *w = &written[ledger.writes++];
+    bool one = e->function == 5 || e->function == 6 || e->function == 22;
     w->issue = e->issue;
     w->unit = e->unit;
     w->function = e->function;
     w->first = e->start;
-    w->last = e->function == 5 || e->function == 6 ? e->start : (uint32_t)e->start + e->quantity - 1;
+    w->last = one ? e->start : (uint32_t)e->start + e->quantity - 1;
+    if (e->function != 23)
+        return;
+    w->read_first = w->first;
+    w->read_last = w->last;
+    w->first = e->write_start;
+    w->last = (uint32_t)e->write_start + e->write_quantity - 1;
+}
+
+/* 22 and 23 never share a request: a live one that asks the same. */
+static void beside_its_like(const ledger_entry *e)
+{
+    for (ledger_entry *other = ledger.live; other < e; other++) {
+        if (other->function != e->function || other->unit != e->unit || other->start != e->start
+            || other->quantity != e->quantity)
+            continue;
+        if (e->function == 22 && memcmp(other->written + 8, e->written + 8, 6) == 0)
+            reached(REACHED_22_TWICE);
+        if (e->function == 23 && other->write_start == e->write_start && other->write_quantity == e->write_quantity)
+            reached(REACHED_23_TWICE);
+    }
 }
 
 /* Demand 3: an id is not issued again until OTHERS_BETWEEN others were, and never while it is live. */
@@ -242,6 +274,18 @@ static void check_issued_id(uint16_t id)
         reached(REACHED_WRAP);
 }
 
+/* What a 06, 22 or 23 keeps besides its first two words. */
+static void keep_bytes(ledger_entry *e, const uint8_t *frame)
+{
+    size_t size = e->function == 6 ? SINGLE : e->function == 22 ? MASK : 0;
+    memcpy(e->written, frame, size);
+    memcpy(e->sent, pair_out(), size);
+    if (e->function == 23) {
+        e->write_start = (uint16_t)word_at(frame + 12);
+        e->write_quantity = (uint16_t)word_at(frame + 14);
+    }
+}
+
 static void issued(uint32_t client, uint64_t now, const uint8_t *frame, size_t size, zb_answer a)
 {
     check_issued_id((uint16_t)a.id);
@@ -258,17 +302,33 @@ static void issued(uint32_t client, uint64_t now, const uint8_t *frame, size_t s
     e->quantity = (uint16_t)(size < 12 ? 0 : frame[10] << 8 | frame[11]);
     e->issued_at = now;
     e->issue = ledger.issues;
-    if (e->function == 6) {
-        memcpy(e->written, frame, sizeof e->written);
-        memcpy(e->sent, pair_out(), sizeof e->sent);
-    }
+    keep_bytes(e, frame);
     if (e->function < 1 || e->function > 4)
         keep_write(e);
+    beside_its_like(e);
     accept(e, client, now, frame);
     if (ledger.lives == ZB_PLACES)
         reached(REACHED_LAST_PLACE);
     if (now + ledger.timeout > INT64_MAX)
         reached(REACHED_NEVER_DUE);
+}
+
+/* The last write was issued behind a read that is joined, and misses it. */
+static void missed(const ledger_entry *read, const ledger_write *w)
+{
+    uint32_t first = read->start, last = first + read->quantity - 1u;
+    bool of_bits = is_of_bits(read->function), is_over = w->first <= last && w->last >= first;
+    reached(REACHED_MISSED_JOINED);
+    if (w->unit != read->unit)
+        return;
+    if (w->function == 22 && !of_bits && (w->last + 1 == first || w->first == last + 1))
+        reached(REACHED_22_MISSED);
+    if (w->function == 23 && !of_bits && w->read_first <= last && w->read_last >= first)
+        reached(REACHED_23_MISSED);
+    if (w->function == 22 && of_bits && is_over)
+        reached(REACHED_22_BITS);
+    if (w->function == 23 && of_bits && is_over)
+        reached(REACHED_23_BITS);
 }
 
 static void joined(uint32_t client, uint64_t now, const uint8_t *frame, zb_answer a, const equals *q)
@@ -283,7 +343,7 @@ static void joined(uint32_t client, uint64_t now, const uint8_t *frame, zb_answe
     if (q->smallest_met && q->smallest_met->id < e->id)
         reached(REACHED_CLOSED_PASSED_OVER);
     if (ledger.writes && written[ledger.writes - 1].issue > e->issue)
-        reached(REACHED_MISSED_JOINED);
+        missed(e, &written[ledger.writes - 1]);
     if (e->parties == 0)
         reached(REACHED_EMPTY_JOINED);
     if (e->parties == PARTIES - 1)
@@ -298,7 +358,7 @@ static void joined(uint32_t client, uint64_t now, const uint8_t *frame, zb_answe
     accept(e, client, now, frame);
 }
 
-/* Other than for a strict tag. */
+/* Other than for a tag. */
 static void got_exception(uint8_t function, zb_answer a)
 {
     if (a.code == 2)
@@ -309,17 +369,22 @@ static void got_exception(uint8_t function, zb_answer a)
         return;
     reached(REACHED_EXCEPTION_04);
     reached(REACHED_BEYOND_THE_PLACES);
+    if (function == 22)
+        reached(REACHED_22_04);
+    if (function == 23)
+        reached(REACHED_23_04);
     if (ledger.lives != ZB_PLACES)
         pair_differs("ledger: exception 04 while a place is free");
 }
 
-/* Coils and discrete inputs pass unchanged behind the id, the bits past the quantity too, and no tag is counted. */
+/* Coils and discrete inputs pass unchanged behind the id, the bits past the quantity too, and no tag is counted; so does
+   a 22. */
 static void passes(const uint8_t *frame, zb_answer a)
 {
     if (a.partial || a.value)
-        pair_differs("ledger: a tag was counted in a frame of bits");
+        pair_differs("ledger: a tag was counted in a frame of bits or masks");
     if (memcmp(pair_out() + 2, frame + 2, a.length - 2) != 0)
-        pair_differs("ledger: a frame of bits was changed");
+        pair_differs("ledger: a frame of bits or masks was changed");
 }
 
 /* #105, by what C prints of a number and of a word, and not by arithmetic on digits. */
@@ -385,12 +450,14 @@ static void signed_in_request(const uint8_t *frame, zb_answer a)
         look_at_signed(signed_went_out, (uint32_t)frame[8] << 8 | frame[9], 1, frame + 10, pair_out() + 10, a);
     if (frame[7] == 16)
         look_at_signed(signed_went_out, (uint32_t)frame[8] << 8 | frame[9], frame[11], frame + 13, pair_out() + 13, a);
+    if (frame[7] == 23)
+        look_at_signed(signed_went_out, word_at(frame + 12), frame[15], frame + 17, pair_out() + 17, a);
 }
 
 static void signed_in_reply(const ledger_entry *e, const uint8_t *frame, zb_answer a)
 {
     int written = (int16_t)e->quantity; /* of a 06 */
-    if (frame[7] == 3 || frame[7] == 4)
+    if (frame[7] == 3 || frame[7] == 4 || frame[7] == 23)
         look_at_signed(signed_came_back, e->start, e->quantity, frame + 9, pair_out() + 9, a);
     if (frame[7] == 6)
         look_at_signed(-999 <= written && written <= 999 ? signed_echo_decoded : signed_echo_passed, e->start, 1,
@@ -400,9 +467,9 @@ static void signed_in_reply(const ledger_entry *e, const uint8_t *frame, zb_answ
 static void raw_counts_of_request(uint8_t function, zb_answer a)
 {
     if (a.partial)
-        reached(function == 6 ? REACHED_PARTIAL_SINGLE : REACHED_PARTIAL_MULTIPLE);
+        reached(function == 6 ? REACHED_PARTIAL_SINGLE : function == 16 ? REACHED_PARTIAL_MULTIPLE : REACHED_PARTIAL_23);
     if (a.value)
-        reached(function == 6 ? REACHED_VALUE_SINGLE : REACHED_VALUE_MULTIPLE);
+        reached(function == 6 ? REACHED_VALUE_SINGLE : function == 16 ? REACHED_VALUE_MULTIPLE : REACHED_VALUE_23);
     if (a.partial && a.value)
         reached(REACHED_BOTH_RAW);
 }
@@ -441,21 +508,109 @@ static void not_joined(const equals *q, zb_answer a)
         reached(REACHED_BEYOND_THE_PARTIES);
     if (a.outcome == ZB_ISSUED && q->otherwise)
         reached(REACHED_OTHER_TABLE);
+    if (q->by_22)
+        reached(REACHED_22_CLOSED);
+    if (q->by_23)
+        reached(REACHED_23_CLOSED);
+    if (a.outcome == ZB_ISSUED && q->read_by_23)
+        reached(REACHED_23_NOT_JOINED);
+}
+
+/* A 22 or 23 that came so far is refused for its length exactly if that is wrong. */
+static void look_at_length(const uint8_t *frame, size_t size, zb_answer a)
+{
+    if ((a.refusal != 0 && a.refusal != ZB_REFUSED_LENGTH) || (frame[7] != 22 && frame[7] != 23))
+        return;
+    bool right = frame[7] == 22 ? size == MASK : size >= 17 && size == 17u + frame[16];
+    if (right != (a.refusal == 0))
+        pair_differs("ledger: refusal 6 to a 22 or 23 exactly if its length is wrong");
+    if (right)
+        return;
+    if (frame[7] == 22 && (size == MASK - 1 || size == MASK + 1))
+        reached(size < MASK ? REACHED_22_SHORT : REACHED_22_LONG);
+    if (frame[7] == 22)
+        return;
+    if (size == 16)
+        reached(REACHED_23_SHORT);
+    if (size < 17)
+        return;
+    if (size + 1 == 17u + frame[16] || size == 18u + frame[16])
+        reached(size < 17u + frame[16] ? REACHED_23_BYTE_LESS : REACHED_23_BYTE_MORE);
+    if (frame[16] == 2 * word_at(frame + 14))
+        reached(REACHED_23_BYTES_BY_QUANTITY);
+    else
+        reached(REACHED_23_BYTES_BY_NEITHER);
+}
+
+/* A 23 with a bad number gets exception 03, and then one with a bad range 02 (strict.c looks); which of them was bad. */
+static void bad_numbers_of_23(const uint8_t *frame)
+{
+    uint32_t reads = word_at(frame + 10), writes = word_at(frame + 14);
+    uint32_t read_end = word_at(frame + 8) + reads, write_end = word_at(frame + 12) + writes;
+    bool bad_read = reads == 0 || reads > 125, bad_write = writes == 0 || writes > 121, bad_bytes = frame[16] != 2 * writes;
+    bool far = read_end > 65536 || write_end > 65536;
+    if (far && !bad_read && !bad_write && !bad_bytes)
+        reached(read_end <= 65536    ? REACHED_23_WRITES_FAR
+                : write_end <= 65536 ? REACHED_23_READS_FAR
+                                     : REACHED_23_BOTH_FAR);
+    if (far && (bad_read || bad_write || bad_bytes))
+        reached(REACHED_23_03_BEFORE_02);
+    if (!bad_write && !bad_bytes && (reads == 0 || reads == 126))
+        reached(reads == 0 ? REACHED_23_READS_0 : REACHED_23_READS_126);
+    if (!bad_read && (writes == 0 || writes == 122))
+        reached(writes == 0 ? REACHED_23_WRITES_0 : REACHED_23_WRITES_122);
+    if (!bad_read && !bad_write && bad_bytes)
+        reached(REACHED_23_BYTES_BY_LENGTH);
+}
+
+/* A 23 that goes out with numbers at an edge. */
+static void edges_of_23(const uint8_t *frame)
+{
+    uint32_t reads = word_at(frame + 10), writes = word_at(frame + 14);
+    uint32_t read_end = word_at(frame + 8) + reads, write_end = word_at(frame + 12) + writes;
+    if (reads == 1 || reads == 125)
+        reached(reads == 1 ? REACHED_23_READS_1 : REACHED_23_READS_125);
+    if (writes == 1 || writes == 121)
+        reached(writes == 1 ? REACHED_23_WRITES_1 : REACHED_23_WRITES_121);
+    if (read_end == 65536)
+        reached(REACHED_23_READS_TOP);
+    if (write_end == 65536)
+        reached(REACHED_23_WRITES_TOP);
+    if (read_end - reads < write_end && write_end - writes < read_end)
+        reached(REACHED_23_OVERLAP);
+}
+
+/* What is issued, as it goes to the controller. */
+static void went_out(const uint8_t *frame, zb_answer a)
+{
+    if (is_of_bits(frame[7]) || frame[7] == 22)
+        passes(frame, a);
+    if (frame[7] == 15 && frame[10] == 7 && frame[11] == 0xB0)
+        reached(REACHED_MOST_COILS);
+    if (frame[7] == 23 && memcmp(pair_out() + 2, frame + 2, 15) != 0)
+        pair_differs("ledger: a 23 was changed before its registers");
+    if (frame[7] == 23)
+        edges_of_23(frame);
+    raw_counts_of_request(frame[7], a);
+    signed_in_request(frame, a);
 }
 
 void ledger_request(uint32_t client, uint64_t now, const uint8_t *frame, size_t size, zb_answer a)
 {
+    look_at_length(frame, size, a);
     if (a.refusal) {
         why_refused(client, now, a);
         hits_refused(frame, size, a);
         return;
     }
     ledger.clock = now;
-    bool strict = strict_request(frame, a);
+    bool by_tag = strict_request(frame, a);
     if (a.outcome == ZB_EXCEPTION) {
-        hits_excepted(frame, size, strict);
-        if (!strict)
+        hits_excepted(frame, size, by_tag);
+        if (!by_tag)
             got_exception(frame[7], a);
+        if (!by_tag && frame[7] == 23)
+            bad_numbers_of_23(frame);
     }
     if (a.outcome == ZB_EXCEPTION && a.code != 4)
         return;
@@ -474,12 +629,7 @@ void ledger_request(uint32_t client, uint64_t now, const uint8_t *frame, size_t 
     not_joined(&q, a);
     if (a.outcome == ZB_EXCEPTION)
         return;
-    if (is_of_bits(frame[7]))
-        passes(frame, a);
-    if (frame[7] == 15 && frame[10] == 7 && frame[11] == 0xB0)
-        reached(REACHED_MOST_COILS);
-    raw_counts_of_request(frame[7], a);
-    signed_in_request(frame, a);
+    went_out(frame, a);
     issued(client, now, frame, size, a);
 }
 
@@ -533,9 +683,9 @@ static void raw_counts_of_reply(uint8_t function, zb_answer a)
     if (function == 6)
         return;
     if (a.partial)
-        reached(REACHED_PARTIAL_READ);
+        reached(function == 23 ? REACHED_PARTIAL_BACK_23 : REACHED_PARTIAL_READ);
     if (a.value)
-        reached(REACHED_VALUE_READ);
+        reached(function == 23 ? REACHED_VALUE_BACK_23 : REACHED_VALUE_READ);
     if (a.partial && a.value)
         reached(REACHED_BOTH_RAW);
 }
@@ -546,12 +696,12 @@ static void echo_comes_back(const ledger_entry *e, const uint8_t *frame, zb_answ
     bool raw = memcmp(e->sent + 10, e->written + 10, 2) == 0 && e->quantity > 9999;
     if (a.partial)
         pair_differs("ledger: an echo counts partial cover");
-    if (memcmp(frame, e->sent, sizeof e->sent) != 0) {
+    if (memcmp(frame, e->sent, SINGLE) != 0) {
         if (a.value)
             reached(REACHED_VALUE_ECHO);
         return;
     }
-    if (a.length != sizeof e->written || memcmp(pair_out() + 2, e->written + 2, sizeof e->written - 2) != 0 || a.value)
+    if (a.length != SINGLE || memcmp(pair_out() + 2, e->written + 2, SINGLE - 2) != 0 || a.value)
         pair_differs("ledger: the echo of what was sent is not what the client wrote");
     if (raw)
         reached(REACHED_RAW_ECHO);
@@ -566,13 +716,62 @@ static bool is_echo_of_another_value(const ledger_entry *e, const uint8_t *frame
         && frame[4] == 0 && frame[5] == 6;
 }
 
+/* How many bits of so many bytes differ. */
+static uint32_t bits_between(const uint8_t *a, const uint8_t *b, size_t size)
+{
+    uint32_t bits = 0;
+    for (size_t k = 0; k < 8 * size; k++)
+        bits += (a[k / 8] ^ b[k / 8]) >> k % 8 & 1;
+    return bits;
+}
+
+/* What comes near to answering a 22 or 23, and does not. */
+static void mismatched_22_or_23(const ledger_entry *e, const uint8_t *frame)
+{
+    uint32_t length = word_at(frame + 4), bytes = frame[8];
+    if (frame[6] != e->unit || frame[7] != e->function)
+        return;
+    if (e->function == 22 && length == MASK - 6) {
+        uint32_t bits = bits_between(frame + 8, e->sent + 8, 6);
+        if (bits == 0)
+            pair_differs("ledger: refusal 8 to the echo of a 22");
+        if (bits == 1)
+            reached(REACHED_22_ECHO_BIT);
+    }
+    if (e->function == 23 && bytes == 2u * e->quantity && length == 3 + bytes)
+        pair_differs("ledger: refusal 8 to what answers a 23");
+    if (e->function == 23 && bytes == 2u * e->write_quantity && length == 3 + bytes)
+        reached(REACHED_23_BY_WRITE_QUANTITY);
+}
+
 static void mismatched(ledger_entry *e, const uint8_t *frame)
 {
     if (!e)
         pair_differs("ledger: refusal 8 to an id that is not live");
     if (is_echo_of_another_value(e, frame))
         reached(REACHED_ECHO_VALUE);
+    mismatched_22_or_23(e, frame);
     e->mismatched = true;
+}
+
+/* A 22 or 23 that is answered: by the same PDU, by so many registers as it reads, or by the controller's exception. */
+static void answered_22_or_23(const ledger_entry *e, const uint8_t *frame, zb_answer a)
+{
+    bool excepted = frame[7] == e->function + 128 && a.length == 9;
+    if (e->function == 22) {
+        bool same = a.length == MASK && memcmp(frame + 6, e->written + 6, MASK - 6) == 0;
+        if (!excepted && !same)
+            pair_differs("ledger: a 22 is answered by another PDU than its own");
+        reached(excepted ? REACHED_22_EXCEPTION : REACHED_22_ECHO);
+    }
+    if (e->function == 23) {
+        bool fits = frame[7] == 23 && frame[8] == 2u * e->quantity && a.length == 9u + 2u * e->quantity;
+        if (!excepted && !fits)
+            pair_differs("ledger: a 23 is answered by other registers than it reads");
+        if (memcmp(pair_out() + 2, frame + 2, 7) != 0)
+            pair_differs("ledger: the reply to a 23 was changed before its registers");
+        reached(excepted ? REACHED_23_EXCEPTION : REACHED_23_ANSWERED);
+    }
 }
 
 void ledger_reply(uint64_t now, const uint8_t *frame, zb_answer a)
@@ -591,13 +790,14 @@ void ledger_reply(uint64_t now, const uint8_t *frame, zb_answer a)
         reached(REACHED_LATE_REPLY);
     if (frame[7] >= 128)
         reached(REACHED_CONTROLLER_EXCEPTION);
-    if (is_of_bits(e->function))
+    if (is_of_bits(e->function) || e->function == 22)
         passes(frame, a);
+    answered_22_or_23(e, frame, a);
     if (frame[7] < 3 && e->quantity == 2000)
         reached(REACHED_MOST_BITS);
     raw_counts_of_reply(frame[7], a);
     signed_in_reply(e, frame, a);
-    strict_reply(e, frame);
+    strict_reply(e, frame, a);
     if (frame[7] == 6)
         echo_comes_back(e, frame, a);
     hits_answered(e, now, frame, a, met_since(e) != NULL);
@@ -642,6 +842,10 @@ void ledger_tick(uint64_t now, zb_answer a)
     if (!e || e->id != a.id)
         pair_differs("ledger: a timeout without its own deadline");
     reached(REACHED_EXCEPTION_0B);
+    if (e->function == 22)
+        reached(REACHED_22_0B);
+    if (e->function == 23)
+        reached(REACHED_23_0B);
     end_entry(e, a, BY_TIMEOUT);
 }
 

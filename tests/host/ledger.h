@@ -15,8 +15,9 @@ typedef struct {
 typedef struct {
     uint16_t id;
     uint8_t unit, function;
-    uint16_t start, quantity; /* bytes 8 to 11 of the request, 0 where it is shorter */
-    uint8_t written[12], sent[12]; /* a 06 as its client wrote it, and as it was sent */
+    uint16_t start, quantity; /* bytes 8 to 11 of the request, 0 where it is shorter: of a 23 its read part */
+    uint16_t write_start, write_quantity; /* bytes 12 to 15 of a 23: its write part */
+    uint8_t written[14], sent[14]; /* a 06 or 22 as its client wrote it, and as it was sent */
     uint64_t issued_at;
     uint32_t issue; /* its number among the issues */
     uint32_t ever;  /* parties that it ever had */
@@ -31,6 +32,7 @@ typedef struct {
     uint32_t issue; /* its number among the issues */
     uint8_t unit, function;
     uint32_t first, last;
+    uint32_t read_first, read_last; /* of a 23: what it read */
 } ledger_write;
 
 /* What calls and outcomes have told since the fresh state. */

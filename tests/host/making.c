@@ -4,6 +4,7 @@
 #include "hits.h"
 #include "model.h"
 #include "pair.h"
+#include "strict.h"
 #include <stdio.h>
 #include <string.h>
 
@@ -469,13 +470,107 @@ static size_t make_multiple(uint8_t *frame, const zb_settings *s)
     return finish_request(frame, 6 + bytes);
 }
 
+/* Both masks; of all ones and none, at times. */
+static void put_masks(uint8_t *frame)
+{
+    static const uint16_t masks[] = {0x0000, 0xFFFF, 0x00F2, 0x0025};
+    for (uint32_t at = 10; at <= 12; at += 2)
+        put_word(frame + at, one_in(2) ? masks[below(4)] : below(65536));
+}
+
+/* Any of the live requests, if it is of this function. */
+static const ledger_entry *some_live(uint8_t function)
+{
+    const ledger_entry *e = ledger.lives ? &ledger.live[below(ledger.lives)] : NULL;
+    return e && e->function == function ? e : NULL;
+}
+
+/* A 22 on a tag, beside one or far from all, or one that is live again; at times a byte too short or too long. */
+static size_t make_mask(uint8_t *frame, const zb_settings *s)
+{
+    const ledger_entry *again = one_in(3) ? some_live(22) : NULL;
+    frame[7] = 22;
+    put_word(frame + 8, some_start(s));
+    put_masks(frame);
+    if (again)
+        memcpy(frame + 8, again->written + 8, 6);
+    frame[14] = (uint8_t)dice();
+    return finish_request(frame, one_in(12) ? 6 + 2 * below(2) : 7);
+}
+
+/* A quantity of a part of a 23; at times 0, 1, the most or one more, or one whose last seven or eight bits are 1. */
+static uint32_t some_quantity(uint32_t most)
+{
+    const uint32_t edges[] = {0, 1, most - 1, most, most, most + 1, most + 2, 129, 257, 65535};
+    return one_in(5) ? edges[below(10)] : one_in(4) ? 1 + below(most) : 1 + below(6);
+}
+
+/* Where a part of a 23 starts; at times it ends with the last register, or one behind it. */
+static uint32_t some_part(const zb_settings *s, uint32_t quantity)
+{
+    return one_in(8) ? (65536 - quantity + below(3) / 2) & 65535 : some_start(s);
+}
+
+static void put_parts(uint8_t *frame, uint32_t read_start, uint32_t reads, uint32_t write_start, uint32_t writes)
+{
+    frame[7] = 23;
+    put_word(frame + 8, read_start);
+    put_word(frame + 10, reads);
+    put_word(frame + 12, write_start);
+    put_word(frame + 14, writes);
+}
+
+/* The parts of a 23, at times over the same registers, or those of one that is live; how many it writes. */
+static uint32_t make_parts(uint8_t *frame, const zb_settings *s)
+{
+    const ledger_entry *again = one_in(6) ? some_live(23) : NULL;
+    uint32_t reads = some_quantity(125), writes = some_quantity(121), read_start = some_part(s, reads);
+    bool overlap = one_in(3) && reads < 126 && writes < 122;
+    put_parts(frame, read_start, reads, overlap ? read_start + below(reads + writes + 1) - writes : some_part(s, writes),
+              writes);
+    if (!again)
+        return writes;
+    put_parts(frame, again->start, again->quantity, again->write_start, again->write_quantity);
+    return again->write_quantity;
+}
+
+/* A 23; at times its byte count is not by the quantity, or it has a byte less or more than that says, or both. */
+static size_t make_read_and_write(uint8_t *frame, const zb_settings *s)
+{
+    uint32_t writes = make_parts(frame, s), bytes = writes <= 121 ? 2 * writes : one_in(2) ? 242 : 2 * (writes % 128 % 122);
+    if (one_in(10))
+        bytes = one_in(2) && bytes > 1 ? bytes - 1 - below(2) : bytes + 1;
+    frame[16] = (uint8_t)bytes;
+    for (uint32_t k = 0; k <= bytes; k += 2)
+        put_word(frame + 17 + k, some_word());
+    uint32_t pdu = one_in(10) ? 10 + bytes + 2 * below(2) - 1 : 10 + bytes;
+    return finish_request(frame, one_in(80) ? 5 + below(6) : pdu);
+}
+
+/* A 16 becomes a 23 that reads this besides. */
+static size_t add_read_part(uint8_t *frame, size_t size, uint32_t start, uint32_t quantity)
+{
+    memmove(frame + 12, frame + 8, size - 8);
+    frame[7] = 23;
+    put_word(frame + 8, start);
+    put_word(frame + 10, quantity);
+    put_word(frame + 4, (uint32_t)size + 4 - 6);
+    return size + 4;
+}
+
+/* A function that is checked in any way: it is not "other". */
+static bool is_checked(uint8_t function)
+{
+    return function <= 6 || function == 15 || function == 16 || function == 22 || function == 23;
+}
+
 static size_t make_other(uint8_t *frame)
 {
     size_t pdu = one_in(4) ? 1 + below(253) : 1 + below(8);
     for (size_t k = 0; k < pdu; k++)
         frame[7 + k] = (uint8_t)dice();
     uint8_t function = (uint8_t)(1 + below(127));
-    frame[7] = function <= 6 || function == 15 || function == 16 ? 43 : function;
+    frame[7] = is_checked(function) ? 43 : one_in(8) ? 24 : function;
     return finish_request(frame, pdu);
 }
 
@@ -494,7 +589,7 @@ size_t make_noise(uint8_t *bytes)
 /* A frame that is nearly legal: one thing is changed, at times with a length field that fits again. */
 static size_t spoil_frame(uint8_t *frame, size_t size)
 {
-    static const uint8_t functions[] = {0, 128, 129, 131, 134, 144, 255, 1, 2, 3, 4, 5, 6, 15, 16, 127};
+    static const uint8_t functions[] = {0, 128, 129, 131, 134, 144, 150, 151, 255, 1, 2, 3, 4, 5, 6, 15, 16, 22, 23, 127};
     switch (below(8)) {
     case 0:
         flip(frame + 2 + below(4));
@@ -506,7 +601,7 @@ static size_t spoil_frame(uint8_t *frame, size_t size)
         frame[size++] = (uint8_t)dice();
         break;
     case 3:
-        frame[7] = functions[below(16)];
+        frame[7] = functions[below(20)];
         break;
     case 4:
         return below((uint32_t)size + 1);
@@ -527,7 +622,7 @@ static size_t spoil_frame(uint8_t *frame, size_t size)
 
 static size_t make_any(uint8_t *frame, const zb_settings *s)
 {
-    switch (below(12)) {
+    switch (below(15)) {
     case 0:
         return make_other(frame);
     case 1:
@@ -543,24 +638,49 @@ static size_t make_any(uint8_t *frame, const zb_settings *s)
         return make_coil(frame, s);
     case 8:
         return make_coils(frame, s);
+    case 9:
+        return make_mask(frame, s);
+    case 10:
+    case 11:
+        return make_read_and_write(frame, s);
     default:
         return make_any_read(frame, s);
     }
 }
 
+/* The nth read of a pool. */
+static size_t make_pool_read(uint8_t *frame, uint32_t n)
+{
+    size_t size = make_read(frame, 1 + n % 4, 1024 + n / 4, 1 + n / 4 % 3);
+    frame[6] = 1;
+    return size;
+}
+
+/* A write of registers or coils from somewhere about a pool on; of registers at times with a read of the pool besides. */
+static size_t make_pool_write(uint8_t *frame, uint32_t function, uint32_t pool)
+{
+    uint32_t first = 1020 + below(pool / 4 + 10), read = below(pool) / 4;
+    frame[7] = (uint8_t)function;
+    put_word(frame + 8, first);
+    if (function == 22) {
+        put_word(frame + 10, one_in(2) ? 0x00F2 : 0xFFFF);
+        put_word(frame + 12, 0x0025);
+        return finish_request(frame, 7);
+    }
+    put_word(frame + 10, function < 15 ? 0 : 1 + below(5));
+    if (function < 15)
+        return finish_request(frame, 5);
+    frame[12] = function == 15 ? 1 : (uint8_t)(2 * frame[11]);
+    memset(frame + 13, (int)below(10), frame[12]);
+    size_t size = finish_request(frame, 6u + frame[12]);
+    return function == 23 ? add_read_part(frame, size, 1024 + read, 1 + read % 3) : size;
+}
+
 /* A write or an "other" about the reads of a pool: before them, behind them, inside or around, in their unit or another. */
 static size_t make_about_pool(uint8_t *frame, uint32_t pool)
 {
-    static const uint8_t functions[] = {5, 6, 15, 16};
-    size_t size = make_other(frame);
-    if (!one_in(6)) {
-        frame[7] = functions[below(4)];
-        put_word(frame + 8, 1020 + below(pool / 4 + 10));
-        put_word(frame + 10, frame[7] < 15 ? 0 : 1 + below(5));
-        frame[12] = frame[7] == 15 ? 1 : (uint8_t)(2 * frame[11]);
-        memset(frame + 13, (int)below(10), frame[12]);
-        size = finish_request(frame, frame[7] < 15 ? 5 : 6u + frame[12]);
-    }
+    static const uint8_t functions[] = {5, 6, 15, 16, 22, 22, 23, 23};
+    size_t size = one_in(8) ? make_other(frame) : make_pool_write(frame, functions[below(8)], pool);
     frame[6] = one_in(8) ? 2 : 1;
     return size;
 }
@@ -571,9 +691,7 @@ size_t make_request(uint8_t *frame, const zb_settings *s, uint32_t pool, uint32_
     if (pool && one_in(2 * wrong)) {
         size = make_about_pool(frame, pool);
     } else if (pool && !one_in(wrong)) {
-        uint32_t k = below(pool);
-        size = make_read(frame, 1 + k % 4, 1024 + k / 4, 1 + k / 4 % 3);
-        frame[6] = 1;
+        size = make_pool_read(frame, below(pool));
     } else {
         size = make_any(frame, s);
     }
@@ -592,17 +710,37 @@ static size_t make_tags_read(uint8_t *frame, const zb_settings *s)
     return make_read(frame, 3 + below(2), start, quantity);
 }
 
+/* A 22 on a register of a read or on the next one. */
+static size_t make_mask_about(uint8_t *frame, hits_key key)
+{
+    uint32_t before = key.start - 1u, behind = key.start + (uint32_t)key.quantity;
+    frame[7] = 22;
+    put_word(frame + 8, one_in(3) ? key.start + below(key.quantity) : one_in(2) ? before : behind);
+    put_masks(frame);
+    return finish_request(frame, 7);
+}
+
+/* A 16 about the registers of a read becomes a 23: it reads them, and at times writes nothing near them. */
+static size_t read_about(uint8_t *frame, size_t size, hits_key key)
+{
+    if (one_in(2))
+        put_word(frame + 8, 30000);
+    return add_read_part(frame, size, key.start, one_in(3) ? 1 : key.quantity);
+}
+
 /* A write about the registers of a read: before them, behind them, inside or around, or over none but the one next to
    them; or the same of coils, or an "other". At times a write of nothing, or with a byte count that does not fit. */
 static size_t make_about(uint8_t *frame, hits_key key)
 {
-    static const uint8_t functions[] = {5, 6, 6, 15, 16, 16, 16, 16};
-    uint32_t function = functions[below(8)], quantity = function < 15 ? 1 : 1 + below(key.quantity + 3u) % 100;
+    static const uint8_t functions[] = {5, 6, 6, 15, 16, 16, 16, 16, 22, 22, 23, 23};
+    uint32_t function = functions[below(12)], quantity = function < 15 ? 1 : 1 + below(key.quantity + 3u) % 100;
     uint32_t first = key.start + below(key.quantity + quantity + 1u) - quantity;
     if (one_in(6))
         first = one_in(2) ? key.start - quantity : key.start + (uint32_t)key.quantity;
     if (one_in(20))
         return make_other(frame);
+    if (function == 22)
+        return make_mask_about(frame, key);
     frame[7] = (uint8_t)function;
     put_word(frame + 8, first);
     put_word(frame + 10, function < 15 ? 0 : one_in(16) ? 0 : quantity);
@@ -611,7 +749,8 @@ static size_t make_about(uint8_t *frame, hits_key key)
     frame[12] = (uint8_t)(function == 15 ? bytes_for_bits(quantity) : 2 * quantity);
     frame[12] = (uint8_t)(frame[12] + one_in(16));
     memset(frame + 13, (int)below(10), frame[12]);
-    return finish_request(frame, 6u + frame[12]);
+    size_t size = finish_request(frame, 6u + frame[12]);
+    return function == 23 ? read_about(frame, size, key) : size;
 }
 
 /* A read again, at times by the other function or of another unit. */
@@ -702,10 +841,19 @@ static void put_value(uint8_t *words, uint32_t start, uint32_t quantity, const z
     }
 }
 
+/* A 22 on a register of the tag, on the one before it or on the one behind it. */
+static size_t make_tag_mask(uint8_t *frame, const zb_settings *s, uint32_t tag)
+{
+    frame[7] = 22;
+    put_word(frame + 8, s->addr[tag] + below(s->width[tag] / 16u + 2) - 1);
+    put_masks(frame);
+    return finish_request(frame, 7);
+}
+
 /* A 16 of neighbouring tags, at times of as many as it has room for, or a register too early or too late at an end. */
 static size_t make_tags_write(uint8_t *frame, const zb_settings *s, uint32_t first)
 {
-    uint32_t most = one_in(10) ? 122 : 1 + below(6), last = first, edges = one_in(2) ? 0 : 1 + below(3);
+    uint32_t most = one_in(10) ? 120 : 1 + below(6), last = first, edges = one_in(2) ? 0 : 1 + below(3);
     while (last + 1 < s->tags && s->addr[last + 1] + s->width[last + 1] / 16u - s->addr[first] <= most)
         last++;
     uint32_t start = s->addr[first] + (one_in(6) ? below(3) - 1 : 0);
@@ -722,23 +870,48 @@ static size_t make_tags_write(uint8_t *frame, const zb_settings *s, uint32_t fir
     return finish_request(frame, 6 + 2 * quantity);
 }
 
+/* One of the first tags, which are of each kind, or any. */
+static uint32_t some_tag(const zb_settings *s)
+{
+    return below(one_in(2) && s->tags > 10 ? 10 : s->tags);
+}
+
 size_t make_strict_request(uint8_t *frame, const zb_settings *s, uint32_t wrong)
 {
-    uint32_t tag = below(one_in(2) && s->tags > 10 ? 10 : s->tags);
-    size_t size = one_in(3) ? make_tag_single(frame, s, tag) : make_tags_write(frame, s, tag);
+    uint32_t tag = some_tag(s), reads = one_in(8) ? 1 + below(125) : 1 + below(6);
+    size_t size = one_in(8)   ? make_tag_mask(frame, s, tag)
+                  : one_in(3) ? make_tag_single(frame, s, tag)
+                              : make_tags_write(frame, s, tag);
+    if (frame[7] == 16 && one_in(2)) /* a 23 that reads these tags too, or others */
+        size = add_read_part(frame, size, s->addr[one_in(2) ? tag : some_tag(s)] + below(3) - 1u, reads);
     frame[6] = one_in(8) ? 2 : 1;
     return one_in(wrong) ? spoil_frame(frame, size) : size;
 }
 
-/* The reply that MAP prescribes, with words of any kind. */
+/* So many registers from start on, with words of any kind, or with what was sent to their tags last. */
+static size_t make_registers(uint8_t *frame, const ledger_entry *e, uint32_t quantity)
+{
+    bool again = one_in(3);
+    frame[7] = e->function;
+    frame[8] = (uint8_t)(2 * quantity);
+    for (uint32_t k = 0; k < quantity; k++) {
+        uint32_t word;
+        if (!again || !strict_sent(e->start + k, &word))
+            word = some_word();
+        put_word(frame + 9 + 2 * k, word);
+    }
+    return finish(frame, e->id, e->unit, 2 + 2 * quantity);
+}
+
+/* The reply that MAP prescribes. */
 static size_t make_right_reply(uint8_t *frame, const ledger_entry *e)
 {
     frame[7] = e->function;
-    if (e->function == 3 || e->function == 4) {
-        frame[8] = (uint8_t)(2 * e->quantity);
-        for (uint32_t k = 0; k < e->quantity; k++)
-            put_word(frame + 9 + 2 * k, some_word());
-        return finish(frame, e->id, e->unit, 2 + 2 * e->quantity);
+    if (e->function == 3 || e->function == 4 || e->function == 23)
+        return make_registers(frame, e, e->quantity);
+    if (e->function == 22) {
+        memcpy(frame, e->sent, sizeof e->sent);
+        return finish(frame, e->id, e->unit, 7);
     }
     if (e->function == 1 || e->function == 2) {
         uint32_t bytes = bytes_for_bits(e->quantity);
@@ -751,7 +924,7 @@ static size_t make_right_reply(uint8_t *frame, const ledger_entry *e)
         put_word(frame + 8, e->start);
         put_word(frame + 10, e->function != 6 || one_in(4) ? e->quantity : some_word());
         if (e->function == 6 && one_in(2))
-            memcpy(frame, e->sent, sizeof e->sent);
+            memcpy(frame, e->sent, 12);
         return finish(frame, e->id, e->unit, 5);
     }
     size_t size = make_other(frame);
@@ -762,7 +935,9 @@ static size_t make_right_reply(uint8_t *frame, const ledger_entry *e)
 /* One thing of a right reply is changed that its entry must look at. */
 static size_t mismatch(uint8_t *frame, size_t size, const ledger_entry *e)
 {
-    switch (below(6)) {
+    if (e->function == 23 && one_in(3))
+        return make_registers(frame, e, e->write_quantity);
+    switch (e->function == 22 && one_in(2) ? 2 : below(6)) {
     case 0:
         frame[6]++;
         return size;
@@ -773,7 +948,7 @@ static size_t mismatch(uint8_t *frame, size_t size, const ledger_entry *e)
         frame[7] = one_in(2) ? (uint8_t)dice() : (uint8_t)(e->function ^ 7);
         return size;
     case 2:
-        flip(frame + 8 + below(4));
+        flip(frame + 8 + below(e->function == 22 ? 6 : 4));
         return size;
     case 3:
         return finish(frame, e->id, e->unit, size - 7 > 2 ? size - 8 : size - 6);

@@ -19,7 +19,8 @@ size_t make_request(uint8_t *frame, const zb_settings *s, uint32_t pool, uint32_
 /* A request about what is cached: a read of neighbouring tags, the same read again, or, one in `writes`, what drops it or
    nearly does. */
 size_t make_cached_request(uint8_t *frame, const zb_settings *s, uint32_t writes, uint32_t wrong);
-/* A write of tags, strict ones among them, with values in their ranges or at the edges of these; at times it cuts a tag. */
+/* A write of tags, strict ones among them, with values in their ranges or at the edges of these; at times it cuts a tag. At
+   times a 22 on one or beside one, or a 23 that reads tags besides. */
 size_t make_strict_request(uint8_t *frame, const zb_settings *s, uint32_t wrong);
 /* What the controller could say to the entry, or nearly. */
 size_t make_reply(uint8_t *frame, const ledger_entry *e, uint32_t wrong);

@@ -1,5 +1,5 @@
 /* An ordinary proxy core in C, written from document 01 alone and section by section in its order, with requests #101,
-   #102, #105, #106, #107 and #108 of document 02. */
+   #102 and #105 to #109 of document 02. */
 #include "model.h"
 #include <stdio.h>
 #include <stdlib.h>
@@ -7,7 +7,8 @@
 
 enum { HEADER = 7 };
 enum { READ_COILS = 1, READ_DISCRETE = 2, READ_HOLDING = 3, READ_INPUT = 4 };
-enum { WRITE_COIL = 5, WRITE_SINGLE = 6, WRITE_COILS = 15, WRITE_MULTIPLE = 16, EXCEPTION = 128 };
+enum { WRITE_COIL = 5, WRITE_SINGLE = 6, WRITE_COILS = 15, WRITE_MULTIPLE = 16 };
+enum { MASK_WRITE = 22, READ_AND_WRITE = 23, EXCEPTION = 128 };
 
 static const uint64_t LAST_TIME = ((uint64_t)1 << 63) - 1;
 
@@ -225,7 +226,29 @@ static bool is_wrong_pdu_length(const uint8_t *pdu, size_t length)
         return length != 5;
     if (is_multiple_write(pdu[0]))
         return length < 6 || length != 6u + pdu[5];
+    if (pdu[0] == MASK_WRITE)
+        return length != 7;
+    if (pdu[0] == READ_AND_WRITE)
+        return length < 10 || length != 10u + pdu[9];
     return false;
+}
+
+/* #109: what 22 and 23 ask; where they write is their start and quantity, as of other writes. */
+static void ask_by_22_or_23(model_entry *e, const uint8_t *pdu)
+{
+    if (e->function == MASK_WRITE) {
+        e->asked = ASKED_MASK_WRITE;
+        e->start = word_at(pdu + 1);
+        e->quantity = 1;
+        memcpy(e->pdu, pdu, sizeof e->pdu);
+    }
+    if (e->function == READ_AND_WRITE) {
+        e->asked = ASKED_READ_AND_WRITE;
+        e->read_start = word_at(pdu + 1);
+        e->read_quantity = word_at(pdu + 3);
+        e->start = word_at(pdu + 5);
+        e->quantity = word_at(pdu + 7);
+    }
 }
 
 /* What was asked, as an entry that is not live yet. */
@@ -248,6 +271,7 @@ static model_entry asked_by(const uint8_t *frame)
         e.quantity = e.asked == ASKED_SINGLE_WRITE ? 1 : word_at(pdu + 3);
         e.value = e.asked == ASKED_SINGLE_WRITE ? word_at(pdu + 3) : 0;
     }
+    ask_by_22_or_23(&e, pdu);
     return e;
 }
 
@@ -269,12 +293,26 @@ static uint32_t most_of(const model_entry *asked)
     return asked->bits ? 1968 : 123;
 }
 
+/* #109: 03 for a bad number of either part of a 23, then 02 for either range. */
+static uint8_t exception_for_23(const model_entry *asked, const uint8_t *pdu)
+{
+    if (asked->read_quantity < 1 || asked->read_quantity > 125)
+        return 3;
+    if (asked->quantity < 1 || asked->quantity > 121 || pdu[9] != 2 * asked->quantity)
+        return 3;
+    if (asked->read_start + asked->read_quantity > 65536)
+        return 2;
+    return asked->start + asked->quantity > 65536 ? 2 : 0;
+}
+
 /* Document 01's exception 03 or 02, or 0 where there is none. */
 static uint8_t exception_for(const model_entry *asked, const uint8_t *pdu)
 {
     if (asked->asked == ASKED_SINGLE_WRITE)
         return asked->bits && asked->value != 0x0000 && asked->value != 0xFF00 ? 3 : 0;
-    if (asked->asked == ASKED_OTHER)
+    if (asked->asked == ASKED_READ_AND_WRITE)
+        return exception_for_23(asked, pdu);
+    if (asked->asked == ASKED_MASK_WRITE || asked->asked == ASKED_OTHER)
         return 0;
     if (asked->quantity < 1 || asked->quantity > most_of(asked))
         return 3;
@@ -311,7 +349,8 @@ static bool is_forbidden(const zb_settings *settings, uint32_t start, uint32_t q
     return false;
 }
 
-/* #108: exception 03 for a strict tag comes behind the others, to 06 and 16 alone. */
+/* #108: exception 03 for a strict tag comes behind the others, to 06, 16 and the write part of 23; #109: to 22 for any
+   tag. */
 static uint8_t exception_by_tags(const zb_settings *settings, const model_entry *asked, const uint8_t *pdu)
 {
     bool forbidden = false;
@@ -319,6 +358,10 @@ static uint8_t exception_by_tags(const zb_settings *settings, const model_entry 
         forbidden = is_forbidden(settings, asked->start, 1, pdu + 3);
     if (asked->function == WRITE_MULTIPLE)
         forbidden = is_forbidden(settings, asked->start, asked->quantity, pdu + 6);
+    if (asked->function == READ_AND_WRITE)
+        forbidden = is_forbidden(settings, asked->start, asked->quantity, pdu + 10);
+    if (asked->function == MASK_WRITE)
+        forbidden = is_tagged(settings, asked->start);
     return forbidden ? 3 : 0;
 }
 
@@ -384,6 +427,8 @@ static zb_answer issue(model_state *st, model_entry *e, uint64_t now, const uint
     }
     if (!e->bits && e->asked == ASKED_MULTIPLE_WRITE)
         rewrite(&st->settings, tag_to_bcd, e->start, e->quantity, out + HEADER + 6, &a);
+    if (e->asked == ASKED_READ_AND_WRITE)
+        rewrite(&st->settings, tag_to_bcd, e->start, e->quantity, out + HEADER + 10, &a);
     return a;
 }
 
@@ -531,6 +576,10 @@ static bool does_answer(const model_entry *e, const uint8_t *frame, size_t size)
         return length == 5 && word_at(pdu + 1) == e->start && (!e->bits || word_at(pdu + 3) == e->value);
     case ASKED_MULTIPLE_WRITE:
         return length == 5 && word_at(pdu + 1) == e->start && word_at(pdu + 3) == e->quantity;
+    case ASKED_MASK_WRITE:
+        return length == 7 && memcmp(pdu, e->pdu, 7) == 0;
+    case ASKED_READ_AND_WRITE:
+        return length == 2 + 2 * e->read_quantity && pdu[1] == 2 * e->read_quantity;
     default:
         return true;
     }
@@ -630,6 +679,8 @@ zb_answer model_reply(model_state *st, uint64_t now,
     }
     if (has_registers && e->asked == ASKED_SINGLE_WRITE && e->reencoded)
         rewrite(&st->settings, tag_to_binary, e->start, 1, out + HEADER + 3, &a);
+    if (has_registers && e->asked == ASKED_READ_AND_WRITE)
+        rewrite(&st->settings, tag_to_binary, e->read_start, e->read_quantity, out + HEADER + 2, &a);
     end_entry(e, list, &a);
     return a;
 }

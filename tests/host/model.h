@@ -15,7 +15,9 @@ typedef struct {
     uint16_t id; /* the client's own transaction id */
 } model_party;
 
-enum model_asked { ASKED_READ, ASKED_SINGLE_WRITE, ASKED_MULTIPLE_WRITE, ASKED_OTHER };
+enum model_asked {
+    ASKED_READ, ASKED_SINGLE_WRITE, ASKED_MULTIPLE_WRITE, ASKED_MASK_WRITE, ASKED_READ_AND_WRITE, ASKED_OTHER
+};
 
 typedef struct {
     bool live;
@@ -24,9 +26,11 @@ typedef struct {
     uint8_t function;
     enum model_asked asked;
     bool bits;         /* of coils or discrete inputs */
-    uint32_t start;    /* a single write: its address; other: 0 */
-    uint32_t quantity; /* a single write: 1; other: 0 */
+    uint32_t start;    /* a single write, 22: its address; 23: of its write part; other: 0 */
+    uint32_t quantity; /* a single write, 22: 1; 23: of its write part; other: 0 */
     uint32_t value;    /* of a single write */
+    uint32_t read_start, read_quantity; /* 23: of its read part */
+    uint8_t pdu[7];    /* 22: the request's, which is its reply's */
     bool reencoded;    /* a 06 whose value became digits at its issue */
     bool closed;       /* a read that nothing joins any more (#102) */
     uint64_t deadline;

@@ -171,6 +171,82 @@ extern const char *const call_names[CALLS];
     X(STRICT_READ_RAW, "a strict tag comes back raw for its value") \
     X(STRICT_ECHO, "an echo 06 of a strict tag is decoded") \
     X(STRICT_ECHO_RAW, "an echo 06 of a strict tag comes back raw") \
+    X(22_SHORT, "22 of a byte less is refused with 6") \
+    X(22_LONG, "22 of a byte more is refused with 6") \
+    X(22_NARROW, "22 on a tag of width 16 gets exception 03") \
+    X(22_SIGNED, "on a signed one") \
+    X(22_LOW, "on the first register of one of width 32") \
+    X(22_HIGH, "on the second register of one") \
+    X(22_STRICT, "on a strict one") \
+    X(22_LENIENT, "on a lenient one") \
+    X(22_WHEN_FULL, "on one while every place is taken") \
+    X(22_04, "22 beside the tags gets exception 04") \
+    X(22_BEFORE, "22 goes out to the register before a width-32 tag") \
+    X(22_BEHIND, "22 goes out to the register behind one") \
+    X(22_BETWEEN, "22 goes out to the register between two tags") \
+    X(22_TWICE, "22 is issued beside an equal one") \
+    X(22_ECHO, "22 is answered by its own PDU") \
+    X(22_ECHO_BIT, "an echo 22 with another bit is refused") \
+    X(22_EXCEPTION, "22 is answered by an exception") \
+    X(22_0B, "22 times out") \
+    X(22_CLOSED, "a read is closed by a 22") \
+    X(22_MISSED, "a read is joined behind a 22 beside it") \
+    X(22_BITS, "01 or 02 is joined behind a 22 over its addresses") \
+    X(22_KEPT_JOIN, "a read is joined, a 22 on it was forbidden") \
+    X(22_KEPT, "a hit behind a 22 beside it") \
+    X(22_KEPT_HIT, "a hit, and a 22 on it was forbidden") \
+    X(23_SHORT, "23 of 9 bytes is refused with 6") \
+    X(23_BYTE_LESS, "23 with a byte less than its byte count says") \
+    X(23_BYTE_MORE, "23 with a byte more") \
+    X(23_BYTES_BY_QUANTITY, "23 refused with 6, its byte count by quantity") \
+    X(23_BYTES_BY_NEITHER, "23 refused with 6, by neither length nor quantity") \
+    X(23_BYTES_BY_LENGTH, "23 gets 03, its byte count by length alone") \
+    X(23_READS_0, "23 that reads 0 gets exception 03") \
+    X(23_READS_126, "23 that reads 126 gets exception 03") \
+    X(23_WRITES_0, "23 that writes 0 gets exception 03") \
+    X(23_WRITES_122, "23 that writes 122 gets exception 03") \
+    X(23_03_BEFORE_02, "23 with a bad number and a bad range gets 03") \
+    X(23_READS_FAR, "23 gets exception 02 for its read part") \
+    X(23_WRITES_FAR, "23 gets exception 02 for its write part") \
+    X(23_BOTH_FAR, "23 gets exception 02 for both") \
+    X(23_READS_1, "23 that reads 1 goes out") \
+    X(23_READS_125, "23 that reads 125 goes out") \
+    X(23_WRITES_1, "23 that writes 1 goes out") \
+    X(23_WRITES_121, "23 that writes 121 goes out") \
+    X(23_READS_TOP, "23 that reads up to 65,535 goes out") \
+    X(23_WRITES_TOP, "23 that writes up to 65,535 goes out") \
+    X(23_OVERLAP, "23 that reads what it writes goes out") \
+    X(23_CUT_BY_READ, "23 whose read part alone cuts a tag goes out") \
+    X(23_CUT_BY_WRITE, "23 whose write part alone cuts a tag goes out") \
+    X(23_CUT_BY_BOTH, "23 whose parts both cut a tag goes out") \
+    X(23_STRICT, "23 that writes digits to a strict tag goes out") \
+    X(23_STRICT_CUT, "23 whose write part cuts a strict tag gets 03") \
+    X(23_STRICT_VALUE, "23 that writes no digits to a strict tag gets 03") \
+    X(23_STRICT_READ, "23 with a strict tag in its read part alone") \
+    X(23_04, "23 gets exception 04") \
+    X(23_TWICE, "23 is issued beside an equal one") \
+    X(23_NOT_JOINED, "a read is issued beside a 23 that reads the same") \
+    X(23_ANSWERED, "23 is answered") \
+    X(23_BY_WRITE_QUANTITY, "a reply 23 by the write quantity is refused") \
+    X(23_EXCEPTION, "23 is answered by an exception") \
+    X(23_0B, "23 times out") \
+    X(23_CLOSED, "a read is closed by a 23") \
+    X(23_MISSED, "a read is joined behind a 23 that only reads of it") \
+    X(23_BITS, "01 or 02 is joined behind a 23 over its addresses") \
+    X(23_DROP, "a miss behind a 23 that writes of it") \
+    X(23_KEPT, "a hit behind a 23 that only reads of it") \
+    X(PARTIAL_23, "partial raw in request 23") \
+    X(VALUE_23, "value raw in request 23") \
+    X(PARTIAL_BACK_23, "partial raw in reply 23") \
+    X(VALUE_BACK_23, "value raw in reply 23") \
+    X(06_BACK, "a value written by 06 is read back by 03 or 04") \
+    X(16_BACK, "by 16") \
+    X(23_BACK, "by 23") \
+    X(06_BACK_BY_23, "a value written by 06 is read back by 23") \
+    X(16_BACK_BY_23, "by 16, and read by 23") \
+    X(23_BACK_BY_23, "by 23, and read by 23") \
+    X(WIDE_BACK, "the same of a tag of width 32") \
+    X(SIGNED_BACK, "the same of a signed tag") \
     X(TEXT_256, "a settings text of 256 tags is read") \
     X(TEXT_WRONG_DEEP, "a settings text wrong behind line 12") \
     X(TEXT_OLDER, "a settings text of version 1 with tags is read") \

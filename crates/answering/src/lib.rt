@@ -96,26 +96,17 @@ fn life_given(
     if excepted | checking::words::is_closed(word) {
         return 0;
     }
-    match checking::words::asked_in(word) {
-        Asked::Read {
-            table,
-            start,
-            quantity,
-        } => match table {
-            Table::Bits => 0,
-            Table::Registers => caching::lives::life_of(tag_words, tag_count, start, quantity),
-        },
-        Asked::SingleWrite {
-            table: _,
-            address: _,
-            value: _,
-        } => 0,
-        Asked::MultipleWrite {
-            table: _,
-            start: _,
-            quantity: _,
-        } => 0,
-        Asked::Other => 0,
+    let Asked::Read {
+        table,
+        start,
+        quantity,
+    } = checking::words::asked_in(word)
+    else {
+        return 0;
+    };
+    match table {
+        Table::Bits => 0,
+        Table::Registers => caching::lives::life_of(tag_words, tag_count, start, quantity),
     }
 }
 

@@ -20,7 +20,7 @@ use Rattle.settings.specs.TagWords.{lastOf}
 use Rattle.pdu.specs.declared.Table.{Table}
 use Rattle.pdu.specs.declared.Table.the-variants.{Bits, Registers}
 use Rattle.pdu.specs.declared.Asked.{Asked}
-use Rattle.pdu.specs.declared.Asked.the-variants.{Read, SingleWrite, MultipleWrite, Other}
+use Rattle.pdu.specs.declared.Asked.the-variants.{Read, SingleWrite, MultipleWrite, MaskWrite, ReadWrite, Other}
 use Rattle.cache.specs.Life.{ttlOf, isFast, isCovered, cacheableBy, smallest, lifeBy}
 use Rattle.cache.specs.Plain.{Fast, Cacheable, Life}
 
@@ -31,6 +31,8 @@ cacheable-reads tags (Read Bits s q) t = absurd (false≢true t)
 cacheable-reads tags (Read Registers s q) t = (s, q, refl)
 cacheable-reads tags (SingleWrite r a v) t = absurd (false≢true t)
 cacheable-reads tags (MultipleWrite r s q) t = absurd (false≢true t)
+cacheable-reads tags (MaskWrite a x y) t = absurd (false≢true t)
+cacheable-reads tags (ReadWrite s q u p) t = absurd (false≢true t)
 cacheable-reads tags Other t = absurd (false≢true t)
 
 holds-lt : (a b : ℕ) → (ltb a b ≡ true) ↔ (a < b)

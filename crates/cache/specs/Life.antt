@@ -12,7 +12,7 @@ use Rattle.pdu.specs.Replies.{What}
 use Rattle.pdu.specs.declared.Table.{Table}
 use Rattle.pdu.specs.declared.Table.the-variants.{Bits, Registers}
 use Rattle.pdu.specs.declared.Asked.{Asked}
-use Rattle.pdu.specs.declared.Asked.the-variants.{Read, SingleWrite, MultipleWrite, Other}
+use Rattle.pdu.specs.declared.Asked.the-variants.{Read, SingleWrite, MultipleWrite, MaskWrite, ReadWrite, Other}
 
 -- a tag's time to live
 abbrev pub ttlOf : Tag → ℕ
@@ -33,6 +33,8 @@ cacheableBy tags (Read Bits s q) = false
 cacheableBy tags (Read Registers s q) = ltb 0 q && eqb (count (λ k. isCovered s q tags (s + k)) q) q
 cacheableBy tags (SingleWrite t a v) = false
 cacheableBy tags (MultipleWrite t s q) = false
+cacheableBy tags (MaskWrite a x y) = false
+cacheableBy tags (ReadWrite s q u p) = false
 cacheableBy tags Other = false
 
 abbrev pub cacheable : List Tag → What → Bool
@@ -48,6 +50,8 @@ unfoldable pub lifeBy : List Tag → Asked → ℕ
 lifeBy tags (Read t s q) = smallest (map ttlOf (filter (isFast s q) tags))
 lifeBy tags (SingleWrite t a v) = 0
 lifeBy tags (MultipleWrite t s q) = 0
+lifeBy tags (MaskWrite a x y) = 0
+lifeBy tags (ReadWrite s q u p) = 0
 lifeBy tags Other = 0
 
 abbrev pub lifeOf : List Tag → What → ℕ

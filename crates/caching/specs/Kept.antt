@@ -17,7 +17,7 @@ use Rattle.pdu.specs.Replies.{What, excepts, answering}
 use Rattle.pdu.specs.Spoiling.{spoils}
 use Rattle.pdu.specs.Words.{wordOf, whatOf, Proper}
 use Rattle.pdu.specs.declared.Asked.{Asked}
-use Rattle.pdu.specs.declared.Asked.the-variants.{Read, SingleWrite, MultipleWrite, Other}
+use Rattle.pdu.specs.declared.Asked.the-variants.{Read, SingleWrite, MultipleWrite, MaskWrite, ReadWrite, Other}
 use Rattle.cache.specs.Cache.{Cached, Cache, droppedBy}
 use Rattle.cache.specs.Plain.{Sorted}
 
@@ -43,6 +43,8 @@ abbrev pub bytesOf : Asked → ℕ
 bytesOf (Read t s q) = bytesFor t q
 bytesOf (SingleWrite t a v) = 0
 bytesOf (MultipleWrite t s q) = 0
+bytesOf (MaskWrite a x y) = 0
+bytesOf (ReadWrite s q u p) = 0
 bytesOf Other = 0
 
 -- `shown` is 256 bytes a place: those of the registers as they were handed out come first

@@ -17,6 +17,13 @@ use pdu::Table;
 // Where the byte count stands in a request 15 or 16.
 const BYTE_COUNT_AT: usize = 12;
 
+// Where the start, the quantity and the byte count of what is written stand in a request 23.
+const WRITE_START_AT: usize = 12;
+
+const WRITE_QUANTITY_AT: usize = 14;
+
+const WRITE_COUNT_AT: usize = 16;
+
 // Whether a range ends past the last address.
 fn ends_past(start: u16, quantity: u16) -> bool
     ensures { λ r. ⌜ r ≡ ltb addresses (start + quantity) ⌝ }
@@ -104,6 +111,49 @@ fn check_multiple_write(table: Table, frame: &[u8]) -> Checked
     )
 }
 
+// Request 22: any address and any masks are legal.
+fn check_mask_write(frame: &[u8]) -> Checked
+    ensures { λ r. ⌜ r ≡ checkedBy Class.Masks (now (frame .entry)) ⌝ }
+{
+    if wire::pdu_size(frame) != numbers::MASK_PDU {
+        return Checked::BadLength;
+    }
+    Checked::Legal(Asked::MaskWrite {
+        address: wire::pair_at(frame, pdu::START_AT),
+        and_mask: wire::pair_at(frame, pdu::AND_MASK_AT),
+        or_mask: wire::pair_at(frame, pdu::OR_MASK_AT),
+    })
+}
+
+// Request 23: what it reads is judged as of 03, what it writes as of 16 with a lower most, and either range is looked at.
+fn check_read_write(frame: &[u8]) -> Checked
+    ensures { λ r. ⌜ r ≡ checkedBy Class.ReadsWrites (now (frame .entry)) ⌝ }
+{
+    let size = wire::pdu_size(frame);
+    let count = laws::wide(wire::byte_at(frame, WRITE_COUNT_AT));
+    if (size < numbers::READ_WRITE_PDU) | (size != numbers::READ_WRITE_PDU + count) {
+        return Checked::BadLength;
+    }
+    let start = wire::pair_at(frame, pdu::START_AT);
+    let quantity = wire::pair_at(frame, pdu::QUANTITY_AT);
+    let write_start = wire::pair_at(frame, WRITE_START_AT);
+    let write_quantity = wire::pair_at(frame, WRITE_QUANTITY_AT);
+    let bytes = pdu::bytes_for(Table::Registers, write_quantity);
+    judge(
+        (quantity == 0)
+            | ((numbers::MOST_READ < quantity)
+                | ((write_quantity == 0)
+                    | ((numbers::MOST_READ_WRITTEN < write_quantity) | (count != bytes)))),
+        ends_past(start, quantity) | ends_past(write_start, write_quantity),
+        Asked::ReadWrite {
+            start,
+            quantity,
+            write_start,
+            write_quantity,
+        },
+    )
+}
+
 // A request of any bytes: refusal 5, refusal 6, exception 03, exception 02, or what it legally asks.
 pub fn check_request(frame: &[u8]) -> Checked
     ensures { λ r. ⌜ r ≡ checkedOf (now (frame .entry)) ⌝ }
@@ -116,6 +166,8 @@ pub fn check_request(frame: &[u8]) -> Checked
         Class::Reads(table) => check_read(table, frame),
         Class::WritesOne(table) => check_single_write(table, frame),
         Class::WritesMany(table) => check_multiple_write(table, frame),
+        Class::Masks => check_mask_write(frame),
+        Class::ReadsWrites => check_read_write(frame),
         Class::Others => Checked::Legal(Asked::Other),
     }
 }

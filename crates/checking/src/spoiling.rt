@@ -52,6 +52,17 @@ fn meets_range(asked: Asked, table: Table, start: u16, quantity: u16) -> bool
             start: first,
             quantity: count,
         } => is_same(own, table) & overlap(first, count, start, quantity),
+        Asked::MaskWrite {
+            address,
+            and_mask: _,
+            or_mask: _,
+        } => is_same(Table::Registers, table) & overlap(address, 1, start, quantity),
+        Asked::ReadWrite {
+            start: _,
+            quantity: _,
+            write_start: first,
+            write_quantity: count,
+        } => is_same(Table::Registers, table) & overlap(first, count, start, quantity),
         Asked::Other => true,
     }
 }
@@ -75,6 +86,17 @@ fn meets(asked: Asked, held: Asked) -> bool
             table: _,
             start: _,
             quantity: _,
+        } => false,
+        Asked::MaskWrite {
+            address: _,
+            and_mask: _,
+            or_mask: _,
+        } => false,
+        Asked::ReadWrite {
+            start: _,
+            quantity: _,
+            write_start: _,
+            write_quantity: _,
         } => false,
         Asked::Other => false,
     }

@@ -14,6 +14,9 @@ const BYTES: u64 = 256;
 
 const FIELDS: u64 = 65536;
 
+// The quantities of 23 are at most 125 and 121: 7 bits each.
+const QUANTITIES: u64 = 128;
+
 const KEPT: u64 = FIELDS * FIELDS * FIELDS;
 
 // Bit 32 of a live place's word, where that is a read's: the read is closed.
@@ -39,6 +42,20 @@ fn asked_bits(asked: Asked) -> u64
             start,
             quantity,
         } => start as u64 * FIELDS + quantity as u64,
+        Asked::MaskWrite {
+            address,
+            and_mask,
+            or_mask,
+        } => (address as u64 * FIELDS + and_mask as u64) * FIELDS + or_mask as u64,
+        Asked::ReadWrite {
+            start,
+            quantity,
+            write_start,
+            write_quantity,
+        } => {
+            let read = start as u64 * QUANTITIES + quantity as u64;
+            (read * FIELDS + write_start as u64) * QUANTITIES + write_quantity as u64
+        }
         Asked::Other => 0,
     }
 }
@@ -64,6 +81,27 @@ fn low_field(n: u64) -> u16
     (n % FIELDS) as u16
 }
 
+// The lowest 7 bits.
+fn low_quantity(n: u64) -> u16
+    ensures { λ r. ⌜ r ≡ n % 128 ⌝ }
+{
+    (n % QUANTITIES) as u16
+}
+
+// What 23 asked, from what it kept: two starts, and a quantity below each.
+fn read_write_from(bits: u64) -> Asked
+    ensures { λ r. ⌜ r ≡ askedFrom Class.ReadsWrites bits ⌝ }
+{
+    let write = bits / QUANTITIES;
+    let read = write / FIELDS;
+    Asked::ReadWrite {
+        start: low_field(read / QUANTITIES),
+        quantity: low_quantity(read),
+        write_start: low_field(write),
+        write_quantity: low_quantity(bits),
+    }
+}
+
 // What was asked, from what its class kept.
 fn asked_from(class: Class, bits: u64) -> Asked
     ensures { λ r. ⌜ r ≡ askedFrom class bits ⌝ }
@@ -86,6 +124,12 @@ fn asked_from(class: Class, bits: u64) -> Asked
             start: first,
             quantity: second,
         },
+        Class::Masks => Asked::MaskWrite {
+            address: low_field(bits / FIELDS / FIELDS),
+            and_mask: first,
+            or_mask: second,
+        },
+        Class::ReadsWrites => read_write_from(bits),
         Class::Others => Asked::Other,
     }
 }

@@ -16,15 +16,14 @@ use Rattle.laws.proofs.Choice.{eq-or, lt-or}
 use Rattle.wire.specs.Frame.{misframed, idOf, laid, exception}
 use Rattle.settings.specs.Grammar.{Tag}
 use Rattle.pdu.specs.Replies.{What, answering, excepts}
-use Rattle.pdu.specs.declared.Table.the-variants.{Registers}
 use Rattle.pdu.specs.declared.Asked.{Asked}
-use Rattle.pdu.specs.declared.Asked.the-variants.{Read}
 use Rattle.pdu.proofs.ReplyLaws.{ReplyRoom, answering-room}
 use Rattle.rewrite.specs.declared.Way.the-variants.{ToBinary}
 use Rattle.rewrite.specs.Rewriting.{Rewritten}
 use Rattle.rewrite.specs.Frames.{returned}
-use Rattle.rewrite.specs.Plain.{Rewrites}
-use Rattle.rewrite.proofs.FrameLaws.{returned-read}
+use Rattle.rewrite.specs.Plain.{Brings, Rewrites}
+use Rattle.rewrite.proofs.FrameLaws.{returned-brings}
+use Rattle.rewrite.proofs.RoomLaws.{brings-ends}
 use Rattle.rewrite.proofs.TurnedLaws.{stands-rewritten}
 use Rattle.book.specs.Book.{Live, Good, NothingDue, at}
 use Rattle.book.specs.Book.Move.{pass}
@@ -74,15 +73,12 @@ answered-frame : (m : Machine) (k : ℕ) (f o l : List ℕ) (e : Live What Note)
 unfolding answeredTo
 answered-frame m k f o l e = (refl, refl, refl, refl)
 
-read-room : (a : Asked) (s q : ℕ) (f : List ℕ) → a ≡ Read Registers s q → ReplyRoom a f → 9 + 2 * q ≤ length f
-read-room a s q f e r = omega (arith, rw e at r)
-
--- the registers that a reply to a read brings, in the frame that is handed on
-read-rewritten : (tags : List Tag) (w : What) (f o : List ℕ) → answering w f ≡ true → (s q : ℕ) → w .asked ≡ Read Registers s q → excepts (w .function) f ≡ false
+-- the registers that a reply brings, in the frame that is handed on
+brought-rewritten : (tags : List Tag) (w : What) (f o : List ℕ) → answering w f ≡ true → (s q : ℕ) → Brings (w .asked) s q → excepts (w .function) f ≡ false
     → Rewrites ToBinary tags f (over (laid 0 (returned tags w f .bytes)) o) (returned tags w f .partial) (returned tags w f .value) 9 s q
-read-rewritten tags w f o a s q e x =
-    subst (λ (y : Rewritten). Rewrites ToBinary tags f (over (laid 0 (y .bytes)) o) (y .partial) (y .value) 9 s q) (sym (returned-read tags f w s q e x))
-    (stands-rewritten ToBinary 9 s q tags f 0 o (omega arith) (read-room (w .asked) s q f e (answering-room w f a x)))
+brought-rewritten tags w f o a s q b x =
+    subst (λ (y : Rewritten). Rewrites ToBinary tags f (over (laid 0 (y .bytes)) o) (y .partial) (y .value) 9 s q) (sym (returned-brings tags f w b x))
+    (stands-rewritten ToBinary 9 s q tags f 0 o (omega arith) (brings-ends f b (answering-room w f a x)))
 
 -- a place that was emptied holds nothing
 emptied : (ps : List (Option (Live What Note))) (k : ℕ) (e : Live What Note) → getD ps k none ≡ some e → getD (set ps k none) k none ≡ none
@@ -107,7 +103,7 @@ reply-answers m t f o l g h =
       gone = ap (λ (y : Outcome). at (y .after .book) k) q ∙ ap (λ ps. getD ps k none) (answered-frame (clocked m t) k f o l (e .0) .2) ∙ emptied (m .book .places) k (e .0) (e .1);
       says = ap (λ (y : Outcome). y .says) q ∙ answered-frame (clocked m t) k f o l (e .0) .3;
       frame = frame;
-      rewritten = λ s n y z. rw frame (read-rewritten (settings m .tags) (e .0 .what) f o matches s n y z);
+      rewritten = λ s n y z. rw frame (brought-rewritten (settings m .tags) (e .0 .what) f o matches s n y z);
       list = ap (λ (y : Outcome). y .listed) q ∙ answered-frame (clocked m t) k f o l (e .0) .1;
     }
 

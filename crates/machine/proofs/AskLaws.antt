@@ -20,7 +20,7 @@ use Rattle.pdu.specs.Requests.{askedOf}
 use Rattle.pdu.specs.Replies.{What}
 use Rattle.pdu.specs.declared.Table.the-variants.{Bits, Registers}
 use Rattle.pdu.specs.declared.Asked.{Asked}
-use Rattle.pdu.specs.declared.Asked.the-variants.{Read, SingleWrite, MultipleWrite, Other}
+use Rattle.pdu.specs.declared.Asked.the-variants.{Read, SingleWrite, MultipleWrite, MaskWrite, ReadWrite, Other}
 use Rattle.pdu.specs.declared.Checked.the-variants as check
 use Rattle.pdu.specs.declared.ProxyId.{ProxyId}
 use Rattle.pdu.proofs.SpoilingLaws.{spoils-itself}
@@ -29,12 +29,13 @@ use Rattle.rewrite.specs.declared.Way.the-variants.{ToBcd}
 use Rattle.rewrite.specs.Frames.{forwarded}
 use Rattle.rewrite.specs.Legal.{faultUnder, checkedUnder, legal}
 use Rattle.rewrite.specs.Strict.{Carries}
-use Rattle.rewrite.specs.Strict.Carries.{single, multiple}
+use Rattle.rewrite.specs.Strict.Carries.{single, multiple, both}
 use Rattle.rewrite.specs.Plain.{OfBits, Rewrites}
 use Rattle.rewrite.specs.Plain.OfBits.{coils-read, discrete-read, coil-written, coils-written}
 use Rattle.rewrite.proofs.LegalLaws.{legal-checked, checked-codes}
 use Rattle.rewrite.proofs.FrameLaws.{length-forwarded, stands-under}
 use Rattle.rewrite.proofs.TurnedLaws.{stands-rewritten}
+use Rattle.rewrite.proofs.RoomLaws.{carries-ends}
 use Rattle.cache.specs.Cache.{Cached, inCache}
 use Rattle.cache.proofs.CacheLaws.{dropped-exactly}
 use Rattle.book.specs.Book.{Live, Good, at, newEntry, marked}
@@ -66,24 +67,27 @@ carrying (SingleWrite Bits a v) = false
 carrying (SingleWrite Registers a v) = true
 carrying (MultipleWrite Bits s q) = false
 carrying (MultipleWrite Registers s q) = true
+carrying (MaskWrite a x y) = false
+carrying (ReadWrite s q u p) = true
 carrying Other = false
 
 carries-some : {a : Asked} {base start quantity : ℕ} → Carries a base start quantity → carrying a ≡ true
 unfolding carrying
 carries-some single = refl
 carries-some multiple = refl
+carries-some both = refl
 
-spelled-none : (n a b : ℕ) → OfBits n → carrying (spelled n a b) ≡ false
+spelled-none : (n a b c d : ℕ) → OfBits n → carrying (spelled n a b c d) ≡ false
 unfolding carrying spelled
-spelled-none n a b coils-read = refl
-spelled-none n a b discrete-read = refl
-spelled-none n a b coil-written = refl
-spelled-none n a b coils-written = refl
+spelled-none n a b c d coils-read = refl
+spelled-none n a b c d discrete-read = refl
+spelled-none n a b c d coil-written = refl
+spelled-none n a b c d coils-written = refl
 
 -- A request 01, 02, 05 or 15 carries no registers.
 pub bits-carry-none : (f : List ℕ) → OfBits (getD f 7 0) → (base start quantity : ℕ) → Carries (asking f .asked) base start quantity → ⊥
 unfolding asking
-bits-carry-none f b base start quantity c = true≢false (sym (carries-some c) ∙ spelled-none (getD f 7 0) _ _ b)
+bits-carry-none f b base start quantity c = true≢false (sym (carries-some c) ∙ spelled-none (getD f 7 0) _ _ _ _ b)
 
 -- BYTES
 
@@ -99,8 +103,9 @@ over-behind w b k h =
 carried : {a : Asked} {base start quantity : ℕ} → Carries a base start quantity → (tags : List Tag) (f : List ℕ) (id : ℕ) (o : List ℕ) → RequestRoom a f
     → Rewrites ToBcd tags f (over (laid id (forwarded tags a f .bytes)) o) (forwarded tags a f .partial) (forwarded tags a f .value) base start quantity
 unfolding forwarded
-carried single tags f id o r = stands-rewritten ToBcd _ _ _ tags f id o (omega arith) (omega (arith, r))
-carried multiple tags f id o r = stands-rewritten ToBcd _ _ _ tags f id o (omega arith) (omega (arith, r))
+carried (single {a = a} {v = v}) tags f id o r = stands-rewritten ToBcd _ _ _ tags f id o (omega arith) (carries-ends f {start = a} (single {v = v}) r)
+carried (multiple {s = s} {q = q}) tags f id o r = stands-rewritten ToBcd _ _ _ tags f id o (omega arith) (carries-ends f {start = s} (multiple {q = q}) r)
+carried (both {s = s} {q = q} {u = u} {p = p}) tags f id o r = stands-rewritten ToBcd _ _ _ tags f id o (omega arith) (carries-ends f {start = u} (both {s = s} {q = q} {p = p}) r)
 
 passed-on : (a : Asked) → ((base start quantity : ℕ) → Carries a base start quantity → ⊥) → (tags : List Tag) (f : List ℕ)
     → (forwarded tags a f .bytes ≡ f) × (forwarded tags a f .partial ≡ 0) × (forwarded tags a f .value ≡ 0)
@@ -110,6 +115,8 @@ passed-on (SingleWrite Bits a v) n tags f = (refl, refl, refl)
 passed-on (SingleWrite Registers a v) n tags f = absurd (n _ _ _ single)
 passed-on (MultipleWrite Bits s q) n tags f = (refl, refl, refl)
 passed-on (MultipleWrite Registers s q) n tags f = absurd (n _ _ _ multiple)
+passed-on (MaskWrite a x y) n tags f = (refl, refl, refl)
+passed-on (ReadWrite s q u p) n tags f = absurd (n _ _ _ both)
 passed-on Other n tags f = (refl, refl, refl)
 
 -- f's own bytes 0, 1 and 7 in an exception frame

@@ -1,7 +1,7 @@
 -- What a call makes of the cache: it stays, loses what an issued request spoils, takes a reply, or is emptied; and what the cache of every history is.
 -- Assumes nothing.
 use Prim.Native.Nat.{ℕ, _≤_}
-use mathlib.Core.Path.{_≡_, refl, ap, sym, _∙_}
+use mathlib.Core.Path.{_≡_, refl, ap, sym, subst, _∙_}
 use mathlib.Core.Logic.{⊎-elim, _⊎_, inl, inr, _↔_}
 use mathlib.Core.Bool.{true, false, true≢false}
 use mathlib.Core.Option.{Option, some, none, Option·some-injective, Option·none-ne-some}
@@ -17,6 +17,7 @@ use Rattle.wire.specs.Frame.{misframed, laid}
 use Rattle.wire.proofs.FrameLaws.{framed, length-laid, laid-framed}
 use Rattle.settings.specs.Grammar.{Tag}
 use Rattle.settings.specs.TagWords.{Ascending}
+use Rattle.pdu.specs.declared.Asked.{Asked}
 use Rattle.pdu.specs.Replies.{What, answering, excepts}
 use Rattle.pdu.specs.Reads.{equalReads}
 use Rattle.pdu.specs.Spoiling.{spoils}
@@ -29,11 +30,12 @@ use Rattle.rewrite.specs.declared.Way.the-variants.{ToBinary}
 use Rattle.rewrite.specs.Registers.{registersAt}
 use Rattle.rewrite.specs.Rewriting.{Verdict, verdict, isRawPartial, partials, Rewritten, rewriting}
 use Rattle.rewrite.specs.Rewriting.Verdict.{outside, partial, value, done}
-use Rattle.rewrite.specs.Plain.{Has, InRun, Whole}
+use Rattle.rewrite.specs.Plain.{Has, InRun, Whole, Brings}
+use Rattle.rewrite.specs.Plain.Brings.{read}
 use Rattle.rewrite.proofs.RegisterLaws.{length-registers}
 use Rattle.rewrite.proofs.OrderLaws.{one-owner}
 use Rattle.rewrite.proofs.VerdictLaws.{whole-exactly, partial-exactly}
-use Rattle.rewrite.proofs.FrameLaws.{length-returned, returned-read, returned-framed, returned-answers, laid-answers}
+use Rattle.rewrite.proofs.FrameLaws.{length-returned, returned-brings, returned-framed, returned-answers, laid-answers}
 use Rattle.cache.specs.Cache.{Cached, Cache, emptied, inCache, takenPlace, filledWith, droppedBy}
 use Rattle.cache.specs.Life.{cacheable, lifeOf}
 use Rattle.cache.specs.Plain.{Sorted, Cacheable}
@@ -167,12 +169,12 @@ pub none-partial : (tags : List Tag) → Ascending 0 tags → (e : Live What Not
 unfolding rewriting partials
 none-partial tags asc e f does =
     let y = fills-exactly tags e f .0 does in
-    let read = cacheable-reads tags (e .what .asked) (y .1 .1) in
-    let s = read .0 in
-    let q = read .1 in
-    let c = cacheable-exactly s q tags .0 (rw (read .2) at (y .1 .1)) in
+    let is = cacheable-reads tags (e .what .asked) (y .1 .1) in
+    let s = is .0 in
+    let q = is .1 in
+    let c = cacheable-exactly s q tags .0 (rw (is .2) at (y .1 .1)) in
     let rs = registersAt 9 q f in
-    ap (λ (r : Rewritten). r .partial) (returned-read tags f (e .what) s q (read .2) (y .0))
+    ap (λ (r : Rewritten). r .partial) (returned-brings tags f (e .what) (subst (λ (a : Asked). Brings a s q) (sym (is .2)) read) (y .0))
     ∙ ap length (filter-none (λ t. isRawPartial (verdict ToBinary s rs t)) tags (never-partial ToBinary tags asc s rs (rw (length-registers 9 q f) c)))
 
 -- the call fills in one way

@@ -3,7 +3,7 @@
 -- `toldBy v xs` is the lines of that ledger, `grantedCalls v xs` those of the calls that were not refused; what `lastOf` and `lastGiven` are is said in plain words in LastLaws of `laws`.
 -- Assumes nothing.
 use Prim.Native.Nat.{ℕ, suc, _+_, _*_, _-_, _≤_, _<_}
-use mathlib.Core.Path.{_≡_, refl, ap, sym, _∙_}
+use mathlib.Core.Path.{_≡_, refl, ap, sym, subst, subst₂, _∙_}
 use mathlib.Core.Logic.{⊎-elim, _⊎_, _↔_}
 use mathlib.Core.Bool.{true, false, cond, not, _&&_}
 use mathlib.Core.Option.{some, Option·getD, Option·some-injective}
@@ -29,16 +29,20 @@ use Rattle.pdu.specs.Requests.{classOf, badFunction, badLength, askedOf, faultO
 use Rattle.pdu.specs.Replies.{What, excepts}
 use Rattle.pdu.specs.Spoiling.{spoils}
 use Rattle.pdu.specs.declared.ProxyId.{ProxyId}
-use Rattle.pdu.specs.declared.Table.the-variants.{Registers}
-use Rattle.pdu.specs.declared.Asked.the-variants.{Read}
+use Rattle.pdu.specs.declared.Asked.the-variants.{ReadWrite}
 use Rattle.pdu.specs.declared.Checked.the-variants as check
 use Rattle.rewrite.specs.Registers.{registersAt}
 use Rattle.rewrite.specs.Rewriting.{ownIn, Rewritten}
-use Rattle.rewrite.specs.Plain.{Has, InRun, Whole, OfBits}
+use Rattle.rewrite.specs.Plain.{Has, InRun, Whole, Brings, OfBits, Rewrites}
+use Rattle.rewrite.specs.Plain.Brings.{read-of-both}
+use Rattle.rewrite.specs.Frames.{returned}
+use Rattle.rewrite.specs.declared.Way.the-variants.{ToBcd, ToBinary}
 use Rattle.rewrite.specs.Legal.{legal}
 use Rattle.rewrite.specs.Strict.{Carries, Violates, HasDigits}
-use Rattle.rewrite.specs.Strict.Carries.{single}
+use Rattle.rewrite.specs.Strict.Carries.{single, both}
+use Rattle.pdu.proofs.RequestLaws.{legal-room}
 use Rattle.rewrite.proofs.FrameLaws.{returned-bits}
+use Rattle.rewrite.proofs.LegalLaws.{legal-checked}
 use Rattle.rewrite.proofs.StrictLaws.{strictless}
 use Rattle.cache.specs.Cache.{Cached, inCache}
 use Rattle.cache.specs.Plain.{Keyed, Fresh, Takes}
@@ -64,7 +68,7 @@ use Rattle.machine.specs.Granted.{grantedCalls, concerns}
 use Rattle.machine.specs.Waiting.{nextDeadline, Waits}
 use Rattle.machine.specs.Spelled.{asker, asking, AskedBy}
 use Rattle.machine.specs.Histories.{seenOf, events, told, afterCalls, toldBy, toldSince, ledgerOf, Origin}
-use Rattle.machine.specs.Closed.{Unspoiled, Joinable, Meets}
+use Rattle.machine.specs.Closed.{Unspoiled, Joinable, numberAt, Meets}
 use Rattle.machine.specs.Cached.{NoHit, Fills, KeptFor, Put, LastReply, Latest, Shows}
 use Rattle.machine.specs.declared.Answer.{Answer}
 use Rattle.machine.specs.declared.Answer.the-variants as answer
@@ -79,11 +83,12 @@ use Rattle.machine.proofs.SpelledLaws.{asked-spelled, kept-as-asked, as
 use Rattle.machine.proofs.RequestLaws.{codeOf, no-other-exception, exception-04 as said-exactly}
 use Rattle.machine.proofs.Follows.{same-entry}
 use Rattle.machine.proofs.AskLaws.{bits-carry-none, request-comes-to, hit-is-said, issue-is, join-is, exception-is}
-use Rattle.machine.proofs.StrictLaws.{forbids-exactly, only-forbids, sends-digits, legal-as-before, admitted-as-before}
+use Rattle.machine.proofs.StrictLaws.{forbids-exactly, only-forbids, mask-excepted-exactly, sends-no-mask, sends-digits, legal-as-before, admitted-as-before}
+use Rattle.machine.proofs.JoinLaws.{registers-read}
 use Rattle.machine.proofs.PartyLaws.{accepted-stands}
-use Rattle.machine.proofs.AnswerLaws.{reply-answers, tick-expires, idle-is, idle-when}
+use Rattle.machine.proofs.AnswerLaws.{reply-framed, reply-answers, tick-expires, idle-is, idle-when}
 use Rattle.machine.proofs.ReadBack.{comes-back}
-use Rattle.machine.proofs.EchoBack.{echo-comes-back, own-frame, sent-id}
+use Rattle.machine.proofs.EchoBack.{echo-comes-back, mask-comes-back, own-frame, sent-id}
 use Rattle.machine.proofs.TickLaws.{ticking-ends}
 use Rattle.machine.proofs.WaitingLaws.{waits, outstanding-due, none-waits, next-tick}
 use Rattle.machine.proofs.FrameOfParty.{reply-frame, hit-frame, always-known, timeout-frame}
@@ -104,7 +109,7 @@ pub the-report-tells-the-answer : (a : Answer) → Tells (numbers a) a
 the-report-tells-the-answer = numbers-tell
 
 -- Tender 3, who asks what: the party and the request that are kept of client c's bytes f are that client, the id in bytes 0 and 1, the unit in byte 6, the function in byte 7,
--- and behind it the numbers at bytes 8 and 10 as that function has them.
+-- and behind it the numbers at bytes 8, 10, 12 and 14 as that function has them.
 pub who-asked-what : (c : ℕ) (f : List ℕ) → AskedBy c f (partyOf c f) (wanted f)
 who-asked-what = kept-as-asked
 
@@ -404,7 +409,38 @@ module _ (v : Value) (xs : List Call) where
       let same : p ≡ h .cached .partial = cc (h .says) in
       same ∙ none-cut-cached v (valid-ascends v right) xs (h .place) (h .cached) (h .there)
 
-  -- Request #108: "If a write covers a strict tag partly, or its value is outside the range, the client gets exception 03 and nothing is issued." A write 06 or 16 that is not refused and whose
+  -- Request #109: "neither joins". What joins is one of 01 to 04, and what hits 03 or 04: no 22 and no 23 ever does.
+  pub only-reads-join-or-hit : (c t : ℕ) (f o : List ℕ)
+      → ((i : ProxyId) → outcome (afterCalls v xs) (request c t f o) .says ≡ answer.Joined i → ((getD f 7 0 ≡ 1) ⊎ (getD f 7 0 ≡ 2)) ⊎ ((getD f 7 0 ≡ 3) ⊎ (getD f 7 0 ≡ 4)))
+      × ((n p w : ℕ) → outcome (afterCalls v xs) (request c t f o) .says ≡ answer.Hit n p w → (getD f 7 0 ≡ 3) ⊎ (getD f 7 0 ≡ 4))
+  only-reads-join-or-hit c t f o = (
+    λ i e. a-join-is-this c t f o i e .may .reads,
+    λ n p w e. registers-read f (a-hit-shows-the-last-reply c t f o n p w e .0 .fills .reads),
+  )
+
+  -- What a 23 that is issued writes, in bytes: the registers from byte 17 on, as many as the number at byte 14 says, are those of the addresses from the number at byte 12 on, each turned to BCD by its tag or as
+  -- it came; and the counts are of that range.
+  pub what-a-23-writes : (c t : ℕ) (f o : List ℕ) (i : ProxyId) (n p w : ℕ) → outcome (afterCalls v xs) (request c t f o) .says ≡ answer.Issued i n p w → getD f 7 0 ≡ 23
+      → Rewrites ToBcd (v .tags) f (outcome (afterCalls v xs) (request c t f o) .written) p w 17 (numberAt f 12) (numberAt f 14)
+  what-a-23-writes c t f o i n p w e named =
+      let x = an-issue-is-this c t f o i n p w e in
+      let told : answer.Issued i n p w ≡ answer.Issued (record { 0 = x .id }) (length f) (x .partial) (x .value) = sym e ∙ x .says in
+      let counts : (p ≡ x .partial) × (w ≡ x .value) = (cc, cc) in
+      let shown = subst (λ (ts : List Tag). Rewrites ToBcd ts f (outcome (afterCalls v xs) (request c t f o) .written) (x .partial) (x .value) 17 (numberAt f 12) (numberAt f 14)) tags-stay
+      (x .rewritten 17 (numberAt f 12) (numberAt f 14) (rw (asking-says c f .reads-and-writes named) both)) in
+      subst₂ (λ (a b : ℕ). Rewrites ToBcd (v .tags) f (outcome (afterCalls v xs) (request c t f o) .written) a b 17 (numberAt f 12) (numberAt f 14)) (sym (counts .0)) (sym (counts .1)) shown
+
+  -- And what its reply brings: the registers from byte 9 on, as many as the number at byte 10 of the request says, are those of the addresses from the number at byte 8 on, turned to binary; and the counts are of
+  -- that range.
+  pub what-a-23-reads : (t : ℕ) (f o l : List ℕ) (a : Answers (afterCalls v xs) f o l (outcome (afterCalls v xs) (reply t f o l))) (g : List ℕ) → a .entry .what ≡ asking g → getD g 7 0 ≡ 23 → excepts 23 f ≡ false
+      → Rewrites ToBinary (v .tags) f (outcome (afterCalls v xs) (reply t f o l) .written) (returned (v .tags) (asking g) f .partial) (returned (v .tags) (asking g) f .value) 9 (numberAt g 8) (numberAt g 10)
+  what-a-23-reads t f o l a g same named plain =
+      let function : a .entry .what .function ≡ 23 = ap (λ (y : What). y .function) same ∙ asking-says 0 g .function ∙ named in
+      let asked : a .entry .what .asked ≡ ReadWrite (numberAt g 8) (numberAt g 10) (numberAt g 12) (numberAt g 14) = ap (λ (y : What). y .asked) same ∙ asking-says 0 g .reads-and-writes named in
+      subst₂ (λ (ts : List Tag) (w : What). Rewrites ToBinary ts f (outcome (afterCalls v xs) (reply t f o l) .written) (returned ts w f .partial) (returned ts w f .value) 9 (numberAt g 8) (numberAt g 10)) tags-stay same
+      (a .rewritten (numberAt g 8) (numberAt g 10) (rw asked read-of-both) (rw function plain))
+
+  -- Request #108: "If a write covers a strict tag partly, or its value is outside the range, the client gets exception 03 and nothing is issued." A write 06, 16 or 23 that is not refused and whose
   -- bytes give neither exception 03 nor 02 gets exception 03 exactly if some strict tag has a register in the write and another outside it, or lies in it with a value outside its range, in
   -- plain numbers (`Violates`). That nothing is issued, closed or dropped then, and that the buffer has the nine bytes of the exception, is `an-exception-is-this`.
   pub a-strict-tag-forbids-exactly : (c t : ℕ) (f o : List ℕ) → refusal (afterCalls v xs) (request c t f o) ≡ 0 → ((k : ℕ) → getD f k 0 < 256) → checkedOf f ≡ check.Legal (askedOf f)
@@ -414,15 +450,27 @@ module _ (v : Value) (xs : List Call) where
       forbids-exactly (afterCalls v xs) (v .tags) tags-stay c t f o good (stocked v xs) h bytes fine base start quantity carries
 
   -- "The check follows exception 02 in 01's order": a request that is not refused gets exception 03 exactly if its bytes give that, or they give neither 03 nor 02 and it is a write of
-  -- registers that a strict tag forbids. No read, no write of coils and no other function is forbidden, and bytes that give 02 do not get 03.
-  pub only-a-strict-tag-forbids : (c t : ℕ) (f o : List ℕ) → refusal (afterCalls v xs) (request c t f o) ≡ 0 → ((k : ℕ) → getD f k 0 < 256)
+  -- registers that a strict tag forbids, or a 22 (#109) whose register a tag has. No read, no write of coils and no other function is forbidden, and bytes that give 02 do not get 03.
+  pub only-a-tag-forbids : (c t : ℕ) (f o : List ℕ) → refusal (afterCalls v xs) (request c t f o) ≡ 0 → ((k : ℕ) → getD f k 0 < 256)
       → (outcome (afterCalls v xs) (request c t f o) .says ≡ answer.Excepted 3)
       ↔ ((checkedOf f ≡ check.Excepted 3)
       ⊎ ((checkedOf f ≡ check.Legal (askedOf f))
-      × ((base : ℕ) × (start : ℕ) × (quantity : ℕ) × Carries (asking f .asked) base start quantity × Violates (v .tags) f base start quantity)))
-  only-a-strict-tag-forbids c t f o h bytes = only-forbids (afterCalls v xs) (v .tags) tags-stay c t f o good (stocked v xs) h bytes
+      × (((base : ℕ) × (start : ℕ) × (quantity : ℕ) × Carries (asking f .asked) base start quantity × Violates (v .tags) f base start quantity)
+      ⊎ ((getD f 7 0 ≡ 22) × ((tag : Tag) × List·Memᴰ tag (v .tags) × Has tag (numberAt f 8))))))
+  only-a-tag-forbids c t f o h bytes = only-forbids (afterCalls v xs) (v .tags) tags-stay c t f o good (stocked v xs) h bytes
 
-  -- "No frame to the device ever holds, at a strict tag, a word its kind does not allow, for the register writes 06 and 16." In a frame that goes out of a write, a strict tag of which any
+  -- Request #109: "On any tagged register it gets exception 03, because masks have no sense on digits." A 22 that is not refused gets exception 03 exactly if a tag has the register that bytes 8 and
+  -- 9 name, whatever the tag's kind, strict or not; it has no other exception 03 and no 02.
+  pub a-mask-on-a-tag-gets-03-exactly : (c t : ℕ) (f o : List ℕ) → refusal (afterCalls v xs) (request c t f o) ≡ 0 → getD f 7 0 ≡ 22
+      → (outcome (afterCalls v xs) (request c t f o) .says ≡ answer.Excepted 3) ↔ ((tag : Tag) × List·Memᴰ tag (v .tags) × Has tag (numberAt f 8))
+  a-mask-on-a-tag-gets-03-exactly c t f o = mask-excepted-exactly (afterCalls v xs) (v .tags) tags-stay c t f o good (stocked v xs)
+
+  -- "#108's claim extends to them": no 22 goes out to a register that a tag has, function and address as the written frame has them. That of 23 is what-goes-out-at-a-strict-tag.
+  pub no-mask-goes-out-to-a-tag : (c t : ℕ) (f o : List ℕ) (i : ProxyId) (n p w : ℕ) → outcome (afterCalls v xs) (request c t f o) .says ≡ answer.Issued i n p w
+      → getD (outcome (afterCalls v xs) (request c t f o) .written) 7 0 ≡ 22 → (tag : Tag) → List·Memᴰ tag (v .tags) → Has tag (numberAt (outcome (afterCalls v xs) (request c t f o) .written) 8) → ⊥
+  no-mask-goes-out-to-a-tag c t f o i n p w e = sends-no-mask (afterCalls v xs) (v .tags) tags-stay c t f o _ (an-issue-is-this c t f o i n p w e)
+
+  -- "No frame to the device ever holds, at a strict tag, a word its kind does not allow, for the register writes 06 and 16", and 23 (#109). In a frame that goes out of a write, a strict tag of which any
   -- register is written lies wholly in the write and has there digits that its kind allows, and these decode to the number that the client wrote there (`HasDigits`): function, addresses and
   -- quantity as the written frame has them.
   pub what-goes-out-at-a-strict-tag : valid v ≡ true → (c t : ℕ) (f o : List ℕ) (i : ProxyId) (n p w : ℕ) → outcome (afterCalls v xs) (request c t f o) .says ≡ answer.Issued i n p w
@@ -432,15 +480,16 @@ module _ (v : Value) (xs : List Call) where
   what-goes-out-at-a-strict-tag right c t f o i n p w e =
       sends-digits (afterCalls v xs) (v .tags) tags-stay c t f o _ (an-issue-is-this c t f o i n p w e) (valid-ascends v right)
 
-  -- "Lenient tags keep today's counts." Where no tag is strict, what a request comes to that is not refused, and which request is legal, are as they were: its bytes alone decide. Where some
-  -- are, the counts of what is issued are still those of `Rewrites`, which does not ask whether a tag is strict (`an-issue-is-this`).
+  -- "Lenient tags keep today's counts." Where no tag is strict, what a request comes to that is not refused, and which request is legal, are as they were: its bytes alone decide, but of a 22 (#109)
+  -- whose register a tag has. Where some are, the counts of what is issued are still those of `Rewrites`, which does not ask whether a tag is strict (`an-issue-is-this`).
   pub without-a-strict-tag-as-before : ((tag : Tag) → List·Memᴰ tag (v .tags) → tag .strict ≡ 1 → ⊥) → (c t : ℕ) (f o : List ℕ)
+      → (getD f 7 0 ≡ 22 → (tag : Tag) → List·Memᴰ tag (v .tags) → Has tag (numberAt f 8) → ⊥)
       → (admitted (afterCalls v xs) c t f o
       ≡ cond (eqb (faultOf f) 0) (served (clocked (afterCalls v xs) t) c f o) (excepted (clocked (afterCalls v xs) t) (faultOf f) f o))
       × (legal v f ≡ (not (misframed f) && (not (badFunction (functionOf f)) && (not (badLength (classOf (functionOf f)) f) && eqb (faultOf f) 0))))
-  without-a-strict-tag-as-before none c t f o =
+  without-a-strict-tag-as-before none c t f o clear =
       let lenient = strictless (v .tags) none in
-      (admitted-as-before v lenient (afterCalls v xs) the-settings-in-force-stay c t f o, legal-as-before v lenient f)
+      (admitted-as-before v lenient f clear (afterCalls v xs) the-settings-in-force-stay c t o, legal-as-before v lenient f clear)
 
   -- Document 01: link lost returns the former set, client by client those that were attached, and nobody is attached after it.
   pub link-lost-says-who-was-attached : (s : ℕ) × (outcome (afterCalls v xs) linkLost .says ≡ answer.Lost s)
@@ -498,8 +547,8 @@ issue-among v before c t g o j n p w e later =
     (history-on (product v) (made v) before (x ∷ later) ∙ ap (λ vs. toldBy v before ++ vs) (issue-told v (afterCalls v before) c t g o later j n p w e) ∙ sym (append-assoc (toldBy v before) (passed t ∷ []) _))
 
 -- Request #102 in bytes: a read after a write is not stale. A request g was issued, after whatever calls; whatever calls came later, a request f then joins, and g meets it: byte 6 of both
--- is equal, byte 7 of g is 05 or 15 and that of f 01 or 02, or 06 or 16 and 03 or 04, and some address is in both ranges, or g is "other" and f a read. Then of the lines that the later
--- calls tell (`toldSince`), the last that begins or ends a life of the id that f joined is its issue, which asks what f asks: what f joined was issued after g, and is live since.
+-- is equal, byte 7 of g is 05 or 15 and that of f 01 or 02, or 06, 16, 22 or 23 and 03 or 04, and some address is in both ranges, of a 23 in the one that it writes, or g is "other" and f a
+-- read. Then of the lines that the later calls tell (`toldSince`), the last that begins or ends a life of the id that f joined is its issue, which asks what f asks: what f joined was issued after g, and is live since.
 pub a-read-after-a-write-is-not-stale-in-bytes : (v : Value) (before : List Call) (c t : ℕ) (g o : List ℕ) (j : ProxyId) (n p w : ℕ)
     → outcome (afterCalls v before) (request c t g o) .says ≡ answer.Issued j n p w
     → (later : List Call) (c′ t′ : ℕ) (f o′ : List ℕ) (i : ProxyId) → outcome (afterCalls v (before ++ request c t g o ∷ later)) (request c′ t′ f o′) .says ≡ answer.Joined i
@@ -539,14 +588,14 @@ a-hit-after-a-write-is-not-stale-in-bytes v before c t g o j n p w e later c′ 
 
 -- Tender 2: a value in a tag's range, written over the whole tag in one request, stored as sent and read back whole in one, comes back equal. Whatever calls came before the
 -- write and whatever calls came before the reply: the registers of the tag in the frame that was issued, carried by a reply to a read that covers the tag, reach the reader
--- as the registers that the writer sent. 06 and 16; one tag among any others.
+-- as the registers that the writer sent. Written by 06, 16 or 23, read by 03, 04 or 23; one tag among any others.
 pub a-value-comes-back : (v : Value) → valid v ≡ true → (tag : Tag) → List·Memᴰ tag (v .tags)
     → (xs : List Call) (c t : ℕ) (f o : List ℕ) → ((k : ℕ) → getD f k 0 < 256)
     → (i : ProxyId) (n p w : ℕ) → outcome (afterCalls v xs) (request c t f o) .says ≡ answer.Issued i n p w
     → (base s q : ℕ) → Carries (asking f .asked) base s q → Whole s q tag → inRange (kindOf tag) (numberOf (ownIn s (registersAt base q f) tag)) ≡ true
     → (ys : List Call) (t′ : ℕ) (g o′ l : List ℕ) → ((k : ℕ) → getD g k 0 < 256)
     → (a : Answers (afterCalls v ys) g o′ l (outcome (afterCalls v ys) (reply t′ g o′ l))) → excepts (a .entry .what .function) g ≡ false
-    → (s′ q′ : ℕ) → a .entry .what .asked ≡ Read Registers s′ q′ → Whole s′ q′ tag
+    → (s′ q′ : ℕ) → Brings (a .entry .what .asked) s′ q′ → Whole s′ q′ tag
     → ownIn s′ (registersAt 9 q′ g) tag ≡ ownIn s (registersAt base q (outcome (afterCalls v xs) (request c t f o) .written)) tag
     → ownIn s′ (registersAt 9 q′ (outcome (afterCalls v ys) (reply t′ g o′ l) .written)) tag ≡ ownIn s (registersAt base q f) tag
 a-value-comes-back v right tag m xs c t f o bytes i n p w e base s q carries whole range ys =
@@ -581,6 +630,23 @@ an-echo-comes-back v right xs c t f o bytes six i n p w e ys t′ o′ l h clien
       length (a .entry .parties),
       r .0 ∙ ap (λ (j : ProxyId). answer.Answered j (length f) (length (a .entry .parties)) 0 0) (ap (λ (k : ℕ). record { 0 = k }) named) ∙ ap (λ (k : ℕ). answer.Answered i k (length (a .entry .parties)) 0 0) (sym size),
       own-frame f o′ _ n bytes (omega arith) size (r .1),
+    )
+
+-- Request #109: "reply an exact echo". A 22 was issued; whatever calls came before the reply, a reply to what it asked that is no exception is handed to its party as the party's own frame, byte for
+-- byte, once its id is laid over it, and no tag is counted.
+pub a-masks-reply-is-its-request : (v : Value) (xs : List Call) (c t : ℕ) (g o : List ℕ) → ((k : ℕ) → getD g k 0 < 256) → getD g 7 0 ≡ 22
+    → (i : ProxyId) (n p w : ℕ) → outcome (afterCalls v xs) (request c t g o) .says ≡ answer.Issued i n p w
+    → (ys : List Call) (t′ : ℕ) (f o′ l : List ℕ) → ((k : ℕ) → getD f k 0 < 256) → refusal (afterCalls v ys) (reply t′ f o′ l) ≡ 0
+    → (a : Answers (afterCalls v ys) f o′ l (outcome (afterCalls v ys) (reply t′ f o′ l))) → a .entry .what ≡ asking g → excepts 22 f ≡ false
+    → (outcome (afterCalls v ys) (reply t′ f o′ l) .says ≡ answer.Answered (record { 0 = a .entry .id }) (length g) (length (a .entry .parties)) 0 0)
+    × (laid (idOf g) (take (length g) (outcome (afterCalls v ys) (reply t′ f o′ l) .written)) ≡ g)
+a-masks-reply-is-its-request v xs c t g o bytes seven i n p w e ys t′ f o′ l bytes′ h a same plain =
+    let fine = legal-checked (settings (afterCalls v xs)) g .0 (an-issue-is-this v xs c t g o i n p w e .is-legal) in
+    let long : length g ≡ 14 = sym (rw (asked-spelled g ∙ asking-says c g .masks seven) at (legal-room g (askedOf g) (fine .1))) in
+    let r = mask-comes-back (settings (afterCalls v ys) .tags) (a .entry .what) f g bytes′ bytes (reply-framed (afterCalls v ys) t′ f o′ l h) (fine .0) long seven same (a .matches) plain in
+    let written : outcome (afterCalls v ys) (reply t′ f o′ l) .written ≡ over (laid 0 g) o′ = a .frame ∙ ap (λ (y : Rewritten). over (laid 0 (y .bytes)) o′) (r .1) ∙ ap (λ (y : List ℕ). over y o′) (r .2 0) in (
+      a .says ∙ rw (r .1, r .0) refl,
+      own-frame g o′ _ (length g) bytes (omega arith) refl written,
     )
 
 -- a leaving and a lost link tell just that

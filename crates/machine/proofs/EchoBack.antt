@@ -1,27 +1,28 @@
--- Demand 2's addition over calls: a controller that echoes the frame of a request 06 gives the client back the very frame that it wrote.
+-- Demand 2's addition over calls: a controller that echoes the frame of a request 06 gives the client back the very frame that it wrote; and the reply to a 22 is its request (request #109).
 -- Assumes nothing.
 use Prim.Native.Nat.{ℕ, _+_, _*_, _/_, _%_, _≤_, _<_}
-use mathlib.Core.Path.{_≡_, ap, sym, _∙_}
+use mathlib.Core.Path.{_≡_, refl, ap, sym, _∙_}
 use mathlib.Core.Logic.{inl}
-use mathlib.Core.Bool.{false}
+use mathlib.Core.Bool.{true, false}
 use mathlib.Core.List.{List, [], _∷_}
 use native.Mathlib.Omega.{arith}
 use lib.ListN.{length, getD, take}
 use lib.Seq.{getD-take}
 use Rattle.laws.specs.Bytes.{over, pairAt}
-use Rattle.wire.specs.Frame.{idOf, laid}
+use Rattle.wire.specs.Frame.{idOf, unitOf, misframed, laid}
 use Rattle.wire.proofs.FrameLaws.{length-laid}
 use Rattle.settings.specs.Grammar.{Tag}
 use Rattle.settings.specs.TagWords.{Ascending}
-use Rattle.pdu.specs.Requests.{classOf, askedBy, askedOf}
-use Rattle.pdu.specs.Replies.{excepts}
+use Rattle.pdu.specs.Requests.{classOf, startOf, andMaskOf, orMaskOf, askedBy, askedOf}
+use Rattle.pdu.specs.Replies.{What, what, excepts, answering}
 use Rattle.pdu.specs.declared.Table.the-variants.{Registers}
 use Rattle.pdu.specs.declared.Asked.{Asked}
-use Rattle.pdu.specs.declared.Asked.the-variants.{SingleWrite}
+use Rattle.pdu.specs.declared.Asked.the-variants.{SingleWrite, MaskWrite}
+use Rattle.pdu.proofs.MaskLaws.{mask-echo}
 use Rattle.rewrite.specs.declared.Way.the-variants.{ToBcd}
 use Rattle.rewrite.specs.Rewriting.{Rewritten, withCounts, rewriting}
 use Rattle.rewrite.specs.Frames.{forwarded, returned}
-use Rattle.rewrite.proofs.FrameLaws.{front, length-forwarded, rewriting-other}
+use Rattle.rewrite.proofs.FrameLaws.{front, length-forwarded, rewriting-other, returned-mask}
 use Rattle.rewrite.proofs.EchoLaws.{echo-back}
 use Rattle.rewrite.proofs.LaidLaws.{laidOver, returned-laid}
 use Rattle.book.specs.Book.{Good}
@@ -33,7 +34,7 @@ use Rattle.machine.specs.Spelled.{asking}
 use Rattle.machine.specs.declared.Answer.the-variants as answer
 use Rattle.machine.specs.Requested.{Issues}
 use Rattle.machine.specs.Answered.{Answers}
-use Rattle.machine.proofs.SpelledLaws.{asked-spelled, asking-says}
+use Rattle.machine.proofs.SpelledLaws.{asked-spelled, wanted-spelled, asking-says}
 
 -- a request 06, and the frame that is sent of it, are no exception
 plain : (tags : List Tag) (f : List ℕ) (a v : ℕ) → getD f 7 0 ≡ 6 → excepts 6 (forwarded tags (SingleWrite Registers a v) f .bytes) ≡ false
@@ -73,6 +74,22 @@ echo-comes-back tags asc m same c t f o bytes room six x m′ same′ t′ g o�
       a .says ∙ rw (r, n),
       a .frame ∙ ap (λ (y : Rewritten). over (laid 0 (y .bytes)) o′) r,
     )
+
+mask-by-class : (h : List ℕ) → getD h 7 0 ≡ 22 → askedOf h ≡ MaskWrite (startOf h) (andMaskOf h) (orMaskOf h)
+unfolding askedBy classOf
+mask-by-class h e = rw e
+
+-- The reply to a 22, if it is no exception, is handed on as the 22 itself: as many bytes, equal behind the id, and no tag is counted.
+pub mask-comes-back : (tags : List Tag) (w : What) (f g : List ℕ) → ((k : ℕ) → getD f k 0 < 256) → ((k : ℕ) → getD g k 0 < 256) → misframed f ≡ false → misframed g ≡ false → length g ≡ 14
+    → getD g 7 0 ≡ 22 → w ≡ asking g → answering w f ≡ true → excepts 22 f ≡ false
+    → (length f ≡ length g) × (returned tags w f ≡ withCounts 0 0 f) × ((id : ℕ) → laid id f ≡ laid id g)
+mask-comes-back tags w f g b d m n long named same answers plain =
+    let says = asking-says 0 g in
+    let asks : w .asked ≡ MaskWrite (startOf g) (andMaskOf g) (orMaskOf g) = ap (λ (y : What). y .asked) same ∙ sym (asked-spelled g) ∙ mask-by-class g named in
+    let whole : w ≡ what (unitOf g) 22 (MaskWrite (startOf g) (andMaskOf g) (orMaskOf g)) =
+    same ∙ sym (wanted-spelled g) ∙ rw (mask-by-class g named, named) in
+    let e = mask-echo f g b d m n long named (ap (λ (y : What). answering y f) (sym whole) ∙ answers) plain in
+    (e .0 ∙ sym long, returned-mask tags f w _ _ _ asks, λ id. rw (e .1) refl)
 
 -- A frame's own id laid over it is the frame.
 pub own-id : (f : List ℕ) → ((k : ℕ) → getD f k 0 < 256) → 2 ≤ length f → laid (idOf f) f ≡ f

@@ -16,14 +16,14 @@ use Rattle.pdu.specs.Reads.{isRead, equalReads}
 use Rattle.pdu.proofs.ReadLaws.{read-is, no-read, equal-exact, equal-self, equal-other}
 use Rattle.pdu.specs.declared.Table.{Table}
 use Rattle.pdu.specs.declared.Table.the-variants.{Bits, Registers}
-use Rattle.pdu.specs.declared.Asked.the-variants.{Read, SingleWrite, MultipleWrite, Other}
+use Rattle.pdu.specs.declared.Asked.the-variants.{Read, SingleWrite, MultipleWrite, MaskWrite, ReadWrite, Other}
 use Rattle.book.specs.Book.{Live}
 use Rattle.book.specs.Desk.{Open}
 use Rattle.machine.specs.Machine.{Machine, Note, rules, settings, clocked}
 use Rattle.machine.specs.Requests.{wanted, alike, joins}
 use Rattle.machine.specs.Spelled.{spelled, asking}
 use Rattle.machine.specs.Requested.{MayJoin}
-use Rattle.machine.proofs.SpelledLaws.{asked-spelled, wanted-spelled, kept-as-asked}
+use Rattle.machine.proofs.SpelledLaws.{asked-spelled, wanted-spelled, asking-says, kept-as-asked}
 
 alike-exact : (v : Value) (w u : What) → alike v w u ≡ true → w ≡ u
 unfolding alike
@@ -74,17 +74,20 @@ alike-on v w u t = eqb-true (v .join) 1 (and-left (eqb (v .join) 1) _ t)
 one-of : (n a b : ℕ) → ((eqb n a || eqb n b) ≡ true) ↔ ((n ≡ a) ⊎ (n ≡ b))
 one-of n a b = holds-or (eqb n a) (eqb n b) (holds-eq n a) (holds-eq n b)
 
-unread : (f : List ℕ) → (eqb (getD f 7 0) 1 || eqb (getD f 7 0) 2) ≡ false → (eqb (getD f 7 0) 3 || eqb (getD f 7 0) 4) ≡ false → (t : Table) (s q : ℕ) → asking f .asked ≡ Read t s q → ⊥
+-- What is none of 01 to 04 asks to read nothing.
+pub unread : (f : List ℕ) → (eqb (getD f 7 0) 1 || eqb (getD f 7 0) 2) ≡ false → (eqb (getD f 7 0) 3 || eqb (getD f 7 0) 4) ≡ false → (t : Table) (s q : ℕ) → asking f .asked ≡ Read t s q → ⊥
 unfolding asking spelled
-unread f x y t s q = rw (x, y) (by (eqb (getD f 7 0) 5) (eqb (getD f 7 0) 6) (eqb (getD f 7 0) 15) (eqb (getD f 7 0) 16) _ _)
+unread f x y t s q = rw (x, y) (by (eqb (getD f 7 0) 5) (eqb (getD f 7 0) 6) (eqb (getD f 7 0) 15) (eqb (getD f 7 0) 16) (eqb (getD f 7 0) 22) (eqb (getD f 7 0) 23) _ _ _ _)
   where
-    by : (coil single coils multiple : Bool) (a b : ℕ)
-        → cond coil (SingleWrite Bits a b) (cond single (SingleWrite Registers a b) (cond coils (MultipleWrite Bits a b) (cond multiple (MultipleWrite Registers a b) Other))) ≡ Read t s q → ⊥
-    by true single coils multiple a b e = never (cc)
-    by false true coils multiple a b e = never (cc)
-    by false false true multiple a b e = never (cc)
-    by false false false true a b e = never (cc)
-    by false false false false a b e = never (cc)
+    by : (coil single coils multiple masks both : Bool) (a b c d : ℕ)
+        → cond coil (SingleWrite Bits a b) (cond single (SingleWrite Registers a b) (cond coils (MultipleWrite Bits a b) (cond multiple (MultipleWrite Registers a b) (cond masks (MaskWrite a b c) (cond both (ReadWrite a b c d) Other))))) ≡ Read t s q → ⊥
+    by true single coils multiple masks both a b c d e = never (cc)
+    by false true coils multiple masks both a b c d e = never (cc)
+    by false false true multiple masks both a b c d e = never (cc)
+    by false false false true masks both a b c d e = never (cc)
+    by false false false false true both a b c d e = never (cc)
+    by false false false false false true a b c d e = never (cc)
+    by false false false false false false a b c d e = never (cc)
 
 alike-reads : (v : Value) (f : List ℕ) (u : What) → alike v (wanted f) u ≡ true → ((getD f 7 0 ≡ 1) ⊎ (getD f 7 0 ≡ 2)) ⊎ ((getD f 7 0 ≡ 3) ⊎ (getD f 7 0 ≡ 4))
 alike-reads v f u t =
@@ -94,6 +97,18 @@ alike-reads v f u t =
     (λ (x : (eqb n 1 || eqb n 2) ≡ false). ⊎-elim
     (λ y. inr (one-of n 3 4 .0 y))
     (λ (y : (eqb n 3 || eqb n 4) ≡ false). absurd (true≢false (sym t ∙ joins-other v (wanted f) u (λ r s q e. unread f x y r s q (sym (asked-spelled f) ∙ e)))))
+    (true-or (eqb n 3 || eqb n 4)))
+    (true-or (eqb n 1 || eqb n 2))
+
+-- A frame that asks to read registers is of 03 or 04.
+pub registers-read : (f : List ℕ) {s q : ℕ} → asking f .asked ≡ Read Registers s q → (getD f 7 0 ≡ 3) ⊎ (getD f 7 0 ≡ 4)
+registers-read f {s} {q} e =
+    let n = getD f 7 0 in
+    ⊎-elim
+    (λ (x : (eqb n 1 || eqb n 2) ≡ true). let b = asking-says 0 f .reads-bits (one-of n 1 2 .0 x) in never (cc))
+    (λ (x : (eqb n 1 || eqb n 2) ≡ false). ⊎-elim
+    (λ y. one-of n 3 4 .0 y)
+    (λ (y : (eqb n 3 || eqb n 4) ≡ false). absurd (unread f x y Registers s q e))
     (true-or (eqb n 3 || eqb n 4)))
     (true-or (eqb n 1 || eqb n 2))
 

@@ -19,24 +19,28 @@ use Rattle.rewrite.proofs.LegalLaws.{legal-checked}
 use Rattle.book.specs.Book.{Party}
 use Rattle.machine.specs.Spelled.{asking, AskedBy}
 use Rattle.machine.specs.Closed.{numberAt, Meets}
-use Rattle.machine.specs.Closed.Meets.{coil, coils, register, registers, other}
+use Rattle.machine.specs.Closed.Meets.{coil, coils, register, registers, mask, written-and-read, other}
 use Rattle.machine.proofs.SpelledLaws.{asking-says, wanted-spelled}
 
 module _ {c c′ : ℕ} {g f : List ℕ} {p p′ : Party} {w r : What} (a : AskedBy c g p w) (b : AskedBy c′ f p′ r) where
-  -- 05, 06, 15 and 16 by their ranges, and "other"
+  -- 05, 06, 15, 16, 22 and 23 by their ranges, and "other"
   met-in-bytes : (t : Table) → Reading t (getD f 7 0) → Neither (getD g 7 0) ⊎ (Writing t (getD g 7 0) × Common (w .asked) (r .asked)) → Meets g f
   met-in-bytes Bits h (inl n) = other n (inl h)
   met-in-bytes Bits h (inr (inl e, (x, i, j))) = coil e h (rw (rw (a .writes-coil e) at i) at (rw (b .reads-bits h) at j))
   met-in-bytes Bits h (inr (inr e, (x, i, j))) = coils e h x (rw (a .writes-coils e) at i) (rw (b .reads-bits h) at j)
   met-in-bytes Registers h (inl n) = other n (inr h)
   met-in-bytes Registers h (inr (inl e, (x, i, j))) = register e h (rw (rw (a .writes-one e) at i) at (rw (b .reads h) at j))
-  met-in-bytes Registers h (inr (inr e, (x, i, j))) = registers e h x (rw (a .writes-many e) at i) (rw (b .reads h) at j)
+  met-in-bytes Registers h (inr (inr (inl e), (x, i, j))) = registers e h x (rw (a .writes-many e) at i) (rw (b .reads h) at j)
+  met-in-bytes Registers h (inr (inr (inr (inl e)), (x, i, j))) = mask e h (rw (rw (a .masks e) at i) at (rw (b .reads h) at j))
+  met-in-bytes Registers h (inr (inr (inr (inr e)), (x, i, j))) = written-and-read e h x (rw (a .reads-and-writes e) at i) (rw (b .reads h) at j)
 
   bytes-met : Meets g f → (t : Table) × Reading t (getD f 7 0) × (Neither (getD g 7 0) ⊎ (Writing t (getD g 7 0) × Common (w .asked) (r .asked)))
   bytes-met (coil e h j) = (Bits, h, inr (inl e, (numberAt g 8, rw (a .writes-coil e) refl, rw (b .reads-bits h) j)))
   bytes-met (coils e h x i j) = (Bits, h, inr (inr e, (x, rw (a .writes-coils e) i, rw (b .reads-bits h) j)))
   bytes-met (register e h j) = (Registers, h, inr (inl e, (numberAt g 8, rw (a .writes-one e) refl, rw (b .reads h) j)))
-  bytes-met (registers e h x i j) = (Registers, h, inr (inr e, (x, rw (a .writes-many e) i, rw (b .reads h) j)))
+  bytes-met (registers e h x i j) = (Registers, h, inr (inr (inl e), (x, rw (a .writes-many e) i, rw (b .reads h) j)))
+  bytes-met (mask e h j) = (Registers, h, inr (inr (inr (inl e)), (numberAt g 8, rw (a .masks e) refl, rw (b .reads h) j)))
+  bytes-met (written-and-read e h x i j) = (Registers, h, inr (inr (inr (inr e)), (x, rw (a .reads-and-writes e) i, rw (b .reads h) j)))
   bytes-met (other n (inl h)) = (Bits, h, inl n)
   bytes-met (other n (inr h)) = (Registers, h, inl n)
 

@@ -11,12 +11,10 @@ use Rattle.bcd.specs.Words.{numberOf}
 use Rattle.settings.specs.Grammar.{Tag}
 use Rattle.settings.specs.TagWords.{kindOf, Ascending}
 use Rattle.pdu.specs.Replies.{excepts}
-use Rattle.pdu.specs.declared.Table.the-variants.{Registers}
-use Rattle.pdu.specs.declared.Asked.the-variants.{Read}
 use Rattle.rewrite.specs.declared.Way.the-variants.{ToBcd, ToBinary}
 use Rattle.rewrite.specs.Registers.{registersAt}
 use Rattle.rewrite.specs.Rewriting.{ownIn, rewriting}
-use Rattle.rewrite.specs.Plain.{Whole}
+use Rattle.rewrite.specs.Plain.{Brings, Whole}
 use Rattle.rewrite.specs.Strict.{Carries}
 use Rattle.rewrite.proofs.ReadBack.{read-back-frames}
 use Rattle.machine.specs.Machine.{Machine, settings}
@@ -39,7 +37,7 @@ pub comes-back : (tags : List Tag) → Ascending 0 tags → (tag : Tag) → List
     → (base s q : ℕ) → Carries (asking f .asked) base s q → Whole s q tag → inRange (kindOf tag) (numberOf (ownIn s (registersAt base q f) tag)) ≡ true
     → (m′ : Machine) → settings m′ .tags ≡ tags → (t′ : ℕ) (g o′ l : List ℕ) → ((k : ℕ) → getD g k 0 < 256)
     → (a : Answers m′ g o′ l (outcome m′ (reply t′ g o′ l))) → excepts (a .entry .what .function) g ≡ false
-    → (s′ q′ : ℕ) → a .entry .what .asked ≡ Read Registers s′ q′ → Whole s′ q′ tag
+    → (s′ q′ : ℕ) → Brings (a .entry .what .asked) s′ q′ → Whole s′ q′ tag
     → ownIn s′ (registersAt 9 q′ g) tag ≡ ownIn s (registersAt base q (outcome m (request c t f o) .written)) tag
     → ownIn s′ (registersAt 9 q′ (outcome m′ (reply t′ g o′ l) .written)) tag ≡ ownIn s (registersAt base q f) tag
 comes-back tags asc tag mem m same c t f o bytes x base s q carries whole range m′ same′ t′ g o′ l bytes′ a plain s′ q′ reads whole′ stored =
@@ -50,4 +48,4 @@ comes-back tags asc tag mem m same c t f o bytes x base s q carries whole range 
     let r′ : registersAt 9 q′ (outcome m′ (reply t′ g o′ l) .written) ≡ registersAt 9 q′ (rewriting ToBinary 9 s′ q′ tags g .bytes) =
     registers-ext 9 q′ _ _ (back .registers) ∙ ap (λ (y : List Tag). registersAt 9 q′ (rewriting ToBinary 9 s′ q′ y g .bytes)) same′ in
     ap (λ (y : List ℕ). ownIn s′ y tag) r′
-    ∙ read-back-frames tags asc tag mem base s q f bytes (sent .inside) whole range 9 s′ q′ g bytes′ (back .inside) whole′ (stored ∙ ap (λ (y : List ℕ). ownIn s y tag) r)
+    ∙ read-back-frames tags asc tag mem base s q f bytes (omega (arith, sent .inside)) whole range 9 s′ q′ g bytes′ (omega (arith, back .inside)) whole′ (stored ∙ ap (λ (y : List ℕ). ownIn s y tag) r)

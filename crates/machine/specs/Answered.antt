@@ -11,9 +11,7 @@ use Rattle.numbers.specs.Numbers.{noResponse, frameBuffer, listBuffer}
 use Rattle.laws.specs.Bytes.{over}
 use Rattle.wire.specs.Frame.{idOf, laid, exception}
 use Rattle.pdu.specs.Replies.{What, answering, excepts}
-use Rattle.pdu.specs.declared.Table.the-variants.{Registers}
-use Rattle.pdu.specs.declared.Asked.the-variants.{Read}
-use Rattle.rewrite.specs.Plain.{Rewrites}
+use Rattle.rewrite.specs.Plain.{Brings, Rewrites}
 use Rattle.rewrite.specs.Frames.{returned}
 use Rattle.rewrite.specs.declared.Way.the-variants.{ToBinary}
 use Rattle.book.specs.Book.{Live, at, book}
@@ -33,8 +31,8 @@ pub record Answers (m : Machine) (f o l : List ℕ) (d : Outcome) : Type 0 where
   pub gone : at (d .after .book) place ≡ none
   pub says : d .says ≡ answer.Answered (record { 0 = entry .id }) (length f) (length (entry .parties)) (returned (settings m .tags) (entry .what) f .partial) (returned (settings m .tags) (entry .what) f .value)
   pub frame : d .written ≡ over (laid 0 (returned (settings m .tags) (entry .what) f .bytes)) o
-  -- of a reply to a read of registers that is no exception: every register, turned to binary by its tag or as it came, and what the counts are
-  pub rewritten : (s q : ℕ) → entry .what .asked ≡ Read Registers s q → excepts (entry .what .function) f ≡ false
+  -- of a reply that brings registers: every register, turned to binary by its tag or as it came, and what the counts are
+  pub rewritten : (s q : ℕ) → Brings (entry .what .asked) s q → excepts (entry .what .function) f ≡ false
       → Rewrites ToBinary (settings m .tags) f (d .written) (returned (settings m .tags) (entry .what) f .partial) (returned (settings m .tags) (entry .what) f .value) 9 s q
   pub list : d .listed ≡ over (pairs (entry .parties)) l
 

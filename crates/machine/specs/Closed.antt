@@ -56,6 +56,10 @@ numberAt f k = 256 * getD f k 0 + getD f (k + 1) 0
 abbrev pub AsksFor : List ℕ → ℕ → Type 0
 AsksFor f x = (numberAt f 8 ≤ x) × (x < numberAt f 8 + numberAt f 10)
 
+-- the address x is one of those that a frame of 23 writes, as many as the number at byte 14 says from the one at byte 12 on
+abbrev pub WritesTo : List ℕ → ℕ → Type 0
+WritesTo f x = (numberAt f 12 ≤ x) × (x < numberAt f 12 + numberAt f 14)
+
 -- byte 7 says that a frame reads coils or discrete inputs; that it reads registers
 abbrev pub ReadsBits : List ℕ → Type 0
 ReadsBits f = (getD f 7 0 ≡ 1) ⊎ (getD f 7 0 ≡ 2)
@@ -67,13 +71,15 @@ ReadsRegisters f = (getD f 7 0 ≡ 3) ⊎ (getD f 7 0 ≡ 4)
 abbrev pub IsOther : List ℕ → Type 0
 IsOther g =
     (getD g 7 0 ≡ 1 → ⊥) × (getD g 7 0 ≡ 2 → ⊥) × (getD g 7 0 ≡ 3 → ⊥) × (getD g 7 0 ≡ 4 → ⊥) × (getD g 7 0 ≡ 5 → ⊥) × (getD g 7 0 ≡ 6 → ⊥) × (getD g 7 0 ≡ 15 → ⊥)
-    × (getD g 7 0 ≡ 16 → ⊥)
+    × (getD g 7 0 ≡ 16 → ⊥) × (getD g 7 0 ≡ 22 → ⊥) × (getD g 7 0 ≡ 23 → ⊥)
 
--- what the frame g, once it is issued, makes of the read f: 05 and 15 meet reads of bits, 06 and 16 reads of registers, if some address is in both; any other function but the reads meets
--- every read
+-- what the frame g, once it is issued, makes of the read f: 05 and 15 meet reads of bits, 06, 16 and 22 reads of registers, if some address is in both; 23 those that read an address that it
+-- writes; any other function but the reads meets every read
 pub data Meets (g f : List ℕ) : Type 0 where
   coil : getD g 7 0 ≡ 5 → ReadsBits f → AsksFor f (numberAt g 8) → Meets g f
   coils : getD g 7 0 ≡ 15 → ReadsBits f → (x : ℕ) → AsksFor g x → AsksFor f x → Meets g f
   register : getD g 7 0 ≡ 6 → ReadsRegisters f → AsksFor f (numberAt g 8) → Meets g f
   registers : getD g 7 0 ≡ 16 → ReadsRegisters f → (x : ℕ) → AsksFor g x → AsksFor f x → Meets g f
+  mask : getD g 7 0 ≡ 22 → ReadsRegisters f → AsksFor f (numberAt g 8) → Meets g f
+  written-and-read : getD g 7 0 ≡ 23 → ReadsRegisters f → (x : ℕ) → WritesTo g x → AsksFor f x → Meets g f
   other : IsOther g → ReadsBits f ⊎ ReadsRegisters f → Meets g f

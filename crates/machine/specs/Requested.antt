@@ -125,7 +125,7 @@ pub record Joins (m : Machine) (c t : ℕ) (f o : List ℕ) (d : Outcome) : Type
   pub attached : d .after .attached ≡ m .attached
   pub rule : settings (d .after) ≡ settings m
 
--- A request that gets an exception: 02 or 03, which the check of its bytes and of strict tags gives, or 04.
+-- A request that gets an exception: 02 or 03, which the check of its bytes and of the tags gives, or 04.
 pub record Excepts (m : Machine) (t : ℕ) (f o : List ℕ) (d : Outcome) : Type 0 where
   pub code : ℕ
   pub codes : (code ≡ 2) ⊎ ((code ≡ 3) ⊎ (code ≡ 4))

@@ -1,4 +1,4 @@
--- A request that was not refused: the exceptions 03 and 02, exception 03 of a strict tag, a hit, joining, issuing, and exception 04, in the documents' order.
+-- A request that was not refused: the exceptions 03 and 02, exception 03 of a tag, a hit, joining, issuing, and exception 04, in the documents' order.
 -- Assumes nothing.
 use Prim.Native.Nat.{ℕ, _+_}
 use mathlib.Core.Bool.{Bool, cond, not, _&&_, _||_}
@@ -98,7 +98,7 @@ missed m c f o =
 unfoldable pub served : Machine → ℕ → List ℕ → List ℕ → Outcome
 served m c f o = cond (hits m f) (hitOn m f o (inCache (m .cache) (hittingPlace m f))) (missed m c f o)
 
--- after the refusals: the clock is set, then exception 03, exception 02, exception 03 where a strict tag forbids the write, and what a legal request comes to
+-- after the refusals: the clock is set, then exception 03, exception 02, exception 03 where a tag forbids it, and what a legal request comes to
 unfoldable pub admitted : Machine → ℕ → ℕ → List ℕ → List ℕ → Outcome
 admitted m c t f o =
     cond (eqb (faultUnder (settings m .tags) f) 0) (served (clocked m t) c f o)

@@ -1,7 +1,7 @@
 -- The sizes, bounds and codes of the documents, number by number.
 -- Assumes nothing.
 use mathlib.Core.Path.{_≡_}
-use Rattle.numbers.specs.Numbers.{clients, places, room, partyPlaces, mostTags, leastTimeout, mostTimeout, usualTimeout, latestTime, leastFrame, mostFrame, frameBuffer, listBuffer, cachePlaces, cacheNumbers, cacheBytes, ids, addresses, distance, uncounted, unitAt, headerSize, leastLength, mostLength, readCoils, readDiscrete, readHolding, readInput, writeCoil, writeSingle, writeCoils, writeMultiple, lastFunction, mostRead, mostWritten, mostBitsRead, mostBitsWritten, coilOff, coilOn, shortPdu, multiplePdu, exceptionPdu, exceptionBit, illegalAddress, illegalValue, deviceFailure, noResponse, exceptionLength, exceptionFrame, digitsPerRegister, signedDigits, minus, mostTtl, newestVersion, mostText}
+use Rattle.numbers.specs.Numbers.{clients, places, room, partyPlaces, mostTags, leastTimeout, mostTimeout, usualTimeout, latestTime, leastFrame, mostFrame, frameBuffer, listBuffer, cachePlaces, cacheNumbers, cacheBytes, ids, addresses, distance, uncounted, unitAt, headerSize, leastLength, mostLength, readCoils, readDiscrete, readHolding, readInput, writeCoil, writeSingle, writeCoils, writeMultiple, maskWrite, readWrite, lastFunction, mostRead, mostWritten, mostReadWritten, mostBitsRead, mostBitsWritten, coilOff, coilOn, shortPdu, multiplePdu, maskPdu, readWritePdu, exceptionPdu, exceptionBit, illegalAddress, illegalValue, deviceFailure, noResponse, exceptionLength, exceptionFrame, digitsPerRegister, signedDigits, minus, mostTtl, newestVersion, mostText}
 
 -- the numbers, in the documents' order
 pub record Documents : Type 0 where
@@ -50,6 +50,12 @@ pub record Documents : Type 0 where
   pub bits-written-are-at-most : mostBitsWritten ≡ 1968
   pub off-is : coilOff ≡ 0x0000
   pub on-is : coilOn ≡ 0xff00
+  -- #109: 22 and 23; 121 registers written by 23; PDU lengths 7, and 10 before the bytes of 23
+  pub a-register-is-masked-by : maskWrite ≡ 22
+  pub registers-are-written-and-read-by : readWrite ≡ 23
+  pub registers-written-and-read-are-at-most : mostReadWritten ≡ 121
+  pub mask-pdu-is : maskPdu ≡ 7
+  pub read-write-pdu-is : readWritePdu ≡ 10
   -- PDU lengths: 5, and 6 before the bytes of 15 and 16; 2 for an exception reply
   pub short-pdu-is : shortPdu ≡ 5
   pub multiple-pdu-is : multiplePdu ≡ 6

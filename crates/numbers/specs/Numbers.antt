@@ -108,6 +108,13 @@ writeCoils = 15
 abbrev pub writeMultiple : ℕ
 writeMultiple = 16
 
+-- request #109: one register written by masks, and registers written and read together
+abbrev pub maskWrite : ℕ
+maskWrite = 22
+
+abbrev pub readWrite : ℕ
+readWrite = 23
+
 abbrev pub lastFunction : ℕ
 lastFunction = 127
 
@@ -116,6 +123,10 @@ mostRead = 125
 
 abbrev pub mostWritten : ℕ
 mostWritten = 123
+
+-- the most that 23 writes; it reads as many as 03
+abbrev pub mostReadWritten : ℕ
+mostReadWritten = 121
 
 abbrev pub mostBitsRead : ℕ
 mostBitsRead = 2000
@@ -130,12 +141,18 @@ coilOff = 0
 abbrev pub coilOn : ℕ
 coilOn = 65280
 
--- PDU lengths: of 01 to 06, and of 15 and 16 before their bits and registers; of an exception
+-- PDU lengths: of 01 to 06, and of 15 and 16 before their bits and registers; of 22, and of 23 before its registers; of an exception
 abbrev pub shortPdu : ℕ
 shortPdu = 5
 
 abbrev pub multiplePdu : ℕ
 multiplePdu = 6
+
+abbrev pub maskPdu : ℕ
+maskPdu = 7
+
+abbrev pub readWritePdu : ℕ
+readWritePdu = 10
 
 abbrev pub exceptionPdu : ℕ
 exceptionPdu = 2

@@ -61,11 +61,17 @@ pub const WRITE_COILS: u8 = 15;
 
 pub const WRITE_MULTIPLE: u8 = 16;
 
+pub const MASK_WRITE: u8 = 22;
+
+pub const READ_WRITE: u8 = 23;
+
 pub const LAST_FUNCTION: u8 = 127;
 
 pub const MOST_READ: u16 = 125;
 
 pub const MOST_WRITTEN: u16 = 123;
+
+pub const MOST_READ_WRITTEN: u16 = 121;
 
 pub const MOST_BITS_READ: u16 = 2000;
 
@@ -78,6 +84,10 @@ pub const COIL_ON: u16 = 65280;
 pub const SHORT_PDU: usize = 5;
 
 pub const MULTIPLE_PDU: usize = 6;
+
+pub const MASK_PDU: usize = 7;
+
+pub const READ_WRITE_PDU: usize = 10;
 
 pub const EXCEPTION_PDU: usize = 2;
 

@@ -1,4 +1,5 @@
 // What a frame's payload becomes: a request's on its way to the controller, a reply's on its way back.
+pub mod carrying;
 pub mod registers;
 pub mod strict;
 
@@ -7,41 +8,20 @@ ghost use mathlib.Core.Bool.{false};
 ghost use Prim.Native.Nat.{ℕ};
 ghost use Rattle.pdu.specs.Replies.{what, excepts};
 ghost use Rattle.rewrite.specs.Rewriting.{withCounts};
-ghost use Rattle.rewrite.specs.Frames.{singleBase, passing, forwarded, returnedBy, returned, under};
+ghost use Rattle.rewrite.specs.declared.Way.the-variants.{ToBinary};
+ghost use Rattle.rewrite.specs.Frames.{readBase, singleBase, passing, forwarded, returnedBy, returned, under};
 ghost use Rattle.rewrite.specs.inner.Lent.{tagsOf, TagWords, Run, RunOf, Sent, Brought, Framed};
+use crate::carrying::Carried;
+use crate::carrying::SINGLE_BASE;
+use crate::carrying::carried_by;
 use pdu::Asked;
 use pdu::ProxyId;
 use pdu::Table;
 use rewrite::Raw;
 use rewrite::Way;
 
-// The bytes at which registers begin: specs/Frames.antt of rewrite has each under the same name.
+// The byte at which the registers of a reply to 03, 04 and 23 begin: specs/Frames.antt of rewrite has it under the same name.
 const READ_BASE: usize = 9;
-
-const SINGLE_BASE: usize = 10;
-
-const MULTIPLE_BASE: usize = 13;
-
-// What a frame carries from byte base on: registers are rewritten in place, bits pass as they are.
-fn pass(
-    frame: &mut [u8],
-    table: Table,
-    base: usize,
-    start: u16,
-    quantity: u16,
-    way: Way,
-    words: &[u64; numbers::MOST_TAGS],
-    count: usize,
-) -> Raw
-    requires { ⌜ RunOf table base start quantity (now frame) ⌝ }
-    requires { ⌜ TagWords count (now words) ⌝ }
-    ensures { λ r. ⌜ withCounts (r .partial) (r .value) (now (frame .exit)) ≡ passing table way base start quantity (tagsOf count (now (words .entry))) (now (frame .entry)) ⌝ }
-{
-    match table {
-        Table::Bits => rewrite::NOT_RAW,
-        Table::Registers => registers::rewrite(frame, base, start, quantity, way, words, count),
-    }
-}
 
 // A request's registers to BCD, in its own frame.
 fn send(frame: &mut [u8], asked: Asked, words: &[u64; numbers::MOST_TAGS], count: usize) -> Raw
@@ -49,33 +29,36 @@ fn send(frame: &mut [u8], asked: Asked, words: &[u64; numbers::MOST_TAGS], count
     requires { ⌜ TagWords count (now words) ⌝ }
     ensures { λ r. ⌜ withCounts (r .partial) (r .value) (now (frame .exit)) ≡ forwarded (tagsOf count (now (words .entry))) asked (now (frame .entry)) ⌝ }
 {
-    let way = Way::ToBcd;
-    match asked {
-        Asked::SingleWrite {
-            table,
-            address,
-            value: _,
-        } => pass(frame, table, SINGLE_BASE, address, 1, way, words, count),
-        Asked::MultipleWrite {
-            table,
+    match carried_by(asked) {
+        Carried::Nothing => rewrite::NOT_RAW,
+        Carried::Mask(_) => rewrite::NOT_RAW,
+        Carried::Run {
+            base,
             start,
             quantity,
-        } => pass(
-            frame,
-            table,
-            MULTIPLE_BASE,
-            start,
-            quantity,
-            way,
-            words,
-            count,
-        ),
-        Asked::Read {
-            table: _,
-            start: _,
-            quantity: _,
-        } => rewrite::NOT_RAW,
-        Asked::Other => rewrite::NOT_RAW,
+        } => registers::rewrite(frame, base, start, quantity, Way::ToBcd, words, count),
+    }
+}
+
+// The registers that a reply brings from byte 9 on, to binary, in its own frame; bits pass as they are.
+fn bring_read(
+    frame: &mut [u8],
+    table: Table,
+    start: u16,
+    quantity: u16,
+    words: &[u64; numbers::MOST_TAGS],
+    count: usize,
+) -> Raw
+    requires { ⌜ RunOf table readBase start quantity (now frame) ⌝ }
+    requires { ⌜ TagWords count (now words) ⌝ }
+    ensures { λ r. ⌜ withCounts (r .partial) (r .value) (now (frame .exit)) ≡ passing table ToBinary readBase start quantity (tagsOf count (now (words .entry))) (now (frame .entry)) ⌝ }
+{
+    let way = Way::ToBinary;
+    match table {
+        Table::Bits => rewrite::NOT_RAW,
+        Table::Registers => {
+            registers::rewrite(frame, READ_BASE, start, quantity, way, words, count)
+        }
     }
 }
 
@@ -117,16 +100,7 @@ fn bring(
             table,
             start,
             quantity,
-        } => pass(
-            frame,
-            table,
-            READ_BASE,
-            start,
-            quantity,
-            Way::ToBinary,
-            words,
-            count,
-        ),
+        } => bring_read(frame, table, start, quantity, words, count),
         Asked::SingleWrite {
             table,
             address,
@@ -135,10 +109,21 @@ fn bring(
             Table::Bits => rewrite::NOT_RAW,
             Table::Registers => bring_echo(frame, address, value, words, count),
         },
+        Asked::ReadWrite {
+            start,
+            quantity,
+            write_start: _,
+            write_quantity: _,
+        } => bring_read(frame, Table::Registers, start, quantity, words, count),
         Asked::MultipleWrite {
             table: _,
             start: _,
             quantity: _,
+        } => rewrite::NOT_RAW,
+        Asked::MaskWrite {
+            address: _,
+            and_mask: _,
+            or_mask: _,
         } => rewrite::NOT_RAW,
         Asked::Other => rewrite::NOT_RAW,
     }

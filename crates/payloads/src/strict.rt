@@ -1,4 +1,4 @@
-// Whether a strict tag forbids what a request writes, before any of it is rewritten.
+// Whether a tag forbids what a request writes or masks, before any of it is rewritten.
 ghost use mathlib.Core.Path.{_≡_};
 ghost use mathlib.Core.Bool.{false};
 ghost use Prim.Native.Nat.{_+_, _*_, _≤_, _<_};
@@ -7,15 +7,15 @@ ghost use Rattle.bcd.specs.Bcd.{registers};
 ghost use Rattle.bcd.specs.Words.{numberOf};
 ghost use Rattle.settings.specs.TagWords.{tagOf, strictMark, someStrict};
 ghost use Rattle.rewrite.specs.Registers.{registersAt};
-ghost use Rattle.rewrite.specs.Legal.{staysRaw, forbids, someForbids, forbidden};
-ghost use Rattle.rewrite.specs.inner.Lent.{tagsOf, TagWords, Run, RunOf, Sent};
-ghost use Rattle.payloads.specs.inner.TagSteps.{forbidsIn};
+ghost use Rattle.rewrite.specs.Legal.{staysRaw, forbids, someForbids, someHas, forbidden};
+ghost use Rattle.rewrite.specs.inner.Lent.{tagsOf, TagWords, Run, Sent};
+use crate::carrying::Carried;
+use crate::carrying::carried_by;
 use crate::registers::WORDS;
 use crate::registers::first_tag;
 use crate::registers::register_at;
 use bcd::Kind;
 use pdu::Asked;
-use pdu::Table;
 use values::tagwords::STRICT_MARK;
 use values::tagwords::tag_address;
 use values::tagwords::tag_is_strict;
@@ -89,27 +89,20 @@ fn some_forbids(
     false
 }
 
-// What a write carries from byte base on: bits are never forbidden.
-fn run_forbids(
-    frame: &[u8],
-    table: Table,
-    base: usize,
-    start: u16,
-    quantity: u16,
-    words: &[u64; numbers::MOST_TAGS],
-    count: usize,
-) -> bool
-    requires { ⌜ RunOf table base start quantity (now frame) ⌝ }
+// Whether a tag has the register of the address: of tags that ascend only the first that does not end before it can.
+fn has_tag(words: &[u64; numbers::MOST_TAGS], count: usize, address: u16) -> bool
     requires { ⌜ TagWords count (now words) ⌝ }
-    ensures { λ r. ⌜ r ≡ forbidsIn table start (registersAt base quantity (now (frame .entry))) (tagsOf count (now (words .entry))) ⌝ }
+    ensures { λ r. ⌜ r ≡ someHas address (tagsOf count (now (words .entry))) ⌝ }
 {
-    match table {
-        Table::Bits => false,
-        Table::Registers => some_forbids(frame, base, start, quantity, words, count),
+    let i = first_tag(words, count, address as usize);
+    if count <= i {
+        return false;
     }
+    let word = words[i];
+    tag_address(word) <= address
 }
 
-// Whether a strict tag forbids the request; where the first word has no mark, no tag is strict.
+// Whether a tag forbids the request: any tag a mask of its register, a strict one what is written; where the first word has no mark, no tag is strict.
 pub fn is_forbidden(
     frame: &[u8],
     asked: Asked,
@@ -121,33 +114,18 @@ pub fn is_forbidden(
     requires { ⌜ (getD (now words) 0 0 < strictMark → someStrict (tagsOf count (now words)) ≡ false) ⌝ }
     ensures { λ r. ⌜ r ≡ forbidden (tagsOf count (now (words .entry))) asked (now (frame .entry)) ⌝ }
 {
-    if words[0] < STRICT_MARK {
-        return false;
-    }
-    match asked {
-        Asked::SingleWrite {
-            table,
-            address,
-            value: _,
-        } => run_forbids(frame, table, crate::SINGLE_BASE, address, 1, words, count),
-        Asked::MultipleWrite {
-            table,
+    match carried_by(asked) {
+        Carried::Nothing => false,
+        Carried::Mask(address) => has_tag(words, count, address),
+        Carried::Run {
+            base,
             start,
             quantity,
-        } => run_forbids(
-            frame,
-            table,
-            crate::MULTIPLE_BASE,
-            start,
-            quantity,
-            words,
-            count,
-        ),
-        Asked::Read {
-            table: _,
-            start: _,
-            quantity: _,
-        } => false,
-        Asked::Other => false,
+        } => {
+            if words[0] < STRICT_MARK {
+                return false;
+            }
+            some_forbids(frame, base, start, quantity, words, count)
+        }
     }
 }

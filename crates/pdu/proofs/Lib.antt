@@ -3,3 +3,4 @@ pub mod ReplyLaws
 pub mod WordLaws
 pub mod SpoilingLaws
 pub mod ReadLaws
+pub mod MaskLaws

@@ -16,11 +16,11 @@ use Rattle.pdu.specs.Spoiling.{sameTable}
 use Rattle.pdu.specs.Reads.{isRead, sameRead, equalReads}
 use Rattle.pdu.specs.Words.{askedFrom, whatOf}
 use Rattle.pdu.specs.declared.Class.{Class}
-use Rattle.pdu.specs.declared.Class.the-variants.{Reads, WritesOne, WritesMany, Others}
+use Rattle.pdu.specs.declared.Class.the-variants.{Reads, WritesOne, WritesMany, Masks, ReadsWrites, Others}
 use Rattle.pdu.specs.declared.Table.{Table}
 use Rattle.pdu.specs.declared.Table.the-variants.{Bits, Registers}
 use Rattle.pdu.specs.declared.Asked.{Asked}
-use Rattle.pdu.specs.declared.Asked.the-variants.{Read, SingleWrite, MultipleWrite, Other}
+use Rattle.pdu.specs.declared.Asked.the-variants.{Read, SingleWrite, MultipleWrite, MaskWrite, ReadWrite, Other}
 use Rattle.pdu.proofs.SpoilingLaws.{same-table, class-exact}
 
 -- What is a read reads so many from some start on, of bits or of registers.
@@ -29,6 +29,8 @@ unfolding isRead
 read-is (Read t s q) e = (t, s, q, refl)
 read-is (SingleWrite t a v) e = absurd (false≢true e)
 read-is (MultipleWrite t s q) e = absurd (false≢true e)
+read-is (MaskWrite a x y) e = absurd (false≢true e)
+read-is (ReadWrite s q u p) e = absurd (false≢true e)
 read-is Other e = absurd (false≢true e)
 
 -- What is no read reads nothing.
@@ -43,6 +45,8 @@ read-class-exact (Reads Bits) n = (λ e. inl refl, λ w. refl)
 read-class-exact (Reads Registers) n = (λ e. inr refl, λ w. refl)
 read-class-exact (WritesOne t) n = (λ e. absurd (false≢true e), λ w. ⊎-elim (λ z. never (cc)) (λ z. never (cc)) w)
 read-class-exact (WritesMany t) n = (λ e. absurd (false≢true e), λ w. ⊎-elim (λ z. never (cc)) (λ z. never (cc)) w)
+read-class-exact Masks n = (λ e. absurd (false≢true e), λ w. ⊎-elim (λ z. never (cc)) (λ z. never (cc)) w)
+read-class-exact ReadsWrites n = (λ e. absurd (false≢true e), λ w. ⊎-elim (λ z. never (cc)) (λ z. never (cc)) w)
 read-class-exact Others n = (λ e. absurd (false≢true e), λ w. ⊎-elim (λ z. never (cc)) (λ z. never (cc)) w)
 
 -- A word is that of a read exactly where its function is 01, 02, 03 or 04.
@@ -65,9 +69,13 @@ same-read (Read t s q) (Read r u p) e =
     rw (x .0, x .1 .0, x .1 .1)
 same-read (Read t s q) (SingleWrite r a v) e = absurd (false≢true e)
 same-read (Read t s q) (MultipleWrite r u p) e = absurd (false≢true e)
+same-read (Read t s q) (MaskWrite a x y) e = absurd (false≢true e)
+same-read (Read t s q) (ReadWrite v n u p) e = absurd (false≢true e)
 same-read (Read t s q) Other e = absurd (false≢true e)
 same-read (SingleWrite t a v) b e = absurd (false≢true e)
 same-read (MultipleWrite t s q) b e = absurd (false≢true e)
+same-read (MaskWrite a x y) b e = absurd (false≢true e)
+same-read (ReadWrite v n u p) b e = absurd (false≢true e)
 same-read Other b e = absurd (false≢true e)
 
 -- Equal reads ask the same.
@@ -90,6 +98,8 @@ unfolding sameRead
 reads-other (Read t s q) b other = absurd (other t s q refl)
 reads-other (SingleWrite t a v) b other = refl
 reads-other (MultipleWrite t s q) b other = refl
+reads-other (MaskWrite a x y) b other = refl
+reads-other (ReadWrite v n u p) b other = refl
 reads-other Other b other = refl
 
 -- What is no read is equal to nothing.
@@ -103,6 +113,8 @@ unfolding askedBy badValue badAddress
 fault-by (Reads r) f g t s q a e = let x : startOf f ≡ startOf g = cc in let y : quantityOf f ≡ quantityOf g = cc in rw (x, y)
 fault-by (WritesOne r) f g t s q a e = never (cc)
 fault-by (WritesMany r) f g t s q a e = never (cc)
+fault-by Masks f g t s q a e = never (cc)
+fault-by ReadsWrites f g t s q a e = never (cc)
 fault-by Others f g t s q a e = never (cc)
 
 pub equal-fault : (f g : List ℕ) (t : Table) (s q : ℕ) → functionOf f ≡ functionOf g → askedOf f ≡ askedOf g → askedOf f ≡ Read t s q → faultOf f ≡ faultOf g

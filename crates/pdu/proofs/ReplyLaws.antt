@@ -8,15 +8,15 @@ use mathlib.Core.List.{List}
 use native.Mathlib.Omega.{arith}
 use lib.ListN.{length}
 use lib.Dec.{eqb}
-use Rattle.numbers.specs.Numbers.{lastFunction, shortPdu}
+use Rattle.numbers.specs.Numbers.{lastFunction, shortPdu, maskPdu}
 use Rattle.wire.specs.Frame.{unitOf, functionOf, pduSize, exception}
 use Rattle.wire.proofs.FrameLaws.{exception-function}
-use Rattle.pdu.specs.Requests.{startOf, quantityOf, bytesFor}
+use Rattle.pdu.specs.Requests.{startOf, quantityOf, andMaskOf, orMaskOf, bytesFor}
 use Rattle.pdu.specs.Replies.{What, replyCountOf, shaped, excepts, answering}
 use Rattle.pdu.specs.Words.{Proper}
 use Rattle.pdu.specs.declared.Table.the-variants.{Bits, Registers}
 use Rattle.pdu.specs.declared.Asked.{Asked}
-use Rattle.pdu.specs.declared.Asked.the-variants.{Read, SingleWrite, MultipleWrite, Other}
+use Rattle.pdu.specs.declared.Asked.the-variants.{Read, SingleWrite, MultipleWrite, MaskWrite, ReadWrite, Other}
 use Rattle.laws.proofs.TestLaws.{holds-eq, holds-and, holds-or, holds-always}
 use Rattle.pdu.specs.Plain.{Exception, Shaped}
 use Rattle.pdu.proofs.RequestLaws.{known}
@@ -31,15 +31,21 @@ short-two a b f =
     holds-and (eqb (pduSize f) shortPdu) (eqb (startOf f) a && eqb (quantityOf f) b) (holds-eq (pduSize f) shortPdu)
     (holds-and (eqb (startOf f) a) (eqb (quantityOf f) b) (holds-eq (startOf f) a) (holds-eq (quantityOf f) b))
 
+-- a PDU of n bytes behind its function and its byte count n
+counted : (n : ℕ) (f : List ℕ) → (eqb (replyCountOf f) n && eqb (pduSize f) (2 + n) ≡ true) ↔ ((replyCountOf f ≡ n) × (pduSize f ≡ 2 + n))
+counted n f = holds-and (eqb (replyCountOf f) n) (eqb (pduSize f) (2 + n)) (holds-eq (replyCountOf f) n) (holds-eq (pduSize f) (2 + n))
+
 -- A reply is shaped exactly as what was asked calls for.
 pub shaped-exact : (a : Asked) (f : List ℕ) → (shaped a f ≡ true) ↔ Shaped a f
 unfolding shaped
-shaped-exact (Read t s q) f =
-    let n = bytesFor t q in
-    holds-and (eqb (replyCountOf f) n) (eqb (pduSize f) (2 + n)) (holds-eq (replyCountOf f) n) (holds-eq (pduSize f) (2 + n))
+shaped-exact (Read t s q) f = counted (bytesFor t q) f
 shaped-exact (SingleWrite Bits a v) f = short-two a v f
 shaped-exact (SingleWrite Registers a v) f = holds-and (eqb (pduSize f) shortPdu) (eqb (startOf f) a) (holds-eq (pduSize f) shortPdu) (holds-eq (startOf f) a)
 shaped-exact (MultipleWrite t s q) f = short-two s q f
+shaped-exact (MaskWrite a x y) f =
+    holds-and (eqb (pduSize f) maskPdu) _ (holds-eq (pduSize f) maskPdu)
+    (holds-and (eqb (startOf f) a) _ (holds-eq (startOf f) a) (holds-and (eqb (andMaskOf f) x) (eqb (orMaskOf f) y) (holds-eq (andMaskOf f) x) (holds-eq (orMaskOf f) y)))
+shaped-exact (ReadWrite s q u p) f = counted (bytesFor Registers q) f
 shaped-exact Other f = holds-always
 
 -- A reply answers exactly where the unit is equal, and it is an exception reply, or the function is equal and the shape is right.
@@ -55,6 +61,8 @@ abbrev pub ReplyRoom : Asked → List ℕ → Type 0
 ReplyRoom (Read t s q) f = 9 + bytesFor t q ≡ length f
 ReplyRoom (SingleWrite t a v) f = 12 ≡ length f
 ReplyRoom (MultipleWrite t s q) f = 12 ≡ length f
+ReplyRoom (MaskWrite a x y) f = 14 ≡ length f
+ReplyRoom (ReadWrite s q u p) f = 9 + bytesFor Registers q ≡ length f
 ReplyRoom Other f = Unit {0}
 
 room-of : (a : Asked) (f : List ℕ) → Shaped a f → ReplyRoom a f
@@ -62,6 +70,8 @@ room-of (Read t s q) f h = omega (arith, h)
 room-of (SingleWrite Bits a v) f h = omega (arith, h)
 room-of (SingleWrite Registers a v) f h = omega (arith, h)
 room-of (MultipleWrite t s q) f h = omega (arith, h)
+room-of (MaskWrite a x y) f h = omega (arith, h)
+room-of (ReadWrite s q u p) f h = omega (arith, h)
 room-of Other f h = tt
 
 -- A reply that answers and is no exception has exactly the bytes that what was asked calls for.

@@ -11,19 +11,19 @@ use lib.Arith.{digits-div, digits-mod}
 use lib.ListN.{length, getD}
 use lib.Dec.{eqb, ltb}
 use borrow.Author.Tests.{eqb-true, ne-eqb}
-use Rattle.numbers.specs.Numbers.{lastFunction, coilOff, coilOn, shortPdu, multiplePdu, addresses, illegalAddress, illegalValue}
+use Rattle.numbers.specs.Numbers.{lastFunction, mostRead, mostReadWritten, coilOff, coilOn, shortPdu, multiplePdu, maskPdu, readWritePdu, addresses, illegalAddress, illegalValue}
 use Rattle.laws.specs.Bytes.{pairAt}
 use Rattle.laws.proofs.Choice.{true-or, eq-or, lt-or, or-either, never}
 use Rattle.wire.specs.Frame.{unitOf, functionOf, pduSize}
-use Rattle.pdu.specs.Requests.{classOf, startOf, quantityOf, valueOf, byteCountOf, bytesFor, mostReadOf, mostWrittenOf, badFunction, badLength, badValue, badAddress, askedBy, askedOf, faultOf, checkedBy, checkedOf}
+use Rattle.pdu.specs.Requests.{classOf, startOf, quantityOf, valueOf, byteCountOf, writeStartOf, writeQuantityOf, writeCountOf, bytesFor, mostReadOf, mostWrittenOf, badFunction, badLength, badValue, badAddress, askedBy, askedOf, faultOf, checkedBy, checkedOf}
 use Rattle.pdu.specs.Replies.{what}
 use Rattle.pdu.specs.Words.{askedBits, askedFrom, Lawful, Proper}
 use Rattle.pdu.specs.declared.Table.{Table}
 use Rattle.pdu.specs.declared.Table.the-variants.{Bits, Registers}
 use Rattle.pdu.specs.declared.Class.{Class}
-use Rattle.pdu.specs.declared.Class.the-variants.{Reads, WritesOne, WritesMany, Others}
+use Rattle.pdu.specs.declared.Class.the-variants.{Reads, WritesOne, WritesMany, Masks, ReadsWrites, Others}
 use Rattle.pdu.specs.declared.Asked.{Asked}
-use Rattle.pdu.specs.declared.Asked.the-variants.{Read, SingleWrite, MultipleWrite, Other}
+use Rattle.pdu.specs.declared.Asked.the-variants.{Read, SingleWrite, MultipleWrite, MaskWrite, ReadWrite, Other}
 use Rattle.pdu.specs.declared.Checked.{Checked}
 use Rattle.pdu.specs.declared.Checked.the-variants.{BadFunction, BadLength, Excepted, Legal}
 use Rattle.laws.proofs.TestLaws.{holds-eq, holds-or, fails-not, fails-ne, fails-lt, fails-zero, fails-or, fails-never, fails-holds, either}
@@ -56,6 +56,11 @@ sized (WritesMany t) f =
     fails-or (ltb (pduSize f) multiplePdu) (not (eqb (pduSize f) (multiplePdu + byteCountOf f)))
     (fails-lt (pduSize f) multiplePdu)
     (fails-ne (pduSize f) (multiplePdu + byteCountOf f))
+sized Masks f = fails-ne (pduSize f) maskPdu
+sized ReadsWrites f =
+    fails-or (ltb (pduSize f) readWritePdu) (not (eqb (pduSize f) (readWritePdu + writeCountOf f)))
+    (fails-lt (pduSize f) readWritePdu)
+    (fails-ne (pduSize f) (readWritePdu + writeCountOf f))
 sized Others f = fails-never
 
 -- Exception 03 fails exactly where the numbers are right.
@@ -72,14 +77,31 @@ valued (WritesMany t) f =
     fails-or (eqb q 0) (ltb (mostWrittenOf t) q || not (eqb (byteCountOf f) n))
     (fails-zero q)
     (fails-or (ltb (mostWrittenOf t) q) (not (eqb (byteCountOf f) n)) (fails-lt (mostWrittenOf t) q) (fails-ne (byteCountOf f) n))
+valued Masks f = fails-never
+valued ReadsWrites f =
+    let q = quantityOf f in
+    let p = writeQuantityOf f in
+    let n = bytesFor Registers p in
+    fails-or (eqb q 0) (ltb mostRead q || (eqb p 0 || (ltb mostReadWritten p || not (eqb (writeCountOf f) n))))
+    (fails-zero q)
+    (fails-or (ltb mostRead q) (eqb p 0 || (ltb mostReadWritten p || not (eqb (writeCountOf f) n)))
+    (fails-lt mostRead q)
+    (fails-or (eqb p 0) (ltb mostReadWritten p || not (eqb (writeCountOf f) n))
+    (fails-zero p)
+    (fails-or (ltb mostReadWritten p) (not (eqb (writeCountOf f) n)) (fails-lt mostReadWritten p) (fails-ne (writeCountOf f) n))))
 valued Others f = fails-never
 
--- Exception 02 fails exactly where the range ends within the addresses.
+-- Exception 02 fails exactly where the range ends within the addresses, of 23 both.
 pub ranged : (c : Class) (f : List ℕ) → (badAddress c f ≡ false) ↔ Ranged c f
 unfolding badAddress
 ranged (Reads t) f = fails-lt addresses (startOf f + quantityOf f)
 ranged (WritesOne t) f = fails-never
 ranged (WritesMany t) f = fails-lt addresses (startOf f + quantityOf f)
+ranged Masks f = fails-never
+ranged ReadsWrites f =
+    let s = startOf f + quantityOf f in
+    let u = writeStartOf f + writeQuantityOf f in
+    fails-or (ltb addresses s) (ltb addresses u) (fails-lt addresses s) (fails-lt addresses u)
 ranged Others f = fails-never
 
 -- Refusal 6 comes before the exceptions.
@@ -130,16 +152,18 @@ read-class n e =
     (λ (t : (eqb n 1 || eqb n 2) ≡ true). never (cc (rw t at e)))
     (λ (t : (eqb n 1 || eqb n 2) ≡ false). ⊎-elim
     (λ (u : (eqb n 3 || eqb n 4) ≡ true). ⊎-elim (λ a. inl (eqb-true n 3 a)) (λ b. inr (eqb-true n 4 b)) (or-either (eqb n 3) (eqb n 4) u))
-    (λ (u : (eqb n 3 || eqb n 4) ≡ false). absurd (writes (eqb n 5) (eqb n 6) (eqb n 15) (eqb n 16) (rw u at (rw t at e))))
+    (λ (u : (eqb n 3 || eqb n 4) ≡ false). absurd (writes (eqb n 5) (eqb n 6) (eqb n 15) (eqb n 16) (eqb n 22) (eqb n 23) (rw u at (rw t at e))))
     (true-or (eqb n 3 || eqb n 4)))
     (true-or (eqb n 1 || eqb n 2))
   where
-    writes : (a b c d : Bool) → cond a (WritesOne Bits) (cond b (WritesOne Registers) (cond c (WritesMany Bits) (cond d (WritesMany Registers) Others))) ≡ Reads Registers → ⊥
-    writes true b c d e = never (cc)
-    writes false true c d e = never (cc)
-    writes false false true d e = never (cc)
-    writes false false false true e = never (cc)
-    writes false false false false e = never (cc)
+    writes : (a b c d m n : Bool) → cond a (WritesOne Bits) (cond b (WritesOne Registers) (cond c (WritesMany Bits) (cond d (WritesMany Registers) (cond m Masks (cond n ReadsWrites Others))))) ≡ Reads Registers → ⊥
+    writes true b c d m n e = never (cc)
+    writes false true c d m n e = never (cc)
+    writes false false true d m n e = never (cc)
+    writes false false false true m n e = never (cc)
+    writes false false false false true n e = never (cc)
+    writes false false false false false true e = never (cc)
+    writes false false false false false false e = never (cc)
 
 -- 05 and 06 are the single writes.
 pub class-single : (classOf 5 ≡ WritesOne Bits) × (classOf 6 ≡ WritesOne Registers)
@@ -151,10 +175,20 @@ pub class-multiple : (classOf 15 ≡ WritesMany Bits) × (classOf 16 ≡ WritesM
 unfolding classOf
 class-multiple = (refl, refl)
 
--- Every other function is looked into no further.
-pub class-other : (n : ℕ) → (n ≡ 1 → ⊥) → (n ≡ 2 → ⊥) → (n ≡ 3 → ⊥) → (n ≡ 4 → ⊥) → (n ≡ 5 → ⊥) → (n ≡ 6 → ⊥) → (n ≡ 15 → ⊥) → (n ≡ 16 → ⊥) → classOf n ≡ Others
+-- 22 writes a register by masks, 23 reads and writes registers.
+pub class-mask : classOf 22 ≡ Masks
 unfolding classOf
-class-other n a b c d e f g h = simp (ne-eqb n 1 a, ne-eqb n 2 b, ne-eqb n 3 c, ne-eqb n 4 d, ne-eqb n 5 e, ne-eqb n 6 f, ne-eqb n 15 g, ne-eqb n 16 h)
+class-mask = refl
+
+pub class-read-write : classOf 23 ≡ ReadsWrites
+unfolding classOf
+class-read-write = refl
+
+-- Every other function is looked into no further.
+pub class-other : (n : ℕ) → (n ≡ 1 → ⊥) → (n ≡ 2 → ⊥) → (n ≡ 3 → ⊥) → (n ≡ 4 → ⊥) → (n ≡ 5 → ⊥) → (n ≡ 6 → ⊥) → (n ≡ 15 → ⊥) → (n ≡ 16 → ⊥) → (n ≡ 22 → ⊥) → (n ≡ 23 → ⊥) → classOf n ≡ Others
+unfolding classOf
+class-other n a b c d e f g h i j =
+    simp (ne-eqb n 1 a, ne-eqb n 2 b, ne-eqb n 3 c, ne-eqb n 4 d, ne-eqb n 5 e, ne-eqb n 6 f, ne-eqb n 15 g, ne-eqb n 16 h, ne-eqb n 22 i, ne-eqb n 23 j)
 
 -- every request has an outcome
 some-outcome : (f : List ℕ) → (x : Checked) × Outcome f x
@@ -248,6 +282,8 @@ abbrev pub RequestRoom : Asked → List ℕ → Type 0
 RequestRoom (Read t s q) f = 12 ≡ length f
 RequestRoom (SingleWrite t a v) f = 12 ≡ length f
 RequestRoom (MultipleWrite t s q) f = 13 + bytesFor t q ≡ length f
+RequestRoom (MaskWrite a x y) f = 14 ≡ length f
+RequestRoom (ReadWrite s q u p) f = 17 + bytesFor Registers p ≡ length f
 RequestRoom Other f = Unit {0}
 
 room-by : (c : Class) (f : List ℕ) → Sized c f → Valued c f → RequestRoom (askedBy c f) f
@@ -255,6 +291,8 @@ unfolding askedBy
 room-by (Reads t) f h v = omega arith
 room-by (WritesOne t) f h v = omega arith
 room-by (WritesMany t) f h v = omega (arith, h, v)
+room-by Masks f h v = omega arith
+room-by ReadsWrites f h v = omega (arith, h, v)
 room-by Others f h v = tt
 
 -- A legal request has exactly the bytes that what it asks calls for.
@@ -269,12 +307,34 @@ pair-low f k b = omega (arith, b k, b (k + 1))
 fields : {s q : ℕ} → s < 65536 → q < 65536 → ((s * 65536 + q) / 65536 % 65536 ≡ s) × ((s * 65536 + q) % 65536 ≡ q)
 fields {s} h l = (rw (digits-div s l) (mod-eq-of-lt h), digits-mod s l)
 
-asked-bits-back : (c : Class) (f : List ℕ) → ((k : ℕ) → getD f k 0 < 256) → askedFrom c (askedBits (askedBy c f)) ≡ askedBy c f
+-- three of them
+three-fields : {a x y : ℕ} → a < 65536 → x < 65536 → y < 65536
+    → let n = (a * 65536 + x) * 65536 + y in (n / 65536 / 65536 % 65536 ≡ a) × (n / 65536 % 65536 ≡ x) × (n % 65536 ≡ y)
+three-fields {a} {x} h l m =
+    let e = digits-div (a * 65536 + x) m in
+    (rw e (rw (digits-div a l) (mod-eq-of-lt h)), rw e (digits-mod a l), digits-mod (a * 65536 + x) m)
+
+-- and two of them with a number of 7 bits below each
+four-fields : {s q u p : ℕ} → s < 65536 → q < 128 → u < 65536 → p < 128
+    → let n = ((s * 128 + q) * 65536 + u) * 128 + p in (n / 128 / 65536 / 128 % 65536 ≡ s) × (n / 128 / 65536 % 128 ≡ q) × (n / 128 % 65536 ≡ u) × (n % 128 ≡ p)
+four-fields {s} {q} {u} h k l m =
+    let d = s * 128 + q in
+    let e = digits-div (d * 65536 + u) m in
+    let g = digits-div d l in
+    (rw e (rw g (rw (digits-div s k) (mod-eq-of-lt h))), rw e (rw g (digits-mod s k)), rw e (digits-mod d l), digits-mod (d * 65536 + u) m)
+
+asked-bits-back : (c : Class) (f : List ℕ) → ((k : ℕ) → getD f k 0 < 256) → Valued c f → askedFrom c (askedBits (askedBy c f)) ≡ askedBy c f
 unfolding askedFrom askedBits askedBy
-asked-bits-back (Reads t) f b = let e = fields (pair-low f 8 b) (pair-low f 10 b) in rw (e .0, e .1)
-asked-bits-back (WritesOne t) f b = let e = fields (pair-low f 8 b) (pair-low f 10 b) in rw (e .0, e .1)
-asked-bits-back (WritesMany t) f b = let e = fields (pair-low f 8 b) (pair-low f 10 b) in rw (e .0, e .1)
-asked-bits-back Others f b = refl
+asked-bits-back (Reads t) f b v = let e = fields (pair-low f 8 b) (pair-low f 10 b) in rw (e .0, e .1)
+asked-bits-back (WritesOne t) f b v = let e = fields (pair-low f 8 b) (pair-low f 10 b) in rw (e .0, e .1)
+asked-bits-back (WritesMany t) f b v = let e = fields (pair-low f 8 b) (pair-low f 10 b) in rw (e .0, e .1)
+asked-bits-back Masks f b v = let e = three-fields (pair-low f 8 b) (pair-low f 10 b) (pair-low f 12 b) in rw (e .0, e .1, e .2)
+asked-bits-back ReadsWrites f b v =
+    let q : quantityOf f < 128 = omega (arith, v) in
+    let p : writeQuantityOf f < 128 = omega (arith, v) in
+    let e = four-fields (pair-low f 8 b) q (pair-low f 12 b) p in
+    rw (e .0, e .1, e .2, e .3)
+asked-bits-back Others f b v = refl
 
 lawful-by : (c : Class) (f : List ℕ) → ((k : ℕ) → getD f k 0 < 256) → Valued c f → Ranged c f → Lawful (askedBy c f)
 unfolding Lawful askedBy
@@ -282,6 +342,8 @@ lawful-by (Reads t) f b v r = (v .0, v .1, r)
 lawful-by (WritesOne Bits) f b v r = (pair-low f 8 b, v)
 lawful-by (WritesOne Registers) f b v r = (pair-low f 8 b, pair-low f 10 b)
 lawful-by (WritesMany t) f b v r = (v .0, v .1 .0, r)
+lawful-by Masks f b v r = (pair-low f 8 b, pair-low f 10 b, pair-low f 12 b)
+lawful-by ReadsWrites f b v r = ((v .0, v .1 .0, r .0), (v .1 .1 .0, v .1 .1 .1 .0, r .1))
 lawful-by Others f b v r = tt
 
 -- What a legal request of bytes asks may stand in a live entry.
@@ -291,6 +353,6 @@ legal-proper f a b e =
     rw (p .asks) (record {
       unit = b 6;
       function = known (functionOf f) .1 (p .function);
-      class = asked-bits-back (classIn f) f b;
+      class = asked-bits-back (classIn f) f b (p .value);
       lawful = lawful-by (classIn f) f b (p .value) (p .range);
     })

@@ -18,9 +18,9 @@ use Rattle.pdu.specs.Words.{askedBits, askedFrom, wordOf, whatOf, closed
 use Rattle.pdu.specs.declared.Table.{Table}
 use Rattle.pdu.specs.declared.Table.the-variants.{Bits, Registers}
 use Rattle.pdu.specs.declared.Class.{Class}
-use Rattle.pdu.specs.declared.Class.the-variants.{Reads, WritesOne, WritesMany, Others}
+use Rattle.pdu.specs.declared.Class.the-variants.{Reads, WritesOne, WritesMany, Masks, ReadsWrites, Others}
 use Rattle.pdu.specs.declared.Asked.{Asked}
-use Rattle.pdu.specs.declared.Asked.the-variants.{Read, SingleWrite, MultipleWrite, Other}
+use Rattle.pdu.specs.declared.Asked.the-variants.{Read, SingleWrite, MultipleWrite, MaskWrite, ReadWrite, Other}
 use Rattle.pdu.specs.declared.ProxyId.{ProxyId}
 use Rattle.pdu.specs.declared.Entry.{Entry}
 use Rattle.pdu.proofs.RequestLaws.{known}
@@ -48,6 +48,8 @@ unfolding isRead askedBits Lawful
 read-bits-low (Read t s q) e h = two-low (omega (arith, h)) (omega (arith, h, most-read t))
 read-bits-low (SingleWrite t a v) e h = absurd (false≢true e)
 read-bits-low (MultipleWrite t s q) e h = absurd (false≢true e)
+read-bits-low (MaskWrite a x y) e h = absurd (false≢true e)
+read-bits-low (ReadWrite s q u p) e h = absurd (false≢true e)
 read-bits-low Other e h = absurd (false≢true e)
 
 -- and what any legal request keeps the 48 bits
@@ -57,6 +59,12 @@ asked-bits-low (Read t s q) h = two-kept (omega (arith, h)) (omega (arith, h, mo
 asked-bits-low (SingleWrite Bits a v) h = two-kept (h .0) (⊎-elim (λ e. omega arith) (λ e. omega arith) (h .1))
 asked-bits-low (SingleWrite Registers a v) h = two-kept (h .0) (h .1)
 asked-bits-low (MultipleWrite t s q) h = two-kept (omega (arith, h)) (omega (arith, h, most-written t))
+asked-bits-low (MaskWrite a x y) h = digits-lt {m = 4294967296} (two-low (h .0) (h .1)) (h .2)
+asked-bits-low (ReadWrite s q u p) h =
+    let first : s * 128 + q < 8388608 = digits-lt {m = 65536} (omega (arith, h)) (omega (arith, h)) in
+    let second : (s * 128 + q) * 65536 + u < 549755813888 = digits-lt {m = 8388608} first (omega (arith, h)) in
+    let all : ((s * 128 + q) * 65536 + u) * 128 + p < 70368744177664 = digits-lt {m = 549755813888} second (omega (arith, h)) in
+    omega arith
 asked-bits-low Other h = omega arith
 
 first-marked : (n : ℕ) → (n + 4294967296) / 65536 % 65536 ≡ n / 65536 % 65536
@@ -71,6 +79,8 @@ unfolding isRead askedFrom
 asked-from-marked (Reads t) n e = rw (first-marked n, second-marked n)
 asked-from-marked (WritesOne t) n e = absurd (false≢true e)
 asked-from-marked (WritesMany t) n e = absurd (false≢true e)
+asked-from-marked Masks n e = absurd (false≢true e)
+asked-from-marked ReadsWrites n e = absurd (false≢true e)
 asked-from-marked Others n e = absurd (false≢true e)
 
 module _ (w : What) (p : Proper w) where

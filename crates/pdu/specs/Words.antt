@@ -1,20 +1,21 @@
--- What was asked as one word: unit and function in the highest 16 bits, and 48 bits for what the function's class keeps. A read keeps 32 bits and looks at no other, so that
--- bit 32 of its word is free: the live table has it for a read that is closed. In the word of any other function that bit says nothing of the kind.
+-- What was asked as one word: unit and function in the highest 16 bits, and 48 bits for what the function's class keeps: all of them for 22, its address and both masks; 46 for 23, two
+-- starts and two quantities, which are below 128; the others 32. A read looks at no other, so that bit 32 of its word is free: the live table has it for a read
+-- that is closed. In the word of any other function that bit says nothing of the kind.
 -- Assumes nothing.
 use Prim.Native.Nat.{ℕ, _+_, _*_, _/_, _%_, _≤_, _<_}
 use mathlib.Core.Path.{_≡_}
 use mathlib.Core.Logic.{_⊎_}
 use mathlib.Core.Bool.{Bool, false, _&&_}
-use Rattle.numbers.specs.Numbers.{coilOff, coilOn, addresses}
+use Rattle.numbers.specs.Numbers.{mostRead, mostReadWritten, coilOff, coilOn, addresses}
 use Rattle.laws.specs.Bits.{has}
 use Rattle.pdu.specs.Requests.{classOf, mostReadOf, mostWrittenOf, badFunction}
 use Rattle.pdu.specs.declared.Table.the-variants.{Bits, Registers}
 use Rattle.pdu.specs.declared.Class.{Class}
-use Rattle.pdu.specs.declared.Class.the-variants.{Reads, WritesOne, WritesMany, Others}
+use Rattle.pdu.specs.declared.Class.the-variants.{Reads, WritesOne, WritesMany, Masks, ReadsWrites, Others}
 use Rattle.pdu.specs.Replies.{What, what}
 use Rattle.pdu.specs.Reads.{isRead}
 use Rattle.pdu.specs.declared.Asked.{Asked}
-use Rattle.pdu.specs.declared.Asked.the-variants.{Read, SingleWrite, MultipleWrite, Other}
+use Rattle.pdu.specs.declared.Asked.the-variants.{Read, SingleWrite, MultipleWrite, MaskWrite, ReadWrite, Other}
 use Rattle.pdu.specs.declared.ProxyId.{ProxyId}
 use Rattle.pdu.specs.declared.Entry.{Entry}
 
@@ -23,12 +24,16 @@ unfoldable pub askedBits : Asked → ℕ
 askedBits (Read t s q) = s * 65536 + q
 askedBits (SingleWrite t a v) = a * 65536 + v
 askedBits (MultipleWrite t s q) = s * 65536 + q
+askedBits (MaskWrite a x y) = (a * 65536 + x) * 65536 + y
+askedBits (ReadWrite s q u p) = ((s * 128 + q) * 65536 + u) * 128 + p
 askedBits Other = 0
 
 unfoldable pub askedFrom : Class → ℕ → Asked
 askedFrom (Reads t) n = Read t (n / 65536 % 65536) (n % 65536)
 askedFrom (WritesOne t) n = SingleWrite t (n / 65536 % 65536) (n % 65536)
 askedFrom (WritesMany t) n = MultipleWrite t (n / 65536 % 65536) (n % 65536)
+askedFrom Masks n = MaskWrite (n / 65536 / 65536 % 65536) (n / 65536 % 65536) (n % 65536)
+askedFrom ReadsWrites n = ReadWrite (n / 128 / 65536 / 128 % 65536) (n / 128 / 65536 % 128) (n / 128 % 65536) (n % 128)
 askedFrom Others n = Other
 
 unfoldable pub wordOf : What → ℕ
@@ -59,6 +64,8 @@ Lawful (Read t s q) = (1 ≤ q) × (q ≤ mostReadOf t) × (s + q ≤ addresses)
 Lawful (SingleWrite Bits a v) = (a < addresses) × ((v ≡ coilOff) ⊎ (v ≡ coilOn))
 Lawful (SingleWrite Registers a v) = (a < addresses) × (v < 65536)
 Lawful (MultipleWrite t s q) = (1 ≤ q) × (q ≤ mostWrittenOf t) × (s + q ≤ addresses)
+Lawful (MaskWrite a x y) = (a < addresses) × (x < 65536) × (y < 65536)
+Lawful (ReadWrite s q u p) = ((1 ≤ q) × (q ≤ mostRead) × (s + q ≤ addresses)) × ((1 ≤ p) × (p ≤ mostReadWritten) × (u + p ≤ addresses))
 Lawful Other = Unit {0}
 
 -- what a live entry may hold: a unit, a function that is not refused, and what that function's class keeps, within the bounds

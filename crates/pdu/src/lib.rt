@@ -7,12 +7,16 @@ ghost use Rattle.wire.specs.Frame.{idOf};
 ghost use Rattle.pdu.specs.Requests.{classOf, bytesFor, mostReadOf, mostWrittenOf};
 ghost use Rattle.pdu.specs.Reads.{isRead};
 
-// Where the fields stand that requests and replies share: behind the function the start (05, 06: the address) and the quantity (05, 06: the value).
+// Where the fields stand that requests and replies share: behind the function the start (05, 06, 22: the address) and the quantity (05, 06: the value; 22: the masks).
 pub const START_AT: usize = 8;
 
 pub const QUANTITY_AT: usize = 10;
 
 pub const VALUE_AT: usize = 10;
+
+pub const AND_MASK_AT: usize = 10;
+
+pub const OR_MASK_AT: usize = 12;
 
 // An id that the proxy issued, and an id that a client gave: two types that cannot be mixed.
 pub struct ProxyId(pub u16);
@@ -25,15 +29,17 @@ pub enum Table {
     Registers,
 }
 
-// The classes of functions: 01 to 04, 05 and 06, 15 and 16, and every other.
+// The classes of functions: 01 to 04, 05 and 06, 15 and 16, 22, 23, and every other.
 pub enum Class {
     Reads(Table),
     WritesOne(Table),
     WritesMany(Table),
+    Masks,
+    ReadsWrites,
     Others,
 }
 
-// What was asked, kept with the live entry; of a single write also the value, as the client wrote it.
+// What was asked, kept with the live entry; of a single write also the value, as the client wrote it; of 22 both masks, of 23 both ranges.
 pub enum Asked {
     Read {
         table: Table,
@@ -49,6 +55,17 @@ pub enum Asked {
         table: Table,
         start: u16,
         quantity: u16,
+    },
+    MaskWrite {
+        address: u16,
+        and_mask: u16,
+        or_mask: u16,
+    },
+    ReadWrite {
+        start: u16,
+        quantity: u16,
+        write_start: u16,
+        write_quantity: u16,
     },
     Other,
 }
@@ -118,6 +135,12 @@ pub fn class_of(function: u8) -> Class
     if function == numbers::WRITE_MULTIPLE {
         return Class::WritesMany(Table::Registers);
     }
+    if function == numbers::MASK_WRITE {
+        return Class::Masks;
+    }
+    if function == numbers::READ_WRITE {
+        return Class::ReadsWrites;
+    }
     Class::Others
 }
 
@@ -140,6 +163,17 @@ pub fn is_read(asked: Asked) -> bool
             table: _,
             start: _,
             quantity: _,
+        } => false,
+        Asked::MaskWrite {
+            address: _,
+            and_mask: _,
+            or_mask: _,
+        } => false,
+        Asked::ReadWrite {
+            start: _,
+            quantity: _,
+            write_start: _,
+            write_quantity: _,
         } => false,
         Asked::Other => false,
     }

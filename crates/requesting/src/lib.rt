@@ -319,7 +319,7 @@ fn serve<'a>(
     )
 }
 
-// The check of a request: that of its bytes, and where these are in order exception 03 if a strict tag forbids what they write.
+// The check of a request: that of its bytes, and where these are in order exception 03 if a tag forbids what they write or mask.
 fn check(frame: &[u8], tag_words: &[u64; numbers::MOST_TAGS], tag_count: u32) -> Checked
     requires { ⌜ TagWords «tag_count» (now «tag_words») ⌝ }
     requires { ⌜ (getD (now «tag_words») 0 0 < strictMark → someStrict (tagsOf «tag_count» (now «tag_words»)) ≡ false) ⌝ }

@@ -1,4 +1,5 @@
--- The loop over the tag words that looks for a tag which forbids a write: tags outside the run forbid nothing, and one of the others that does decides.
+-- The loop over the tag words that looks for a tag which forbids a write: tags outside the run forbid nothing, and one of the others that does decides. And the search for a tag that has a register: the first that
+-- does not end before it decides.
 -- Assumes nothing.
 use Prim.Native.Nat.{ℕ, _+_, _≤_, _<_}
 use mathlib.Core.Path.{_≡_, refl, sym}
@@ -8,19 +9,21 @@ use mathlib.Core.List.{List, [], _∷_, List·Memᴰ, List·Memᴰ·head, List·
 use native.Mathlib.Nat.{zero-add}
 use native.Mathlib.Omega.{arith}
 use lib.ListN.{length, getD}
-use lib.Dec.{eqb}
+use lib.Dec.{eqb, leb}
+use borrow.Author.Tests.{le-leb, leb-true}
 use Rattle.laws.specs.Search.{first}
-use Rattle.laws.proofs.Choice.{lt-or}
+use Rattle.laws.proofs.Choice.{true-or, lt-or, same-test}
+use Rattle.laws.proofs.SearchLaws.{first-here}
 use Rattle.settings.specs.Grammar.{Tag}
-use Rattle.settings.specs.TagWords.{tagOf}
+use Rattle.settings.specs.TagWords.{tagOf, lastOf}
 use Rattle.rewrite.specs.declared.Way.the-variants.{ToBcd}
 use Rattle.rewrite.specs.Rewriting.{verdict}
 use Rattle.rewrite.specs.Rewriting.Verdict.{outside}
-use Rattle.rewrite.specs.Legal.{forbids, someForbids}
+use Rattle.rewrite.specs.Legal.{forbids, someForbids, someHas}
 use Rattle.rewrite.specs.inner.Lent.{tagsOf, TagWords, reaches}
 use Rattle.rewrite.proofs.VerdictLaws.{verdict-before, verdict-behind}
-use Rattle.rewrite.proofs.TableLaws.{tag-place, tag-in, tag-before, tag-behind}
-use Rattle.rewrite.proofs.StrictLaws.{in-some}
+use Rattle.rewrite.proofs.TableLaws.{tag-place, tag-in, tag-before, tag-behind, owner}
+use Rattle.rewrite.proofs.StrictLaws.{in-some, has-exactly}
 
 -- a tag outside the run forbids nothing
 outside-allows : (start : ℕ) (rs : List ℕ) (t : Tag) → verdict ToBcd start rs t ≡ outside → forbids start rs t ≡ false
@@ -62,3 +65,20 @@ module _ (start : ℕ) (rs : List ℕ) (n : ℕ) (words : List ℕ) (w : TagWord
   -- A tag that forbids decides.
   pub forbid-found : (i : ℕ) → i < n → forbids start rs (tagOf (getD words i 0)) ≡ true → true ≡ someForbids start rs (tagsOf n words)
   forbid-found i l e = sym (in-some start rs (tagsOf n words) (tagOf (getD words i 0)) (tag-in n words w i l) e)
+
+module _ (n : ℕ) (words : List ℕ) (w : TagWords n words) (a i : ℕ) (e : i ≡ first (reaches words a) n) where
+  -- Where no tag reaches a register, none has it,
+  pub has-none : n ≤ i → false ≡ someHas a (tagsOf n words)
+  has-none l =
+      ⊎-elim
+      (λ (h : someHas a (tagsOf n words) ≡ true). let s = has-exactly a (tagsOf n words) .0 h in let o = owner n words w a i e (s .0) (s .1) (s .2) in absurd (omega (arith, o .0)))
+      (λ h. sym h)
+      (true-or (someHas a (tagsOf n words)))
+
+  -- and else one has it exactly if the first that reaches it does not begin behind it.
+  pub has-here : i < n → leb (tagOf (getD words i 0) .address) a ≡ someHas a (tagsOf n words)
+  has-here l =
+      let t = tagOf (getD words i 0) in
+      same-test _ _
+      (λ h. has-exactly a (tagsOf n words) .1 (t, tag-in n words w i l, (leb-true (t .address) a h, leb-true a (lastOf t) (rw e (first-here (reaches words a) n (rw (← e) l))))))
+      (λ h. let s = has-exactly a (tagsOf n words) .0 h in let o = owner n words w a i e (s .0) (s .1) (s .2) in le-leb (t .address) a (rw (← o .1) (s .2 .0)))

@@ -1,5 +1,5 @@
--- A frame rewritten: its length and every byte outside the registers stay, what it answers too, an exception, coils and discrete inputs pass unchanged, the registers of a reply to a read
--- are rewritten, and it goes over a buffer under an id.
+-- A frame rewritten: its length and every byte outside the registers stay, what it answers too; an exception, coils, discrete inputs and masks pass unchanged, the registers that a request carries and those that a
+-- reply brings are rewritten, and it goes over a buffer under an id.
 -- Assumes nothing.
 use Prim.Native.Nat.{ℕ, zero, suc, _+_, _*_, _≤_, _<_}
 use mathlib.Core.Path.{_≡_, refl, ap, sym, _∙_}
@@ -19,14 +19,17 @@ use Rattle.pdu.specs.Replies.{What, what, excepts, shaped, answering}
 use Rattle.pdu.specs.declared.Table.{Table}
 use Rattle.pdu.specs.declared.Table.the-variants.{Bits, Registers}
 use Rattle.pdu.specs.declared.Asked.{Asked}
-use Rattle.pdu.specs.declared.Asked.the-variants.{Read, SingleWrite, MultipleWrite, Other}
+use Rattle.pdu.specs.declared.Asked.the-variants.{Read, SingleWrite, MultipleWrite, MaskWrite, ReadWrite, Other}
 use Rattle.rewrite.specs.declared.Way.{Way}
-use Rattle.rewrite.specs.declared.Way.the-variants.{ToBinary}
+use Rattle.rewrite.specs.declared.Way.the-variants.{ToBcd, ToBinary}
 use Rattle.rewrite.specs.Registers.{registersAt}
 use Rattle.rewrite.specs.Rewriting.{rewritten, Rewritten, withCounts, rewriting}
 use Rattle.rewrite.specs.Frames.{forwarded, reencoded, returnedBy, returned, under}
-use Rattle.rewrite.specs.Plain.{OfBits}
+use Rattle.rewrite.specs.Plain.{OfBits, Brings}
 use Rattle.rewrite.specs.Plain.OfBits.{coils-read, discrete-read, coil-written, coils-written}
+use Rattle.rewrite.specs.Plain.Brings.{read, read-of-both}
+use Rattle.rewrite.specs.Strict.{Carries}
+use Rattle.rewrite.specs.Strict.Carries.{single, multiple, both}
 use Rattle.rewrite.proofs.RegisterLaws.{length-laid, length-registers, laid-other}
 use Rattle.rewrite.proofs.RunLaws.{length-rewritten}
 
@@ -45,14 +48,25 @@ module _ (way : Way) (base start q : ℕ) (tags : List Tag) (d : List ℕ) where
       laid-other base (rewritten way start tags rs) d i (rw l h)
 
 module _ (tags : List Tag) (f : List ℕ) where
-  -- A request to read and one of any other function pass unchanged, and no tag is counted.
+  -- A request to read, one to mask a register and one of any other function pass unchanged, and no tag is counted.
   pub forwarded-read : (t : Table) (s q : ℕ) → forwarded tags (Read t s q) f ≡ withCounts 0 0 f
   unfolding forwarded
   forwarded-read t s q = refl
 
+  pub forwarded-mask : (a x y : ℕ) → forwarded tags (MaskWrite a x y) f ≡ withCounts 0 0 f
+  unfolding forwarded
+  forwarded-mask a x y = refl
+
   pub forwarded-other : forwarded tags Other f ≡ withCounts 0 0 f
   unfolding forwarded
   forwarded-other = refl
+
+  -- The registers that a request carries are rewritten to BCD.
+  pub forwarded-carries : {a : Asked} {base start quantity : ℕ} → Carries a base start quantity → forwarded tags a f ≡ rewriting ToBcd base start quantity tags f
+  unfolding forwarded
+  forwarded-carries single = refl
+  forwarded-carries multiple = refl
+  forwarded-carries both = refl
 
   sent-by : (n : ℕ) → OfBits n → forwarded tags (askedBy (classOf n) f) f ≡ withCounts 0 0 f
   unfolding forwarded askedBy classOf
@@ -72,6 +86,11 @@ module _ (tags : List Tag) (f : List ℕ) where
   brought-by n g coil-written = refl
   brought-by n g coils-written = refl
 
+  brings-by : {a : Asked} {s q : ℕ} → Brings a s q → returnedBy tags a f ≡ rewriting ToBinary 9 s q tags f
+  unfolding returnedBy
+  brings-by read = refl
+  brings-by read-of-both = refl
+
   module _ (w : What) where
     -- An exception reply passes unchanged, and no tag is counted.
     pub returned-exception : excepts (w .function) f ≡ true → returned tags w f ≡ withCounts 0 0 f
@@ -83,13 +102,17 @@ module _ (tags : List Tag) (f : List ℕ) where
     unfolding returned
     returned-other e = rw e
 
-    -- A reply that would not be rewritten passes unchanged, exception or not: to a request 15 or 16, to one of any other function, and to 01, 02 and 05.
+    -- A reply that would not be rewritten passes unchanged, exception or not: to a request 15, 16 or 22, to one of any other function, and to 01, 02 and 05.
     unchanged : returnedBy tags (w .asked) f ≡ withCounts 0 0 f → returned tags w f ≡ withCounts 0 0 f
     unchanged e = ⊎-elim returned-exception (λ x. returned-other x ∙ e) (true-or (excepts (w .function) f))
 
     pub returned-multiple : (t : Table) (s q : ℕ) → w .asked ≡ MultipleWrite t s q → returned tags w f ≡ withCounts 0 0 f
     unfolding returnedBy
     returned-multiple t s q e = unchanged (rw e)
+
+    pub returned-mask : (a x y : ℕ) → w .asked ≡ MaskWrite a x y → returned tags w f ≡ withCounts 0 0 f
+    unfolding returnedBy
+    returned-mask a x y e = unchanged (rw e)
 
     pub returned-any : w .asked ≡ Other → returned tags w f ≡ withCounts 0 0 f
     unfolding returnedBy
@@ -99,10 +122,9 @@ module _ (tags : List Tag) (f : List ℕ) where
     pub returned-bits : (g : List ℕ) → OfBits (functionOf g) → w .asked ≡ askedOf g → returned tags w f ≡ withCounts 0 0 f
     returned-bits g b e = unchanged (rw e (brought-by (functionOf g) g b))
 
-    -- A reply to a request to read registers is rewritten to binary: as many registers as were asked for, from byte 9 on, of the addresses from the start that was asked on.
-    pub returned-read : (s q : ℕ) → w .asked ≡ Read Registers s q → excepts (w .function) f ≡ false → returned tags w f ≡ rewriting ToBinary 9 s q tags f
-    unfolding returnedBy
-    returned-read s q e x = returned-other x ∙ rw e
+    -- A reply to 03, 04 or 23 is rewritten to binary: as many registers as were to be read, from byte 9 on, of the addresses from the start that was to be read on.
+    pub returned-brings : {s q : ℕ} → Brings (w .asked) s q → excepts (w .function) f ≡ false → returned tags w f ≡ rewriting ToBinary 9 s q tags f
+    returned-brings b x = returned-other x ∙ brings-by b
 
     -- A reply to a request 06 that was re-encoded is rewritten to binary: the one register at byte 10, of the address asked. To one that was not it passes unchanged.
     pub returned-single : (a v : ℕ) → w .asked ≡ SingleWrite Registers a v → reencoded tags a v ≡ true → excepts (w .function) f ≡ false → returned tags w f ≡ rewriting ToBinary 10 a 1 tags f
@@ -130,6 +152,8 @@ module _ (tags : List Tag) (f : List ℕ) where
   length-forwarded (SingleWrite Registers a v) = length-rewriting _ _ a 1 tags f
   length-forwarded (MultipleWrite Bits s q) = refl
   length-forwarded (MultipleWrite Registers s q) = length-rewriting _ _ s q tags f
+  length-forwarded (MaskWrite a x y) = refl
+  length-forwarded (ReadWrite s q u p) = length-rewriting _ _ u p tags f
   length-forwarded Other = refl
 
   front-returned-by : (a : Asked) (i : ℕ) → i < 9 → getD (returnedBy tags a f .bytes) i 0 ≡ getD f i 0
@@ -139,6 +163,8 @@ module _ (tags : List Tag) (f : List ℕ) where
   front-returned-by (SingleWrite Bits a v) i h = refl
   front-returned-by (SingleWrite Registers a v) i h = echo-cases (λ r. getD (r .bytes) i 0 ≡ getD f i 0) a v refl (rewriting-other _ _ a 1 tags f i (inl (omega arith)))
   front-returned-by (MultipleWrite t s q) i h = refl
+  front-returned-by (MaskWrite a x y) i h = refl
+  front-returned-by (ReadWrite s q u p) i h = rewriting-other _ _ s q tags f i (inl h)
   front-returned-by Other i h = refl
 
   length-returned-by : (a : Asked) → length (returnedBy tags a f .bytes) ≡ length f
@@ -148,6 +174,8 @@ module _ (tags : List Tag) (f : List ℕ) where
   length-returned-by (SingleWrite Bits a v) = refl
   length-returned-by (SingleWrite Registers a v) = echo-cases (λ r. length (r .bytes) ≡ length f) a v refl (length-rewriting _ _ a 1 tags f)
   length-returned-by (MultipleWrite t s q) = refl
+  length-returned-by (MaskWrite a x y) = refl
+  length-returned-by (ReadWrite s q u p) = length-rewriting _ _ s q tags f
   length-returned-by Other = refl
 
   -- what is held against the request stands before the registers
@@ -163,6 +191,10 @@ module _ (tags : List Tag) (f : List ℕ) where
       echo-cases (λ r. answering (what u n (SingleWrite Registers a v)) (r .bytes) ≡ answering (what u n (SingleWrite Registers a v)) f) a v refl
       (rw (stays 6 (inl (omega arith)), stays 7 (inl (omega arith)), stays 8 (inl (omega arith)), stays 9 (inl (omega arith)), length-rewriting ToBinary 10 a 1 tags f))
   answers-returned-by u n (MultipleWrite t s q) = refl
+  answers-returned-by u n (MaskWrite a x y) = refl
+  answers-returned-by u n (ReadWrite s q v p) =
+      let stays = rewriting-other ToBinary 9 s q tags f in
+      rw (stays 6 (inl (omega arith)), stays 7 (inl (omega arith)), stays 8 (inl (omega arith)), length-rewriting ToBinary 9 s q tags f)
   answers-returned-by u n Other = refl
 
   module _ (w : What) where
@@ -170,7 +202,7 @@ module _ (tags : List Tag) (f : List ℕ) where
     pub length-returned : length (returned tags w f .bytes) ≡ length f
     length-returned = returned-cases w (λ r. length (r .bytes) ≡ length f) refl (length-returned-by (w .asked))
 
-    -- Its bytes 0 to 8 stay: the header, the function, and the byte count of 01 to 04.
+    -- Its bytes 0 to 8 stay: the header, the function, and the byte count of 01 to 04 and 23.
     pub front-returned : (i : ℕ) → i < 9 → getD (returned tags w f .bytes) i 0 ≡ getD f i 0
     front-returned i h = returned-cases w (λ r. getD (r .bytes) i 0 ≡ getD f i 0) refl (front-returned-by (w .asked) i h)
 
@@ -196,6 +228,8 @@ laid-answers id w (a ∷ b ∷ f) h = by (w .asked)
     by (SingleWrite Bits x v) = refl
     by (SingleWrite Registers x v) = refl
     by (MultipleWrite t s q) = refl
+    by (MaskWrite x v m) = refl
+    by (ReadWrite s q u p) = refl
     by Other = refl
 
 -- A FRAME AT THE START OF A BUFFER

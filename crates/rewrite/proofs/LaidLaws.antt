@@ -13,7 +13,7 @@ use Rattle.settings.specs.Grammar.{Tag}
 use Rattle.pdu.specs.Replies.{What, excepts}
 use Rattle.pdu.specs.declared.Table.the-variants.{Bits, Registers}
 use Rattle.pdu.specs.declared.Asked.{Asked}
-use Rattle.pdu.specs.declared.Asked.the-variants.{Read, SingleWrite, MultipleWrite, Other}
+use Rattle.pdu.specs.declared.Asked.the-variants.{Read, SingleWrite, MultipleWrite, MaskWrite, ReadWrite, Other}
 use Rattle.rewrite.specs.declared.Way.{Way}
 use Rattle.rewrite.specs.Registers.{registersAt, laidAt}
 use Rattle.rewrite.specs.Rewriting.{Rewritten, withCounts, rewriting, partials, values, rewritten}
@@ -64,4 +64,6 @@ returned-laid tags w id (x ∷ y ∷ d) h =
     by (SingleWrite Bits a v) = refl
     by (SingleWrite Registers a v) = ⊎-elim (λ e. rw e (rewriting-laid _ 8 a 1 tags id (x ∷ y ∷ d) h)) (λ e. rw e) (true-or (reencoded tags a v))
     by (MultipleWrite t s q) = refl
+    by (MaskWrite a v m) = refl
+    by (ReadWrite s q u p) = rewriting-laid _ 7 s q tags id (x ∷ y ∷ d) h
     by Other = refl

@@ -1,4 +1,4 @@
--- Which request is legal under tags, exactly when: its bytes pass document 01's checks and no strict tag forbids it; and what the check of a request under tags comes to (request #108).
+-- Which request is legal under tags, exactly when: its bytes pass document 01's checks and no tag forbids it; and what the check of a request under tags comes to (requests #108 and #109).
 -- Assumes nothing.
 use Prim.Native.Nat.{ℕ, _<_}
 use mathlib.Core.Path.{_≡_, refl, ap, sym, _∙_}
@@ -19,13 +19,13 @@ use Rattle.pdu.specs.Plain.Outcome.{fine}
 use Rattle.pdu.specs.declared.Table.{Table}
 use Rattle.pdu.specs.declared.Table.the-variants.{Bits, Registers}
 use Rattle.pdu.specs.declared.Asked.{Asked}
-use Rattle.pdu.specs.declared.Asked.the-variants.{Read, SingleWrite, MultipleWrite, Other}
+use Rattle.pdu.specs.declared.Asked.the-variants.{Read, SingleWrite, MultipleWrite, MaskWrite, ReadWrite, Other}
 use Rattle.pdu.specs.declared.Checked.{Checked}
 use Rattle.pdu.specs.declared.Checked.the-variants.{BadFunction, BadLength, Excepted, Legal}
 use Rattle.pdu.proofs.RequestLaws.{known, sized, valued, ranged, check-exact, excepted-codes, check-tests, Tested, legal-passed}
 use Rattle.rewrite.specs.Legal.{forbidden, faultUnder, allowed, checkedUnder, legal}
 use Rattle.rewrite.specs.Strict.{Carries}
-use Rattle.rewrite.specs.Strict.Carries.{single, multiple}
+use Rattle.rewrite.specs.Strict.Carries.{single, multiple, both}
 
 module _ (tags : List Tag) (f : List ℕ) where
   tests : {x : Checked} → checkedOf f ≡ x → Tested f x
@@ -148,14 +148,17 @@ module _ (tags : List Tag) (f : List ℕ) where
   pub read-fault : {t : Table} {s q : ℕ} → askedOf f ≡ Read t s q → faultUnder tags f ≡ faultOf f
   read-fault {t} {s} {q} e = allowed-fault (ap (λ a. forbidden tags a f) e ∙ read-allowed t s q)
 
-  -- Nor a write of coils, nor any other function: what a tag forbids carries registers.
-  pub forbidden-carries : (a : Asked) → forbidden tags a f ≡ true → (base : ℕ) × (start : ℕ) × (quantity : ℕ) × Carries a base start quantity
+  -- Nor a write of coils, nor any other function: what a tag forbids carries registers, or masks one.
+  pub forbidden-carries : (a : Asked) → forbidden tags a f ≡ true
+      → ((base : ℕ) × (start : ℕ) × (quantity : ℕ) × Carries a base start quantity) ⊎ ((at : ℕ) × (x : ℕ) × (y : ℕ) × (a ≡ MaskWrite at x y))
   unfolding forbidden
   forbidden-carries (Read t s q) e = absurd (false≢true e)
   forbidden-carries (SingleWrite Bits a v) e = absurd (false≢true e)
-  forbidden-carries (SingleWrite Registers a v) e = (10, a, 1, single)
+  forbidden-carries (SingleWrite Registers a v) e = inl (10, a, 1, single)
   forbidden-carries (MultipleWrite Bits s q) e = absurd (false≢true e)
-  forbidden-carries (MultipleWrite Registers s q) e = (13, s, q, multiple)
+  forbidden-carries (MultipleWrite Registers s q) e = inl (13, s, q, multiple)
+  forbidden-carries (MaskWrite a x y) e = inr (a, x, y, refl)
+  forbidden-carries (ReadWrite s q u p) e = inl (17, u, p, both)
   forbidden-carries Other e = absurd (false≢true e)
 
 no-fault : (v a : Bool) → (eqb (cond v illegalValue (cond a illegalAddress 0)) 0 ≡ true) ↔ ((v ≡ false) × (a ≡ false))
@@ -173,7 +176,7 @@ pub faultless-exactly : (tags : List Tag) (f : List ℕ) → (eqb (faultUnder ta
 unfolding faultUnder
 faultless-exactly tags f = no-fault-under (faultOf f) (eqb (faultOf f) 0) (forbidden tags (askedOf f) f) refl
 
--- A frame is legal exactly where it is not refused as a frame, every check of its class passes, and no strict tag forbids it.
+-- A frame is legal exactly where it is not refused as a frame, every check of its class passes, and no tag forbids it.
 pub legal-exact : (s : Value) (f : List ℕ) → (legal s f ≡ true)
     ↔ ((misframed f ≡ false) × (Known (functionOf f) × (Sized (classIn f) f × ((Valued (classIn f) f × Ranged (classIn f) f) × (forbidden (s .tags) (askedOf f) f ≡ false)))))
 unfolding legal faultOf
@@ -184,7 +187,7 @@ legal-exact s f =
     (holds-and (not (badLength c f)) (eqb (faultUnder (s .tags) f) 0) (Iff·trans (holds-not (badLength c f)) (sized c f))
     (Iff·trans (faultless-exactly (s .tags) f) (Iff·and (Iff·trans (no-fault (badValue c f) (badAddress c f)) (Iff·and (valued c f) (ranged c f))) (λ e. e, λ e. e)))))
 
--- A frame is legal exactly where it is not refused as a frame, its check comes to what it asks, and no strict tag forbids that.
+-- A frame is legal exactly where it is not refused as a frame, its check comes to what it asks, and no tag forbids that.
 pub legal-checked : (s : Value) (f : List ℕ) → (legal s f ≡ true) ↔ ((misframed f ≡ false) × (checkedOf f ≡ Legal (askedOf f)) × (forbidden (s .tags) (askedOf f) f ≡ false))
 legal-checked s f = (
   λ e. let w = legal-exact s f .0 e in

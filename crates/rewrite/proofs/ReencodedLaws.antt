@@ -5,16 +5,14 @@ use mathlib.Core.Path.{_≡_, refl, ap, sym, _∙_}
 use mathlib.Core.Logic.{⊎-elim, _↔_}
 use mathlib.Core.Bool.{true, false, not, _||_, false≢true, true≢false, or-true}
 use mathlib.Core.List.{List, [], _∷_, List·Memᴰ, List·Memᴰ·head, List·Memᴰ·tail, List·Memᴰ·not-nil, List·Memᴰ·cases-cons}
-use native.Mathlib.Nat.{zero-add}
 use native.Mathlib.Omega.{arith}
 use lib.ListN.{getD}
 use lib.Dec.{eqb}
-use borrow.Author.Tests.{eq-eqb, eqb-true, not-false, le-leb, leb-true}
+use borrow.Author.Tests.{eq-eqb, eqb-true, not-false}
 use Rattle.laws.specs.Bytes.{pairAt}
 use Rattle.laws.specs.Digits.{digits, value as valueOf}
 use Rattle.laws.specs.Search.{first}
-use Rattle.laws.proofs.Choice.{true-or, lt-or, same-test, or-left, or-right, or-either}
-use Rattle.laws.proofs.SearchLaws.{first-before, first-here}
+use Rattle.laws.proofs.Choice.{true-or, same-test, or-left, or-right, or-either}
 use Rattle.bcd.specs.declared.Kind.{Kind}
 use Rattle.bcd.specs.declared.Encoded.the-variants.{Bcd, OutOfRange}
 use Rattle.bcd.specs.Bcd.{registers, inRange, encoded}
@@ -33,7 +31,7 @@ use Rattle.rewrite.specs.Plain.{Has, Whole}
 use Rattle.rewrite.specs.inner.Lent.{tagsOf, TagWords, reaches}
 use Rattle.rewrite.proofs.RegisterLaws.{laid-registers}
 use Rattle.rewrite.proofs.OrderLaws.{behind-last}
-use Rattle.rewrite.proofs.TableLaws.{tag-place, tag-order, tag-in}
+use Rattle.rewrite.proofs.TableLaws.{tag-in, owner}
 use Rattle.rewrite.proofs.VerdictLaws.{whole-single, was-done, done-exactly, turned-encoded, raw-encoded}
 
 -- a request was re-encoded exactly if some tag's verdict is that it is rewritten
@@ -130,37 +128,13 @@ sent-raw tags f bytes a e = ap (λ (rs : List ℕ). laidAt 10 rs f) (from-raw ta
 -- TAG WORDS: the first tag that does not end before the address decides
 
 module _ (n : ℕ) (words : List ℕ) (w : TagWords n words) (a v : ℕ) where
-  -- the only tag that can have the address
-  owner : (i : ℕ) → i ≡ first (reaches words a) n → (t : Tag) → List·Memᴰ t (tagsOf n words) → Has t a → (i < n) × (t ≡ tagOf (getD words i 0))
-  owner i e t m h =
-      let s = tag-place words 0 n t m in
-      let k = s .0 in
-      let z : t ≡ tagOf (getD words k 0) = rw (zero-add k) at (s .2) in
-      let late : a ≤ lastOf (tagOf (getD words k 0)) = rw z at (h .1) in
-      let low : i ≤ k =
-      ⊎-elim
-      (λ (l : k < i). absurd (true≢false (sym (le-leb a (lastOf (tagOf (getD words k 0))) late) ∙ first-before (reaches words a) n k (rw (← e) l))))
-      (λ l. l)
-      (lt-or k i) in
-      let before : i < n = omega (arith, s .1) in
-      let same : k ≡ i =
-      ⊎-elim
-      (λ (l : i < k). absurd (
-      let o = tag-order n words w i k l (s .1) in
-      let r : a ≤ lastOf (tagOf (getD words i 0)) = leb-true a (lastOf (tagOf (getD words i 0))) (rw e (first-here (reaches words a) n (rw (← e) before))) in
-      let y : t .address ≡ tagOf (getD words k 0) .address = ap (λ (u : Tag). u .address) z in
-      omega (arith, h .0)))
-      (λ (l : k ≤ i). omega arith)
-      (lt-or i k) in
-      (before, z ∙ ap (λ (j : ℕ). tagOf (getD words j 0)) same)
-
   module _ (i : ℕ) (e : i ≡ first (reaches words a) n) where
     not-owned : ((t : Tag) → i < n → t ≡ tagOf (getD words i 0) → t .address ≡ a → registers (kindOf t) ≡ 1 → inRange (kindOf t) v ≡ true → ⊥) → false ≡ reencoded (tagsOf n words) a v
     not-owned never =
         ⊎-elim
         (λ (r : reencoded (tagsOf n words) a v ≡ true).
         let q = reencoded-exactly (tagsOf n words) a v .0 r in
-        let o = owner i e (q .0) (q .1) (has-one a v (q .0) (q .2) (q .3)) in
+        let o = owner n words w a i e (q .0) (q .1) (has-one a v (q .0) (q .2) (q .3)) in
         absurd (never (q .0) (o .0) (o .1) (q .2) (q .3) (q .4)))
         (λ r. sym r)
         (true-or (reencoded (tagsOf n words) a v))
@@ -190,5 +164,5 @@ module _ (n : ℕ) (words : List ℕ) (w : TagWords n words) (a v : ℕ) where
         let b = behind-last t in
         let one : registers (kindOf t) ≡ 1 = omega arith in
         same-test _ _
-        (λ r. let x = reencoded-exactly (tagsOf n words) a v .0 r in let o = owner i e (x .0) (x .1) (has-one a v (x .0) (x .2) (x .3)) in rw (← o .1) (x .4))
+        (λ r. let x = reencoded-exactly (tagsOf n words) a v .0 r in let o = owner n words w a i e (x .0) (x .1) (has-one a v (x .0) (x .2) (x .3)) in rw (← o .1) (x .4))
         (λ r. reencoded-exactly (tagsOf n words) a v .1 (t, tag-in n words w i l, p, one, r))

@@ -1,18 +1,18 @@
--- Strict tags in plain numbers: exactly which writes they forbid, that nothing is forbidden without such a tag, and what stands at a strict tag in a frame that goes out.
+-- Strict tags in plain numbers: exactly which writes they forbid, that only masks are forbidden without such a tag, which masks any tag forbids, and what stands at a strict tag in a frame that goes out.
 -- Assumes nothing.
 use Prim.Native.Nat.{ℕ, _+_, _*_, _-_, _^_, _≤_, _<_}
 use mathlib.Core.Path.{_≡_, refl, ap, sym, _∙_}
 use mathlib.Core.Logic.{⊎-elim, _⊎_, inl, inr, _↔_, Iff·trans}
-use mathlib.Core.Bool.{Bool, true, false, _||_, false≢true, true≢false, or-true}
+use mathlib.Core.Bool.{Bool, true, false, _&&_, _||_, false≢true, true≢false, or-true}
 use mathlib.Core.List.{List, [], _∷_, List·Memᴰ, List·Memᴰ·head, List·Memᴰ·tail, List·Memᴰ·not-nil, List·Memᴰ·cases-cons}
 use native.Mathlib.Omega.{arith}
 use lib.ListN.{getD}
 use lib.Seq.{ext-getD}
-use lib.Dec.{eqb}
-use borrow.Author.Tests.{ne-eqb}
+use lib.Dec.{eqb, leb}
+use borrow.Author.Tests.{ne-eqb, le-leb, leb-true}
 use Rattle.numbers.specs.Numbers.{digitsPerRegister, signedDigits}
 use Rattle.laws.proofs.Choice.{true-or, lt-or, or-left, or-right, or-either, never}
-use Rattle.laws.proofs.TestLaws.{holds-eq, holds-and}
+use Rattle.laws.proofs.TestLaws.{holds-eq, holds-and, holds-or}
 use Rattle.bcd.specs.declared.Kind.{Kind}
 use Rattle.bcd.specs.declared.Kind.the-variants.{Width16, Width32, Signed16}
 use Rattle.bcd.specs.declared.Encoded.the-variants.{Bcd}
@@ -24,23 +24,21 @@ use Rattle.bcd.proofs.RoundTrip.{digits-decode-accepts, range-16, range-32, ran
 use Rattle.bcd.proofs.Words.{words-count, number-back}
 use Rattle.settings.specs.Grammar.{Tag}
 use Rattle.settings.specs.TagWords.{kindOf, lastOf, someStrict, Ascending}
-use Rattle.pdu.specs.Requests.{quantityOf, askedBy, checkedOf}
-use Rattle.pdu.specs.Plain.{Valued, classIn}
-use Rattle.pdu.specs.declared.Class.{Class}
-use Rattle.pdu.specs.declared.Class.the-variants.{Reads, WritesOne, WritesMany, Others}
+use Rattle.pdu.specs.Requests.{checkedOf}
+use Rattle.pdu.specs.Plain.{NotEmpty}
 use Rattle.pdu.specs.declared.Table.the-variants.{Bits, Registers}
 use Rattle.pdu.specs.declared.Asked.{Asked}
-use Rattle.pdu.specs.declared.Asked.the-variants.{Read, SingleWrite, MultipleWrite, Other}
+use Rattle.pdu.specs.declared.Asked.the-variants.{Read, SingleWrite, MultipleWrite, MaskWrite, ReadWrite, Other}
 use Rattle.pdu.specs.declared.Checked.the-variants.{Legal}
-use Rattle.pdu.proofs.RequestLaws.{legal-passed}
+use Rattle.pdu.proofs.SpoilingLaws.{legal-ranges}
 use Rattle.rewrite.specs.declared.Way.the-variants.{ToBcd}
 use Rattle.rewrite.specs.Registers.{registersAt}
 use Rattle.rewrite.specs.Rewriting.{Verdict, verdict, isRawPartial, isRawValue, ownIn}
 use Rattle.rewrite.specs.Rewriting.Verdict.{outside, partial, value, done}
 use Rattle.rewrite.specs.Plain.{Has, InRun, Whole, Rewrites}
-use Rattle.rewrite.specs.Legal.{staysRaw, forbids, someForbids, forbidden}
+use Rattle.rewrite.specs.Legal.{staysRaw, forbids, someForbids, someHas, forbidden}
 use Rattle.rewrite.specs.Strict.{Carries, Cut, standing, TooFar, Digits, Violates, HasDigits}
-use Rattle.rewrite.specs.Strict.Carries.{single, multiple}
+use Rattle.rewrite.specs.Strict.Carries.{single, multiple, both}
 use Rattle.rewrite.proofs.RegisterLaws.{length-registers, register-at, registers-part}
 use Rattle.rewrite.proofs.OrderLaws.{behind-last, first-last}
 use Rattle.rewrite.proofs.VerdictLaws.{partial-exactly, value-exactly, done-exactly, turned-encoded, raw-encoded}
@@ -163,17 +161,14 @@ some-exactly tags f bytes base start quantity some = (
   λ v. in-some start (registersAt base quantity f) tags (v .tag) (v .listed) (forbids-exactly f bytes base start quantity (v .tag) some .1 (v .strict, v .how)),
 )
 
-some-by : (c : Class) (f : List ℕ) → Valued c f → {a : Asked} {base start quantity : ℕ} → a ≡ askedBy c f → Carries a base start quantity → 1 ≤ quantity
-unfolding askedBy
-some-by c f v e single = omega arith
-some-by (Reads t) f v e multiple = never (cc)
-some-by (WritesOne t) f v e multiple = never (cc)
-some-by (WritesMany t) f v e (multiple {q = q}) = let n : q ≡ quantityOf f = cc in omega (arith, v .0)
-some-by Others f v e multiple = never (cc)
+some-by : {a : Asked} {base start quantity : ℕ} → NotEmpty a → Carries a base start quantity → 1 ≤ quantity
+some-by n single = omega arith
+some-by n multiple = n
+some-by n both = n .1
 
 -- A request that passed the check of its bytes and carries registers carries one at least.
 pub carries-some : (f : List ℕ) {a : Asked} {base start quantity : ℕ} → checkedOf f ≡ Legal a → Carries a base start quantity → 1 ≤ quantity
-carries-some f {a} e c = let p = legal-passed f a e in some-by (classIn f) f (p .value) (p .asks) c
+carries-some f {a} e c = some-by (legal-ranges f a e .some) c
 
 -- A write that carries registers, one at least, is forbidden exactly if they violate a strict tag.
 pub forbidden-exactly : (tags : List Tag) (f : List ℕ) → ((k : ℕ) → getD f k 0 < 256) → (a : Asked) {base start quantity : ℕ} → Carries a base start quantity → 1 ≤ quantity
@@ -181,6 +176,25 @@ pub forbidden-exactly : (tags : List Tag) (f : List ℕ) → ((k : ℕ) → getD
 unfolding forbidden
 forbidden-exactly tags f bytes _ (single {a = at}) some = some-exactly tags f bytes 10 at 1 some
 forbidden-exactly tags f bytes _ (multiple {s = s} {q = q}) some = some-exactly tags f bytes 13 s q some
+forbidden-exactly tags f bytes _ (both {u = u} {p = p}) some = some-exactly tags f bytes 17 u p some
+
+has-test : (t : Tag) (x : ℕ) → ((leb (t .address) x && leb x (lastOf t)) ≡ true) ↔ Has t x
+has-test t x = holds-and (leb (t .address) x) (leb x (lastOf t)) (leb-true (t .address) x, le-leb (t .address) x) (leb-true x (lastOf t), le-leb x (lastOf t))
+
+-- Some tag has a register exactly if one of them does, strict or not.
+pub has-exactly : (x : ℕ) (tags : List Tag) → (someHas x tags ≡ true) ↔ ((t : Tag) × List·Memᴰ t tags × Has t x)
+unfolding someHas
+has-exactly x [] = (λ e. absurd (false≢true e), λ h. absurd (List·Memᴰ·not-nil (h .1)))
+has-exactly x (t ∷ ts) =
+    Iff·trans (holds-or (leb (t .address) x && leb x (lastOf t)) (someHas x ts) (has-test t x) (has-exactly x ts)) (
+      ⊎-elim (λ (h : Has t x). (t, List·Memᴰ·head refl, h)) (λ (h : (u : Tag) × List·Memᴰ u ts × Has u x). (h .0, List·Memᴰ·tail (h .1), h .2)),
+      λ (h : (u : Tag) × List·Memᴰ u (t ∷ ts) × Has u x). ⊎-elim (λ (q : h .0 ≡ t). inl (rw (← q) (h .2))) (λ m. inr (h .0, m, h .2)) (List·Memᴰ·cases-cons (h .1)),
+    )
+
+-- A mask write is forbidden exactly if a tag has its register.
+pub mask-forbidden-exactly : (tags : List Tag) (a x y : ℕ) (f : List ℕ) → (forbidden tags (MaskWrite a x y) f ≡ true) ↔ ((t : Tag) × List·Memᴰ t tags × Has t a)
+unfolding forbidden
+mask-forbidden-exactly tags a x y f = has-exactly a tags
 
 -- Where no tag is strict, none is marked as one.
 pub strictless : (tags : List Tag) → ((t : Tag) → List·Memᴰ t tags → t .strict ≡ 1 → ⊥) → someStrict tags ≡ false
@@ -193,15 +207,17 @@ unfolding someStrict someForbids forbids
 lenient-run start rs [] e = refl
 lenient-run start rs (t ∷ ts) e = rw (or-left (eqb (t .strict) 1) (someStrict ts) e) (lenient-run start rs ts (or-right (eqb (t .strict) 1) (someStrict ts) e))
 
--- Tags none of which is strict forbid nothing.
-pub lenient-allowed : (tags : List Tag) → someStrict tags ≡ false → (a : Asked) (f : List ℕ) → forbidden tags a f ≡ false
+-- Tags none of which is strict forbid nothing but a mask write to a register that one of them has.
+pub lenient-allowed : (tags : List Tag) → someStrict tags ≡ false → (a : Asked) (f : List ℕ) → ((at x y : ℕ) → a ≡ MaskWrite at x y → someHas at tags ≡ false) → forbidden tags a f ≡ false
 unfolding forbidden
-lenient-allowed tags e (Read t s q) f = refl
-lenient-allowed tags e (SingleWrite Bits a v) f = refl
-lenient-allowed tags e (SingleWrite Registers a v) f = lenient-run a (registersAt 10 1 f) tags e
-lenient-allowed tags e (MultipleWrite Bits s q) f = refl
-lenient-allowed tags e (MultipleWrite Registers s q) f = lenient-run s (registersAt 13 q f) tags e
-lenient-allowed tags e Other f = refl
+lenient-allowed tags e (Read t s q) f free = refl
+lenient-allowed tags e (SingleWrite Bits a v) f free = refl
+lenient-allowed tags e (SingleWrite Registers a v) f free = lenient-run a (registersAt 10 1 f) tags e
+lenient-allowed tags e (MultipleWrite Bits s q) f free = refl
+lenient-allowed tags e (MultipleWrite Registers s q) f free = lenient-run s (registersAt 13 q f) tags e
+lenient-allowed tags e (MaskWrite a x y) f free = free a x y refl
+lenient-allowed tags e (ReadWrite s q u p) f free = lenient-run u (registersAt 17 p f) tags e
+lenient-allowed tags e Other f free = refl
 
 -- WHAT GOES OUT
 

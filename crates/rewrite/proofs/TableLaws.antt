@@ -3,25 +3,26 @@
 use Prim.Native.Nat.{ℕ, _+_, _*_, _-_, _≤_, _<_}
 use mathlib.Core.Path.{_≡_, refl, ap, sym, _∙_}
 use mathlib.Core.Logic.{⊎-elim}
-use mathlib.Core.Bool.{Bool, false}
+use mathlib.Core.Bool.{Bool, false, true≢false}
 use mathlib.Core.List.{List, [], _∷_, _++_, map, map-append, List·Memᴰ, List·Memᴰ·head, List·Memᴰ·tail}
 use native.Mathlib.Nat.{add-zero, zero-add}
 use native.Mathlib.Numerals.{add-one}
 use native.Mathlib.Omega.{arith}
 use lib.ListN.{length, getD, take, drop, length-map, length-take, List·getD-map}
 use lib.Seq.{take-suc, take-add, getD-take, getD-drop, length-take-le}
-use borrow.Author.Tests.{lt-leb, leb-false}
+use borrow.Author.Tests.{lt-leb, le-leb, leb-true, leb-false}
 use Rattle.laws.specs.Lists.{filter}
 use Rattle.laws.specs.Search.{first}
 use Rattle.laws.proofs.Choice.{lt-or}
 use Rattle.laws.proofs.FilterLaws.{filter-none, filter-count}
-use Rattle.laws.proofs.SearchLaws.{first-before}
+use Rattle.laws.proofs.SearchLaws.{first-before, first-here}
 use Rattle.settings.specs.Grammar.{Tag}
 use Rattle.settings.specs.TagWords.{tagOf, lastOf, Ascending}
 use Rattle.rewrite.specs.declared.Way.{Way}
 use Rattle.rewrite.specs.Registers.{registersAt}
 use Rattle.rewrite.specs.Rewriting.{Verdict, isRawPartial, isRawValue, verdict, laidBy, rewrittenFrom, rewritten, partials, values, Rewritten, withCounts, rewriting}
 use Rattle.rewrite.specs.Rewriting.Verdict.{outside}
+use Rattle.rewrite.specs.Plain.{Has}
 use Rattle.rewrite.specs.inner.Lent.{tagsOf, TagWords, reaches}
 use Rattle.laws.proofs.MemberLaws.{mem-place, place-mem}
 use Rattle.rewrite.proofs.RegisterLaws.{length-registers, registers-below, registers-laid, laid-registers, laid-laid}
@@ -187,6 +188,30 @@ module _ (n : ℕ) (words : List ℕ) (w : TagWords n words) where
       (λ (y : i < k). let o = tag-order i k y l in let f = first-last (tagOf (getD words i 0)) in omega arith)
       (λ (y : k ≤ i). let j : k ≡ i = omega arith in rw j e)
       (lt-or i k)
+
+  -- the only tag that can have an address is the first that reaches it
+  pub owner : (a i : ℕ) → i ≡ first (reaches words a) n → (t : Tag) → List·Memᴰ t (tagsOf n words) → Has t a → (i < n) × (t ≡ tagOf (getD words i 0))
+  owner a i e t m h =
+      let s = tag-place words 0 n t m in
+      let k = s .0 in
+      let z : t ≡ tagOf (getD words k 0) = rw (zero-add k) at (s .2) in
+      let late : a ≤ lastOf (tagOf (getD words k 0)) = rw z at (h .1) in
+      let low : i ≤ k =
+      ⊎-elim
+      (λ (l : k < i). absurd (true≢false (sym (le-leb a (lastOf (tagOf (getD words k 0))) late) ∙ first-before (reaches words a) n k (rw (← e) l))))
+      (λ l. l)
+      (lt-or k i) in
+      let before : i < n = omega (arith, s .1) in
+      let same : k ≡ i =
+      ⊎-elim
+      (λ (l : i < k). absurd (
+      let o = tag-order i k l (s .1) in
+      let r : a ≤ lastOf (tagOf (getD words i 0)) = leb-true a (lastOf (tagOf (getD words i 0))) (rw e (first-here (reaches words a) n (rw (← e) before))) in
+      let y : t .address ≡ tagOf (getD words k 0) .address = ap (λ (u : Tag). u .address) z in
+      omega (arith, h .0)))
+      (λ (l : k ≤ i). omega arith)
+      (lt-or i k) in
+      (before, z ∙ ap (λ (j : ℕ). tagOf (getD words j 0)) same)
 
 -- what the code knows of the tag words and of the buffer
 pub record KnownTable (base q n : ℕ) (words d : List ℕ) : Type 0 where

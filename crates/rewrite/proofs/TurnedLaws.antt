@@ -17,7 +17,7 @@ use Rattle.rewrite.proofs.RunLaws.{register-done, register-raw}
 use Rattle.rewrite.proofs.TableLaws.{registers-after}
 use Rattle.rewrite.proofs.FrameLaws.{length-rewriting, rewriting-other, stands-under}
 
-module _ (way : Way) (base start q : ℕ) (tags : List Tag) (f : List ℕ) (id : ℕ) (o : List ℕ) (b : 2 ≤ base) (room : base + 2 * q ≤ length f) where
+module _ (way : Way) (base start q : ℕ) (tags : List Tag) (f : List ℕ) (id : ℕ) (o : List ℕ) (b : 2 ≤ base) (room : base + 2 * q ≡ length f) where
   -- what stands in the buffer behind the id
   stands : (k : ℕ) → 2 ≤ k → k < length f → getD (over (laid id (rewriting way base start q tags f .bytes)) o) k 0 ≡ getD (rewriting way base start q tags f .bytes) k 0
   stands k h l = stands-under id (rewriting way base start q tags f .bytes) o k h (rw (length-rewriting way base start q tags f) l)
@@ -28,7 +28,7 @@ module _ (way : Way) (base start q : ℕ) (tags : List Tag) (f : List ℕ) (id :
   register bytes i h =
       let w = rewriting way base start q tags f .bytes in
       rw (stands (base + 2 * i) (omega arith) (omega arith), stands (base + 2 * i + 1) (omega arith) (omega arith))
-      (sym (register-at base q w i h) ∙ ap (λ (rs : List ℕ). getD rs i 0) (registers-after way base start q f bytes room tags))
+      (sym (register-at base q w i h) ∙ ap (λ (rs : List ℕ). getD rs i 0) (registers-after way base start q f bytes (omega arith) tags))
 
   -- What was rewritten and laid over a buffer stands there rewritten.
   pub stands-rewritten : Rewrites way tags f (over (laid id (rewriting way base start q tags f .bytes)) o) (rewriting way base start q tags f .partial) (rewriting way base start q tags f .value) base start q

@@ -1,5 +1,5 @@
--- The plain words of the theorems on tags: a tag has an address, an address is in a run, a tag is whole in a run, and its number rewritten; a function is one of coils or discrete inputs; a frame has the registers
--- of another turned, each by its tag's verdict.
+-- The plain words of the theorems on tags: a tag has an address, an address is in a run, a tag is whole in a run, and its number rewritten; a function is one of coils or discrete inputs; which registers a reply
+-- brings; a frame has the registers of another turned, each by its tag's verdict.
 -- Assumes nothing.
 use Prim.Native.Nat.{ℕ, _+_, _*_, _-_, _≤_, _<_}
 use mathlib.Core.Path.{_≡_}
@@ -12,6 +12,9 @@ use Rattle.laws.specs.Bytes.{pairAt}
 use Rattle.bcd.specs.Words.{numberOf}
 use Rattle.settings.specs.Grammar.{Tag}
 use Rattle.settings.specs.TagWords.{lastOf, Ascending, kindOf}
+use Rattle.pdu.specs.declared.Table.the-variants.{Registers}
+use Rattle.pdu.specs.declared.Asked.{Asked}
+use Rattle.pdu.specs.declared.Asked.the-variants.{Read, ReadWrite}
 use Rattle.rewrite.specs.declared.Way.{Way}
 use Rattle.rewrite.specs.Registers.{registersAt}
 use Rattle.rewrite.specs.Rewriting.{Verdict, verdict, isRawPartial, isRawValue, rewriting, turned, ownIn}
@@ -29,6 +32,11 @@ InRun start n x = (start ≤ x) × (x < start + n)
 abbrev pub Whole : ℕ → ℕ → Tag → Type 0
 Whole start n t = (start ≤ t .address) × (lastOf t < start + n)
 
+-- which registers a reply that is no exception brings, from byte 9 on: those of the addresses that 03, 04 and 23 read
+pub data Brings : Asked → (start quantity : ℕ) → Type 0 where
+  read : {s q : ℕ} → Brings (Read Registers s q) s q
+  read-of-both : {s q u p : ℕ} → Brings (ReadWrite s q u p) s q
+
 -- the functions of coils and discrete inputs: 01, 02, 05 and 15
 pub data OfBits : ℕ → Type 0 where
   coils-read : OfBits 1
@@ -40,10 +48,10 @@ pub data OfBits : ℕ → Type 0 where
 abbrev pub verdictIn : Way → (base start quantity : ℕ) → List ℕ → Tag → Verdict
 verdictIn way base start quantity f t = verdict way start (registersAt base quantity f) t
 
--- the registers of f from byte base on, of the addresses from start on, stand in w turned, by the definition and tag by tag: the register of a tag whose verdict is done is that tag's word,
+-- the registers of f from byte base on to its end, of the addresses from start on, stand in w turned, by the definition and tag by tag: the register of a tag whose verdict is done is that tag's word,
 -- a register of no such tag is as it came; every other byte behind the id is as in f; and the counts are the numbers of tags that are raw for partial cover and for value
 pub record Rewrites (way : Way) (tags : List Tag) (f w : List ℕ) (partial value base start quantity : ℕ) : Type 0 where
-  pub inside : base + 2 * quantity ≤ length f
+  pub inside : base + 2 * quantity ≡ length f
   pub registers : (k : ℕ) → base ≤ k → k < base + 2 * quantity → getD w k 0 ≡ getD (rewriting way base start quantity tags f .bytes) k 0
   pub turned : Ascending 0 tags → ((k : ℕ) → getD f k 0 < 256) → (t : Tag) (ws : List ℕ) (i : ℕ) → List·Memᴰ t tags → verdictIn way base start quantity f t ≡ done ws → Has t (start + i)
       → i < quantity → pairAt w (base + 2 * i) ≡ getD ws (start + i - t .address) 0

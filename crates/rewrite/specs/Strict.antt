@@ -13,13 +13,14 @@ use Rattle.settings.specs.Grammar.{Tag}
 use Rattle.settings.specs.TagWords.{kindOf}
 use Rattle.pdu.specs.declared.Table.the-variants.{Registers}
 use Rattle.pdu.specs.declared.Asked.{Asked}
-use Rattle.pdu.specs.declared.Asked.the-variants.{SingleWrite, MultipleWrite}
+use Rattle.pdu.specs.declared.Asked.the-variants.{SingleWrite, MultipleWrite, ReadWrite}
 use Rattle.rewrite.specs.Plain.{Has, InRun, Whole}
 
--- which registers a write carries: from which byte on, of which addresses; a write of coils carries none
+-- which registers a write carries: from which byte on, of which addresses; a write of coils carries none, nor does 22, whose masks are no values of a register
 pub data Carries : Asked → (base start quantity : ℕ) → Type 0 where
   single : {a v : ℕ} → Carries (SingleWrite Registers a v) 10 a 1
   multiple : {s q : ℕ} → Carries (MultipleWrite Registers s q) 13 s q
+  both : {s q u p : ℕ} → Carries (ReadWrite s q u p) 17 u p
 
 -- the run of the addresses from start on has one register of the tag and has not another
 abbrev pub Cut : ℕ → ℕ → Tag → Type 0

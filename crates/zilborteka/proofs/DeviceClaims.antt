@@ -29,13 +29,14 @@ use Rattle.pdu.specs.Requests.{classOf, badFunction, badLength, askedOf, faultO
 use Rattle.pdu.specs.Replies.{What, excepts}
 use Rattle.pdu.specs.Words.{whatOf, closedBit, closedIn}
 use Rattle.pdu.specs.Spoiling.{spoils}
-use Rattle.pdu.specs.declared.Table.the-variants.{Registers}
-use Rattle.pdu.specs.declared.Asked.the-variants.{Read}
 use Rattle.pdu.specs.declared.Checked.the-variants as check
 use Rattle.pdu.proofs.ReadLaws.{reads-exactly}
 use Rattle.rewrite.specs.Registers.{registersAt}
-use Rattle.rewrite.specs.Rewriting.{ownIn}
-use Rattle.rewrite.specs.Plain.{Has, InRun, Whole, OfBits}
+use Rattle.rewrite.specs.Rewriting.{ownIn, Rewritten}
+use Rattle.rewrite.specs.Frames.{returned}
+use Rattle.rewrite.specs.Plain.{Has, InRun, Whole, Brings, OfBits, Rewrites}
+use Rattle.rewrite.specs.declared.Way.{Way}
+use Rattle.rewrite.specs.declared.Way.the-variants.{ToBcd, ToBinary}
 use Rattle.rewrite.specs.Legal.{legal}
 use Rattle.rewrite.specs.Strict.{Carries, Violates, HasDigits}
 use Rattle.cache.specs.Cache.{Cached, inCache}
@@ -434,7 +435,7 @@ module _ (from : Settings) {r : Report} {d d′ : Device} (ls : List Line) (fres
       claim.a-read-after-a-write-is-not-stale v xs before later j w u p (sym (lived .told) ∙ told) c t f o _ (rw (lived .after) at (report-tells (request c t f o) s .joined e))
 
   -- The same in bytes: a line of this life is a request g that was reported issued, and a later request f is reported joined, which g meets: byte 6 of both is equal, byte 7 of g is 05 or 15
-  -- and that of f 01 or 02, or 06 or 16 and 03 or 04, and some address is in both ranges, or g is "other" and f a read. Then of what the lines behind g's tell, the last that
+  -- and that of f 01 or 02, or 06, 16, 22 or 23 and 03 or 04, and some address is in both ranges, of a 23 in the one that it writes, or g is "other" and f a read. Then of what the lines behind g's tell, the last that
   -- begins or ends a life of the id that f joined is its issue, which asks what f asks.
   pub a-read-after-a-write-is-not-stale-in-bytes : (ks : List Line) (x : Line) (ys : List Line) → ls ≡ ks ++ x ∷ ys → (c t : ℕ) (g o : List ℕ) → x .call ≡ request c t g o
       → x .saw .report .outcome ≡ 2
@@ -588,7 +589,24 @@ module _ (from : Settings) {r : Report} {d d′ : Device} (ls : List Line) (fres
   pub a-hit-cuts-no-tag : (c t : ℕ) (f o : List ℕ) {saw : Seen} {d″ : Device} → Called d′ (request c t f o) saw d″ → saw .report .outcome ≡ isHit → saw .report .partial ≡ 0
   a-hit-cuts-no-tag c t f o s e = claim.a-hit-cuts-no-tag v xs (adopted-valid (valueOf from)) c t f o _ _ _ (hit-says c t f o s e)
 
-  -- Request #108: "If a write covers a strict tag partly, or its value is outside the range, the client gets exception 03 and nothing is issued." A write 06 or 16 that is not refused and whose
+  -- Request #109: "neither joins". What is reported joined is one of 01 to 04, and what is reported a hit 03 or 04: no 22 and no 23 ever is.
+  pub only-reads-join-or-hit : (c t : ℕ) (f o : List ℕ) {saw : Seen} {d″ : Device} → Called d′ (request c t f o) saw d″
+      → (saw .report .outcome ≡ isJoined → ((getD f 7 0 ≡ 1) ⊎ (getD f 7 0 ≡ 2)) ⊎ ((getD f 7 0 ≡ 3) ⊎ (getD f 7 0 ≡ 4)))
+      × (saw .report .outcome ≡ isHit → (getD f 7 0 ≡ 3) ⊎ (getD f 7 0 ≡ 4))
+  only-reads-join-or-hit c t f o s =
+      let x = request c t f o in
+      let only = claim.only-reads-join-or-hit v xs c t f o in
+      (λ e. only .0 _ (rw (lived .after) at (report-tells x s .joined e)), λ e. only .1 _ _ _ (hit-says c t f o s e))
+
+  -- What a 23 that is issued writes, in bytes: the registers from byte 17 on, as many as the number at byte 14 says, are those of the addresses from the number at byte 12 on, each turned to BCD by its tag in
+  -- force or as it came; and both counts are of that range.
+  pub what-a-23-writes : (c t : ℕ) (f o : List ℕ) {saw : Seen} {d″ : Device} → Called d′ (request c t f o) saw d″ → saw .report .outcome ≡ isIssued → getD f 7 0 ≡ 23
+      → Rewrites ToBcd (inForce from .tags) f (saw .frame) (saw .report .partial) (saw .report .value) 17 (numberAt f 12) (numberAt f 14)
+  what-a-23-writes c t f o s e named =
+      let x = request c t f o in
+      rw (ap (λ (y : Seen). y .frame) (sees x s)) (claim.what-a-23-writes v xs c t f o _ _ _ _ (rw (lived .after) at (report-tells x s .issued e)) named)
+
+  -- Request #108: "If a write covers a strict tag partly, or its value is outside the range, the client gets exception 03 and nothing is issued." A write 06, 16 or 23 that is not refused and whose
   -- bytes give neither exception 03 nor 02 reports exception 03 exactly if some strict tag has a register in the write and another outside it, or lies in it with a value outside its range, in
   -- plain numbers (`Violates`). All ten numbers, the buffer, and that nothing is issued, closed or dropped then: `an-exception-is-this`. What is lent is bytes, which a line does not say.
   pub a-strict-tag-forbids-exactly : (c t : ℕ) (f o : List ℕ) → ((k : ℕ) → getD f k 0 < 256) → {saw : Seen} {d″ : Device} → Called d′ (request c t f o) saw d″ → saw .report .refusal ≡ 0
@@ -600,18 +618,35 @@ module _ (from : Settings) {r : Report} {d d′ : Device} (ls : List Line) (fres
       rw (sees x s) (Iff·trans (exception-exactly _ 3) (claim.a-strict-tag-forbids-exactly v xs c t f o h bytes fine base start quantity carries))
 
   -- "The check follows exception 02 in 01's order": a request that is not refused reports exception 03 exactly if its bytes give that, or they give neither 03 nor 02 and it is a write of
-  -- registers that a strict tag forbids. No read, no write of coils and no other function is forbidden, and bytes that give 02 do not get 03.
-  pub only-a-strict-tag-forbids : (c t : ℕ) (f o : List ℕ) → ((k : ℕ) → getD f k 0 < 256) → {saw : Seen} {d″ : Device} → Called d′ (request c t f o) saw d″ → saw .report .refusal ≡ 0
+  -- registers that a strict tag forbids, or a 22 (#109) whose register a tag has. No read, no write of coils and no other function is forbidden, and bytes that give 02 do not get 03.
+  pub only-a-tag-forbids : (c t : ℕ) (f o : List ℕ) → ((k : ℕ) → getD f k 0 < 256) → {saw : Seen} {d″ : Device} → Called d′ (request c t f o) saw d″ → saw .report .refusal ≡ 0
       → ((saw .report .outcome ≡ isException) × (saw .report .code ≡ 3))
       ↔ ((checkedOf f ≡ check.Excepted 3)
       ⊎ ((checkedOf f ≡ check.Legal (askedOf f))
-      × ((base : ℕ) × (start : ℕ) × (quantity : ℕ) × Carries (asking f .asked) base start quantity × Violates (inForce from .tags) f base start quantity)))
-  only-a-strict-tag-forbids c t f o bytes s z =
+      × (((base : ℕ) × (start : ℕ) × (quantity : ℕ) × Carries (asking f .asked) base start quantity × Violates (inForce from .tags) f base start quantity)
+      ⊎ ((getD f 7 0 ≡ 22) × ((tag : Tag) × List·Memᴰ tag (inForce from .tags) × Has tag (numberAt f 8))))))
+  only-a-tag-forbids c t f o bytes s z =
       let x = request c t f o in
       let h = passes x s z in
-      rw (sees x s) (Iff·trans (exception-exactly _ 3) (claim.only-a-strict-tag-forbids v xs c t f o h bytes))
+      rw (sees x s) (Iff·trans (exception-exactly _ 3) (claim.only-a-tag-forbids v xs c t f o h bytes))
 
-  -- "No frame to the device ever holds, at a strict tag, a word its kind does not allow, for the register writes 06 and 16." In the buffer after a write that is issued, a strict tag of which
+  -- Request #109: "On any tagged register it gets exception 03, because masks have no sense on digits." A 22 that is not refused reports exception 03 exactly if a tag in force has the register that
+  -- bytes 8 and 9 name, whatever the tag's kind, strict or not; it has no other exception 03 and no 02.
+  pub a-mask-on-a-tag-gets-03-exactly : (c t : ℕ) (f o : List ℕ) {saw : Seen} {d″ : Device} → Called d′ (request c t f o) saw d″ → saw .report .refusal ≡ 0 → getD f 7 0 ≡ 22
+      → ((saw .report .outcome ≡ isException) × (saw .report .code ≡ 3)) ↔ ((tag : Tag) × List·Memᴰ tag (inForce from .tags) × Has tag (numberAt f 8))
+  a-mask-on-a-tag-gets-03-exactly c t f o s z seven =
+      let x = request c t f o in
+      let h = passes x s z in
+      rw (sees x s) (Iff·trans (exception-exactly _ 3) (claim.a-mask-on-a-tag-gets-03-exactly v xs c t f o h seven))
+
+  -- "#108's claim extends to them": no 22 goes out to a register that a tag in force has, function and address as the buffer has them after the call. That of 23 is what-goes-out-at-a-strict-tag.
+  pub no-mask-goes-out-to-a-tag : (c t : ℕ) (f o : List ℕ) {saw : Seen} {d″ : Device} → Called d′ (request c t f o) saw d″ → saw .report .outcome ≡ isIssued
+      → getD (saw .frame) 7 0 ≡ 22 → (tag : Tag) → List·Memᴰ tag (inForce from .tags) → Has tag (numberAt (saw .frame) 8) → ⊥
+  no-mask-goes-out-to-a-tag c t f o s e seven tag listed has =
+      let x = request c t f o in
+      claim.no-mask-goes-out-to-a-tag v xs c t f o _ _ _ _ (rw (lived .after) at (report-tells x s .issued e)) (rw (sees x s) at seven) tag listed (rw (sees x s) at has)
+
+  -- "No frame to the device ever holds, at a strict tag, a word its kind does not allow, for the register writes 06 and 16", and 23 (#109). In the buffer after a write that is issued, a strict tag of which
   -- any register is written lies wholly in the write and has there digits that its kind allows, and these decode to the number that the client wrote there (`HasDigits`): function, addresses
   -- and quantity as the written frame has them.
   pub what-goes-out-at-a-strict-tag : (c t : ℕ) (f o : List ℕ) → ((k : ℕ) → getD f k 0 < 256) → {saw : Seen} {d″ : Device} → Called d′ (request c t f o) saw d″ → saw .report .outcome ≡ isIssued
@@ -623,16 +658,17 @@ module _ (from : Settings) {r : Report} {d d′ : Device} (ls : List Line) (fres
       (claim.what-goes-out-at-a-strict-tag v xs (adopted-valid (valueOf from)) c t f o _ _ _ _ (rw (lived .after) at (report-tells x s .issued e)) bytes base start quantity (rw (sees x s) at carries) tag listed strict y has in-run)
 
   -- "Lenient tags keep today's counts." Where no tag in force is strict, a request that is not refused shows and leaves what it did before, and which request is legal is as it was: its bytes
-  -- alone decide. Where some are, the counts of what is issued are still those of `Rewrites`, which does not ask whether a tag is strict (`an-issue-is-this`).
+  -- alone decide, but of a 22 (#109) whose register a tag has. Where some are, the counts of what is issued are still those of `Rewrites`, which does not ask whether a tag is strict (`an-issue-is-this`).
   pub without-a-strict-tag-as-before : ((tag : Tag) → List·Memᴰ tag (inForce from .tags) → tag .strict ≡ 1 → ⊥)
-      → (c t : ℕ) (f o : List ℕ) {saw : Seen} {d″ : Device} → Called d′ (request c t f o) saw d″ → saw .report .refusal ≡ 0
+      → (c t : ℕ) (f o : List ℕ) → (getD f 7 0 ≡ 22 → (tag : Tag) → List·Memᴰ tag (inForce from .tags) → Has tag (numberAt f 8) → ⊥)
+      → {saw : Seen} {d″ : Device} → Called d′ (request c t f o) saw d″ → saw .report .refusal ≡ 0
       → (saw ≡ seenOf (cond (eqb (faultOf f) 0) (served (clocked (machineIn d′) t) c f o) (excepted (clocked (machineIn d′) t) (faultOf f) f o)))
       × (machineIn d″ ≡ cond (eqb (faultOf f) 0) (served (clocked (machineIn d′) t) c f o) (excepted (clocked (machineIn d′) t) (faultOf f) f o) .after)
       × (legal (inForce from) f ≡ (not (misframed f) && (not (badFunction (functionOf f)) && (not (badLength (classOf (functionOf f)) f) && eqb (faultOf f) 0))))
   unfolding granted
-  without-a-strict-tag-as-before lenient c t f o s z =
+  without-a-strict-tag-as-before lenient c t f o clear s z =
       let x = request c t f o in
-      let w = claim.without-a-strict-tag-as-before v xs lenient c t f o in
+      let w = claim.without-a-strict-tag-as-before v xs lenient c t f o clear in
       let comes = granted-is (afterCalls v xs) x (passes x s z) ∙ w .0 in
       rw (lived .after) (sees x s ∙ ap seenOf comes, rw (lived .after) at (left x s) ∙ ap (λ (y : Outcome). y .after) comes, w .1)
 
@@ -672,16 +708,20 @@ module _ (from : Settings) {r : Report} {d d′ : Device} (ls : List Line) (fres
   unfolding numbers
   detach-says-done c s z = let x = detach c in let h = passes x s z in rw (sees x s, claim.detach-says-done v xs c h)
 
+-- what is said of a frame and two counts, of those that are shown
+shown-as : {way : Way} {tags : List Tag} {f w u : List ℕ} {p q p′ q′ base start quantity : ℕ} → w ≡ u → p ≡ p′ → q ≡ q′ → Rewrites way tags f u p′ q′ base start quantity → Rewrites way tags f w p q base start quantity
+shown-as e a b r = rw (e, a, b) r
+
 module _ (from : Settings) {r r′ : Report} {d d′ e e′ : Device} (ls ks : List Line) (fresh : Freshly from r d) (life : Lived d ls d′) (fresh′ : Freshly from r′ e) (life′ : Lived e ks e′) where
   -- Tender 2: a value in a tag's range, written over the whole tag in one request, stored as sent and read back whole in one, comes back equal. Over two lives of devices that were
   -- made from one settings value, or two places of one life: the registers of the tag in the frame that was issued, carried by the reply to a read that covers the tag and is
-  -- outstanding under the reply's id, reach the reader as the registers that the writer sent. 06 and 16; one tag among any others. What is lent is bytes, which a line does not say.
+  -- outstanding under the reply's id, reach the reader as the registers that the writer sent. Written by 06, 16 or 23, read by 03, 04 or 23; one tag among any others. What is lent is bytes, which a line does not say.
   pub a-value-comes-back : (tag : Tag) → List·Memᴰ tag (inForce from .tags)
       → (c t : ℕ) (f o : List ℕ) → ((k : ℕ) → getD f k 0 < 256) → {saw : Seen} {d″ : Device} → Called d′ (request c t f o) saw d″ → saw .report .outcome ≡ isIssued
       → (base s q : ℕ) → Carries (asking f .asked) base s q → Whole s q tag → inRange (kindOf tag) (numberOf (ownIn s (registersAt base q f) tag)) ≡ true
       → (t′ : ℕ) (g o′ l : List ℕ) → ((k : ℕ) → getD g k 0 < 256) → {saw′ : Seen} {e″ : Device} → Called e′ (reply t′ g o′ l) saw′ e″ → saw′ .report .refusal ≡ 0
       → (w : What) (client due : ℕ) → Outstanding (toldIn (inForce from) ks) (saw′ .report .id) w client due → excepts (w .function) g ≡ false
-      → (s′ q′ : ℕ) → w .asked ≡ Read Registers s′ q′ → Whole s′ q′ tag
+      → (s′ q′ : ℕ) → Brings (w .asked) s′ q′ → Whole s′ q′ tag
       → ownIn s′ (registersAt 9 q′ g) tag ≡ ownIn s (registersAt base q (saw .frame)) tag
       → ownIn s′ (registersAt 9 q′ (saw′ .frame)) tag ≡ ownIn s (registersAt base q f) tag
   a-value-comes-back tag mem c t f o bytes called issue base s q carries whole range t′ g o′ l bytes′ called′ z w client due out plain s′ q′ reads whole′ stored =
@@ -691,7 +731,7 @@ module _ (from : Settings) {r r′ : Report} {d d′ e e′ : Device} (ls ks : L
       let same = answers-what (inForce from) ys t′ g o′ l h w client due (rw (lived from ks fresh′ life′ .told, shown) at out) in
       rw shown
       (claim.a-value-comes-back (inForce from) (adopted-valid (valueOf from)) tag mem (callsOf ls) c t f o bytes _ _ _ _ (rw (lived from ls fresh life .after) at (report-tells (request c t f o) called .issued issue))
-      base s q carries whole range ys t′ g o′ l bytes′ (claim.a-reply-goes-to-its-own (inForce from) ys t′ g o′ l h .0) (rw same plain) s′ q′ (ap (λ (y : What). y .asked) same ∙ reads) whole′
+      base s q carries whole range ys t′ g o′ l bytes′ (claim.a-reply-goes-to-its-own (inForce from) ys t′ g o′ l h .0) (rw same plain) s′ q′ (rw same reads) whole′
       (rw (sees from ls fresh life (request c t f o) called) at stored))
 
   -- Demand 2's addition (#106), of such lives: a controller that echoes the frame of a 06 gives the client back the very frame that it wrote. While what the request asked is
@@ -713,3 +753,42 @@ module _ (from : Settings) {r r′ : Report} {d d′ e e′ : Device} (ls ks : L
         told (λ y. y .value),
         rw (told (λ y. y .length), ap (λ (y : Seen). y .frame) shown) (r .2),
       )
+
+  -- Request #109, of such lives: "reply an exact echo". While what a 22 that was issued asked is outstanding under a reply's id, a reply that is no exception is handed on as the client's own frame,
+  -- once its id is laid over it, and both counts are 0.
+  pub a-masks-reply-is-its-request : (c t : ℕ) (g o : List ℕ) → ((k : ℕ) → getD g k 0 < 256) → getD g 7 0 ≡ 22 → {saw : Seen} {d″ : Device} → Called d′ (request c t g o) saw d″ → saw .report .outcome ≡ isIssued
+      → (t′ : ℕ) (f o′ l : List ℕ) → ((k : ℕ) → getD f k 0 < 256) → {saw′ : Seen} {e″ : Device} → Called e′ (reply t′ f o′ l) saw′ e″ → saw′ .report .refusal ≡ 0
+      → (client due : ℕ) → Outstanding (toldIn (inForce from) ks) (saw′ .report .id) (asking g) client due → excepts 22 f ≡ false
+      → (k : ℕ) × (saw′ .report ≡ ten 0 0 5 (length g) k 0 0 0 (saw′ .report .id) 0) × (laid (idOf g) (take (saw′ .report .length) (saw′ .frame)) ≡ g)
+  unfolding numbers
+  a-masks-reply-is-its-request c t g o bytes seven called issue t′ f o′ l bytes′ called′ z client due out plain =
+      let ys = callsOf ks in
+      let h = passes from ks fresh′ life′ (reply t′ f o′ l) called′ z in
+      let shown = sees from ks fresh′ life′ (reply t′ f o′ l) called′ in
+      let same = answers-what (inForce from) ys t′ f o′ l h (asking g) client due (rw (lived from ks fresh′ life′ .told, shown) at out) in
+      let r = claim.a-masks-reply-is-its-request (inForce from) (callsOf ls) c t g o bytes seven _ _ _ _ (rw (lived from ls fresh life .after) at (report-tells (request c t g o) called .issued issue))
+      ys t′ f o′ l bytes′ h (claim.a-reply-goes-to-its-own (inForce from) ys t′ f o′ l h .0) same plain in
+      let told = ap (λ (y : Seen). y .report) shown ∙ ap numbers (r .0) in (
+        length (claim.a-reply-goes-to-its-own (inForce from) ys t′ f o′ l h .0 .entry .parties),
+        told ∙ ap (λ (n : ℕ). ten 0 0 5 (length g) (length (claim.a-reply-goes-to-its-own (inForce from) ys t′ f o′ l h .0 .entry .parties)) 0 0 0 n 0) (sym (ap (λ (y : Report). y .id) told)),
+        rw (ap (λ (y : Report). y .length) told, ap (λ (y : Seen). y .frame) shown) (r .1),
+      )
+
+  -- What the reply to a 23 brings, of such lives: while what a 23 asked is outstanding under a reply's id, the registers from byte 9 on, as many as the number at byte 10 of the 23 says, are those of the addresses
+  -- from the number at byte 8 on, turned to binary by their tags in force; and both counts are of that range.
+  pub what-a-23-reads : (g : List ℕ) → getD g 7 0 ≡ 23 → (t′ : ℕ) (f o′ l : List ℕ) {saw′ : Seen} {e″ : Device} → Called e′ (reply t′ f o′ l) saw′ e″ → saw′ .report .refusal ≡ 0
+      → (client due : ℕ) → Outstanding (toldIn (inForce from) ks) (saw′ .report .id) (asking g) client due → excepts 23 f ≡ false
+      → Rewrites ToBinary (inForce from .tags) f (saw′ .frame) (saw′ .report .partial) (saw′ .report .value) 9 (numberAt g 8) (numberAt g 10)
+  unfolding numbers
+  what-a-23-reads g named t′ f o′ l called′ z client due out plain =
+      let ys = callsOf ks in
+      let h = passes from ks fresh′ life′ (reply t′ f o′ l) called′ z in
+      let shown = sees from ks fresh′ life′ (reply t′ f o′ l) called′ in
+      let same = answers-what (inForce from) ys t′ f o′ l h (asking g) client due (rw (lived from ks fresh′ life′ .told, shown) at out) in
+      let a = claim.a-reply-goes-to-its-own (inForce from) ys t′ f o′ l h .0 in
+      let tags = ap (λ (y : Value). y .tags) (claim.the-settings-in-force-stay (inForce from) ys) in
+      let told = ap (λ (y : Seen). y .report) shown ∙ ap numbers (a .says) in
+      let by : (q : Rewritten → ℕ) → q (returned (settings (afterCalls (inForce from) ys) .tags) (a .entry .what) f) ≡ q (returned (inForce from .tags) (asking g) f) =
+      λ q. ap (λ (ts : List Tag). q (returned ts (a .entry .what) f)) tags ∙ ap (λ (w : What). q (returned (inForce from .tags) w f)) same in
+      shown-as (ap (λ (y : Seen). y .frame) shown) (ap (λ (y : Report). y .partial) told ∙ by (λ y. y .partial)) (ap (λ (y : Report). y .value) told ∙ by (λ y. y .value))
+      (claim.what-a-23-reads (inForce from) ys t′ f o′ l a g same named plain)

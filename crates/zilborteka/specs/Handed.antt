@@ -11,9 +11,7 @@ use Rattle.laws.specs.Bytes.{over}
 use Rattle.wire.specs.Frame.{laid}
 use Rattle.settings.specs.Grammar.{Value}
 use Rattle.pdu.specs.Replies.{What, answering, excepts}
-use Rattle.pdu.specs.declared.Table.the-variants.{Registers}
-use Rattle.pdu.specs.declared.Asked.the-variants.{Read}
-use Rattle.rewrite.specs.Plain.{Rewrites}
+use Rattle.rewrite.specs.Plain.{Brings, Rewrites}
 use Rattle.rewrite.specs.Frames.{returned}
 use Rattle.rewrite.specs.declared.Way.the-variants.{ToBinary}
 use Rattle.book.specs.Book.{Event}
@@ -36,7 +34,7 @@ pub record HandsOut (vs : List (Event What)) (w : What) (l : List ℕ) (saw : Se
   pub frames : EachItsFrame (posts empty vs) saw
 
 -- what a reply f comes to after a history: what is outstanding under its id, which it answers; all ten numbers of the report; the definition's rewriting of it, under id 0, which for a
--- reply to a read of registers that is no exception is told tag by tag; and whom it is handed to
+-- reply that brings registers (03, 04, 23) and is no exception is told tag by tag; and whom it is handed to
 pub record Replied (v : Value) (vs : List (Event What)) (f o l : List ℕ) (saw : Seen) : Type 0 where
   pub asked : What
   pub client : ℕ
@@ -46,7 +44,7 @@ pub record Replied (v : Value) (vs : List (Event What)) (f o l : List ℕ) (saw 
   pub report : saw .report
       ≡ ten 0 0 5 (length f) (length (waitingUnder vs (saw .report .id))) (returned (v .tags) asked f .partial) (returned (v .tags) asked f .value) 0 (getD f 0 0 * 256 + getD f 1 0) 0
   pub frame : saw .frame ≡ over (laid 0 (returned (v .tags) asked f .bytes)) o
-  pub rewritten : (s q : ℕ) → asked .asked ≡ Read Registers s q → excepts (asked .function) f ≡ false
+  pub rewritten : (s q : ℕ) → Brings (asked .asked) s q → excepts (asked .function) f ≡ false
       → Rewrites ToBinary (v .tags) f (saw .frame) (saw .report .partial) (saw .report .value) 9 s q
   pub handed : HandsOut vs asked l saw
 

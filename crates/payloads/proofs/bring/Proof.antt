@@ -26,8 +26,8 @@ by-asked c unit =
     let a = c .before .before .before .before .args in
     returned-other (tagsOf (a .count) (now (a .words))) (now (a .frame)) (what unit (a .function) (a .asked)) (plain c)
 
-pass-requires : tie.Need-pass-requires
-pass-requires c κs =
+bring-read-requires : tie.Need-bring-read-requires
+bring-read-requires c κs =
     let asked = c .before .before in
     let left = asked .before .before in
     let p = left .before .before .before .before .pre in
@@ -41,12 +41,19 @@ bring-echo-requires c κs =
     let p = left .before .before .before .before .pre in
     (rw (asked .asked2 .given .1, table .enum-told2 .given .1) at (p .0 (plain left)), p .1)
 
+bring-read-requires-2 : tie.Need-bring-read-requires-2
+bring-read-requires-2 c κs =
+    let asked = c .before .before in
+    let left = asked .before .before in
+    let p = left .before .before .before .before .pre in
+    (rw (asked .asked3 .given .1) at (p .0 (plain left)), p .1)
+
 returns-2 : tie.Need-returns-2
 unfolding returnedBy
 returns-2 c unit =
     let run = c .before .before in
     let asked = run .before .before .before in
-    rw (by-asked (asked .before .before) unit, asked .asked .given .1) (run .pass .ensures)
+    rw (by-asked (asked .before .before) unit, asked .asked .given .1) (run .bring-read .ensures)
 
 returns-3 : tie.Need-returns-3
 unfolding returnedBy
@@ -63,15 +70,25 @@ returns-4 c unit =
 
 returns-5 : tie.Need-returns-5
 unfolding returnedBy
-returns-5 c unit = rw (by-asked (c .before .before) unit, c .enum-told3 .given .1)
+returns-5 c unit =
+    let run = c .before .before in
+    let asked = run .before .before .before in
+    rw (by-asked (asked .before .before) unit, asked .asked3 .given .1) (run .bring-read2 .ensures)
 
 returns-6 : tie.Need-returns-6
 unfolding returnedBy
-returns-6 c unit = rw (by-asked (c .before .before) unit, c .enum-told4 .given .1)
+returns-6 c unit = rw (by-asked (c .before .before) unit, c .enum-told3 .given .1)
+
+returns-7 : tie.Need-returns-7
+unfolding returnedBy
+returns-7 c unit = rw (by-asked (c .before .before) unit, c .enum-told4 .given .1)
+
+returns-8 : tie.Need-returns-8
+unfolding returnedBy
+returns-8 c unit = rw (by-asked (c .before .before) unit, c .enum-told5 .given .1)
 
 pub bring-spec : {M : Type 1} → statement M
 bring-spec =
     tie.close
-    (tie.spec (λ c κs. search needs) (λ c. search needs) returns (λ c. search needs) pass-requires (λ c. search needs) (λ c. search needs)
-    (λ c. search needs) bring-echo-requires (λ c. search needs) (λ c. search needs) (λ c. search needs) returns-2 (λ c. search needs) returns-3
-    (λ c. search needs) returns-4 (λ c. search needs) returns-5 (λ c. search needs) returns-6)
+    (tie.spec (λ c κs. search needs) (λ c. search needs) returns (λ c. search needs) bring-read-requires (λ c. search needs) (λ c. search needs) (λ c. search needs) bring-echo-requires (λ c. search needs) bring-read-requires-2 (λ c. search needs) (λ c. search needs) (λ c. search needs)
+    (λ c. search needs) returns-2 (λ c. search needs) returns-3 (λ c. search needs) returns-4 (λ c. search needs) returns-5 (λ c. search needs) returns-6 (λ c. search needs) returns-7 (λ c. search needs) returns-8)

@@ -1,14 +1,9 @@
--- What the code that rewrites one tag gives back, as the definitions of rewriting have it, and what the code that looks for a strict tag does.
+-- What the code that rewrites one tag gives back, as the definitions of rewriting have it.
 -- Assumes nothing.
 use Prim.Native.Nat.{ℕ}
-use mathlib.Core.Bool.{Bool, false}
 use mathlib.Core.Option.{Option, some, none}
 use mathlib.Core.List.{List}
-use Rattle.settings.specs.Grammar.{Tag}
-use Rattle.pdu.specs.declared.Table.{Table}
-use Rattle.pdu.specs.declared.Table.the-variants.{Bits, Registers}
 use Rattle.rewrite.specs.Rewriting.{Rewritten, withCounts}
-use Rattle.rewrite.specs.Legal.{someForbids}
 use Rattle.rewrite.specs.declared.Turned.{Turned}
 use Rattle.rewrite.specs.declared.Turned.the-variants.{Number, LeftRaw}
 use Rattle.rewrite.specs.declared.Rawness.{Rawness}
@@ -24,8 +19,3 @@ abbrev pub counted : Rawness → List ℕ → Rewritten
 counted rawness.NotRaw d = withCounts 0 0 d
 counted rawness.Partial d = withCounts 1 0 d
 counted rawness.Value d = withCounts 0 1 d
-
--- a tag forbids what a write carries: bits none does
-abbrev pub forbidsIn : Table → ℕ → List ℕ → List Tag → Bool
-forbidsIn Bits start rs tags = false
-forbidsIn Registers start rs tags = someForbids start rs tags

@@ -32,15 +32,27 @@ returns-6 c = rw (c .if6 .taken)
 
 returns-7 : tie.Need-returns-7
 unfolding classOf
-returns-7 c =
-    let five = c .before in
+returns-7 c = rw (c .if7 .taken)
+
+returns-8 : tie.Need-returns-8
+unfolding classOf
+returns-8 c = rw (c .if8 .taken)
+
+returns-9 : tie.Need-returns-9
+unfolding classOf
+returns-9 c =
+    let seven = c .before in
+    let six = seven .before in
+    let five = six .before in
     let four = five .before in
     let three = four .before in
     let two = three .before in
     rw (two .before .if1 .left)
     (rw (two .if2 .left)
     (rw (ne-eqb _ _ (three .if3 .left))
-    (rw (ne-eqb _ _ (four .if4 .left)) (rw (ne-eqb _ _ (five .if5 .left)) (rw (ne-eqb _ _ (c .if6 .left)) refl)))))
+    (rw (ne-eqb _ _ (four .if4 .left))
+    (rw (ne-eqb _ _ (five .if5 .left))
+    (rw (ne-eqb _ _ (six .if6 .left)) (rw (ne-eqb _ _ (seven .if7 .left)) (rw (ne-eqb _ _ (c .if8 .left)) refl)))))))
 
 pub class-of-spec : {M : Type 1} → statement M
-class-of-spec = tie.close (tie.spec returns returns-2 returns-3 returns-4 returns-5 returns-6 returns-7)
+class-of-spec = tie.close (tie.spec returns returns-2 returns-3 returns-4 returns-5 returns-6 returns-7 returns-8 returns-9)

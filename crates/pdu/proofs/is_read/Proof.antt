@@ -21,7 +21,15 @@ returns-4 : tie.Need-returns-4
 unfolding isRead
 returns-4 c = search needs
 
+returns-5 : tie.Need-returns-5
+unfolding isRead
+returns-5 c = search needs
+
+returns-6 : tie.Need-returns-6
+unfolding isRead
+returns-6 c = search needs
+
 pub is-read-spec : {M : Type 1} → statement M
 is-read-spec =
     tie.close
-    (tie.spec (λ c. search needs) (λ c. search needs) (λ c. search needs) (λ c. search needs) returns returns-2 returns-3 returns-4)
+    (tie.spec (λ c. search needs) (λ c. search needs) (λ c. search needs) (λ c. search needs) (λ c. search needs) (λ c. search needs) returns returns-2 returns-3 returns-4 returns-5 returns-6)

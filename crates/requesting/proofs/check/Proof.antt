@@ -1,4 +1,4 @@
--- `requesting::check` meets its contract: what is not legal by its bytes stays so, and of what is legal the strict tags decide.
+-- `requesting::check` meets its contract: what is not legal by its bytes stays so, and of what is legal the tags decide.
 -- Assumes nothing.
 use Prim.Native.Nat.{ℕ}
 use mathlib.Core.Path.{_≡_, refl, sym, _∙_}

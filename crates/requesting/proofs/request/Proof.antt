@@ -1,4 +1,4 @@
--- `requesting::request` meets its contract: the gate's refusal, the check's refusal, an exception of its bytes or of a strict tag, or what a legal request comes to.
+-- `requesting::request` meets its contract: the gate's refusal, the check's refusal, an exception of its bytes or of a tag, or what a legal request comes to.
 -- Assumes nothing.
 use mathlib.Core.Path.{refl, sym, _∙_}
 use mathlib.Core.List.{List}

@@ -16,11 +16,11 @@ use Rattle.settings.specs.TagWords.{tagOf, lastOf, Ascending}
 use Rattle.pdu.specs.declared.Table.{Table}
 use Rattle.pdu.specs.declared.Table.the-variants.{Bits, Registers}
 use Rattle.pdu.specs.declared.Asked.{Asked}
-use Rattle.pdu.specs.declared.Asked.the-variants.{Read, SingleWrite, MultipleWrite, Other}
+use Rattle.pdu.specs.declared.Asked.the-variants.{Read, SingleWrite, MultipleWrite, MaskWrite, ReadWrite, Other}
 use Rattle.rewrite.specs.Registers.{registersAt, laidAt}
 use Rattle.rewrite.specs.declared.Way.{Way}
 use Rattle.rewrite.specs.Rewriting.{turned, Rewritten, withCounts}
-use Rattle.rewrite.specs.Frames.{readBase, singleBase, multipleBase}
+use Rattle.rewrite.specs.Frames.{readBase, singleBase, multipleBase, readWriteBase}
 
 -- the tags that the first words are
 abbrev pub tagsOf : ℕ → List ℕ → List Tag
@@ -47,12 +47,16 @@ abbrev pub Sent : Asked → List ℕ → Type 0
 Sent (Read t s q) f = Unit {0}
 Sent (SingleWrite t a v) f = RunOf t singleBase a 1 f
 Sent (MultipleWrite t s q) f = RunOf t multipleBase s q f
+Sent (MaskWrite a x y) f = Unit {0}
+Sent (ReadWrite s q u p) f = Run readWriteBase u p f
 Sent Other f = Unit {0}
 
 abbrev pub Brought : Asked → List ℕ → Type 0
 Brought (Read t s q) f = RunOf t readBase s q f
 Brought (SingleWrite t a v) f = RunOf t singleBase a 1 f
 Brought (MultipleWrite t s q) f = Unit {0}
+Brought (MaskWrite a x y) f = Unit {0}
+Brought (ReadWrite s q u p) f = Run readBase s q f
 Brought Other f = Unit {0}
 
 -- a frame, and a buffer that takes it

@@ -7,10 +7,7 @@ use Rattle.checking.proofs.matching.is_shaped.Tie as tie
 
 returns : tie.Need-returns
 unfolding shaped
-returns c =
-    let bytes = c .before .before in
-    let asked = bytes .before .before in
-    rw (asked .asked .given .1, c .wide .ensures .0, c .before .byte-at .ensures, bytes .bytes-for .ensures .0, asked .before .before .pdu-size .ensures)
+returns c = rw (c .before .before .asked .given .1) (c .is-counted .ensures)
 
 returns-2 : tie.Need-returns-2
 unfolding shaped
@@ -27,12 +24,19 @@ unfolding shaped
 returns-4 c = rw (c .before .before .asked3 .given .1) (c .is-short2 .ensures)
 
 returns-5 : tie.Need-returns-5
+returns-5 c = rw (c .before .before .asked4 .given .1) (c .is-mask .ensures)
+
+returns-6 : tie.Need-returns-6
 unfolding shaped
-returns-5 c = rw (c .enum-told3 .given .1)
+returns-6 c = rw (c .before .before .asked5 .given .1) (c .is-counted2 .ensures)
+
+returns-7 : tie.Need-returns-7
+unfolding shaped
+returns-7 c = rw (c .enum-told3 .given .1)
 
 pub is-shaped-spec : {M : Type 1} → statement M
 is-shaped-spec =
     tie.close
-    (tie.spec (λ c κs. search needs) (λ c. search needs) (λ c κs. search needs) (λ c κs. search needs) (λ c κs. search needs) (λ c. search needs)
-    (λ c. search needs) (λ c. search needs) (λ c κs. search needs) (λ c. search needs) (λ c κs. search needs) (λ c. search needs) (λ c κs. search needs)
-    (λ c. search needs) returns returns-2 returns-3 returns-4 returns-5)
+    (tie.spec (λ c κs. search needs) (λ c. search needs) (λ c κs. search needs) (λ c. search needs) (λ c. search needs) (λ c κs. search needs)
+    (λ c. search needs) (λ c κs. search needs) (λ c. search needs) (λ c κs. search needs) (λ c. search needs) (λ c κs. search needs) (λ c. search needs)
+    (λ c κs. search needs) (λ c. search needs) returns returns-2 returns-3 returns-4 returns-5 returns-6 returns-7)
