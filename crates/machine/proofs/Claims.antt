@@ -83,7 +83,7 @@ use Rattle.machine.proofs.SpelledLaws.{asked-spelled, kept-as-asked, as
 use Rattle.machine.proofs.RequestLaws.{codeOf, no-other-exception, exception-04 as said-exactly}
 use Rattle.machine.proofs.Follows.{same-entry}
 use Rattle.machine.proofs.AskLaws.{bits-carry-none, request-comes-to, hit-is-said, issue-is, join-is, exception-is}
-use Rattle.machine.proofs.StrictLaws.{forbids-exactly, only-forbids, mask-excepted-exactly, sends-no-mask, sends-digits, legal-as-before, admitted-as-before}
+use Rattle.machine.proofs.StrictLaws.{forbids-exactly, only-forbids, mask-excepted-exactly, mask-never-02, sends-no-mask, sends-digits, legal-as-before, admitted-as-before}
 use Rattle.machine.proofs.JoinLaws.{registers-read}
 use Rattle.machine.proofs.PartyLaws.{accepted-stands}
 use Rattle.machine.proofs.AnswerLaws.{reply-framed, reply-answers, tick-expires, idle-is, idle-when}
@@ -460,10 +460,14 @@ module _ (v : Value) (xs : List Call) where
   only-a-tag-forbids c t f o h bytes = only-forbids (afterCalls v xs) (v .tags) tags-stay c t f o good (stocked v xs) h bytes
 
   -- Request #109: "On any tagged register it gets exception 03, because masks have no sense on digits." A 22 that is not refused gets exception 03 exactly if a tag has the register that bytes 8 and
-  -- 9 name, whatever the tag's kind, strict or not; it has no other exception 03 and no 02.
+  -- 9 name, whatever the tag's kind, strict or not; and it never gets 02.
   pub a-mask-on-a-tag-gets-03-exactly : (c t : ℕ) (f o : List ℕ) → refusal (afterCalls v xs) (request c t f o) ≡ 0 → getD f 7 0 ≡ 22
-      → (outcome (afterCalls v xs) (request c t f o) .says ≡ answer.Excepted 3) ↔ ((tag : Tag) × List·Memᴰ tag (v .tags) × Has tag (numberAt f 8))
-  a-mask-on-a-tag-gets-03-exactly c t f o = mask-excepted-exactly (afterCalls v xs) (v .tags) tags-stay c t f o good (stocked v xs)
+      → ((outcome (afterCalls v xs) (request c t f o) .says ≡ answer.Excepted 3) ↔ ((tag : Tag) × List·Memᴰ tag (v .tags) × Has tag (numberAt f 8)))
+      × (outcome (afterCalls v xs) (request c t f o) .says ≡ answer.Excepted 2 → ⊥)
+  a-mask-on-a-tag-gets-03-exactly c t f o h named = (
+    mask-excepted-exactly (afterCalls v xs) (v .tags) tags-stay c t f o good (stocked v xs) h named,
+    mask-never-02 (afterCalls v xs) (v .tags) tags-stay c t f o good (stocked v xs) h named,
+  )
 
   -- "#108's claim extends to them": no 22 goes out to a register that a tag has, function and address as the written frame has them. That of 23 is what-goes-out-at-a-strict-tag.
   pub no-mask-goes-out-to-a-tag : (c t : ℕ) (f o : List ℕ) (i : ProxyId) (n p w : ℕ) → outcome (afterCalls v xs) (request c t f o) .says ≡ answer.Issued i n p w

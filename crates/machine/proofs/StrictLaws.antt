@@ -182,7 +182,7 @@ module _ (m : Machine) (tags : List Tag) (same : settings m .tags ≡ tags) (c t
             w,
       ))
 
--- Of a 22 that is not refused exception 03 is said exactly where a tag of any kind has its register.
+-- Of a 22 that is not refused exception 03 is said exactly where a tag of any kind has its register,
 pub mask-excepted-exactly : (m : Machine) (tags : List Tag) → settings m .tags ≡ tags → (c t : ℕ) (f o : List ℕ) → Good rules (m .book) → Stocked (m .cache) → refusal m (request c t f o) ≡ 0
     → getD f 7 0 ≡ 22 → (outcome m (request c t f o) .says ≡ answer.Excepted 3) ↔ ((tag : Tag) × List·Memᴰ tag tags × Has tag (numberAt f 8))
 mask-excepted-exactly m tags same c t f o g s h seven =
@@ -194,6 +194,16 @@ mask-excepted-exactly m tags same c t f o g s h seven =
           w,
       λ w. inr (refl, fine, masked-forbidden tags f (seven, w)),
     ))
+
+-- and exception 02 never.
+pub mask-never-02 : (m : Machine) (tags : List Tag) → settings m .tags ≡ tags → (c t : ℕ) (f o : List ℕ) → Good rules (m .book) → Stocked (m .cache) → refusal m (request c t f o) ≡ 0
+    → getD f 7 0 ≡ 22 → outcome m (request c t f o) .says ≡ answer.Excepted 2 → ⊥
+mask-never-02 m tags same c t f o g s h seven e =
+    let fine = mask-fine m c t f o h seven in
+    ⊎-elim
+    (λ (z : checkedOf f ≡ check.Excepted 2). never (cc))
+    (λ (z : (_≡_ {A = ℕ} 2 3) × (checkedOf f ≡ check.Legal (askedOf f)) × (forbidden tags (askedOf f) f ≡ true)). omega (arith, z .0))
+    (checked-excepted tags f 2 .0 (excepted-exactly m tags same c t f o g s h 2 (λ z. omega arith) .0 e))
 
 masks-carry-none : {a x y base start quantity : ℕ} → Carries (MaskWrite a x y) base start quantity → ⊥
 masks-carry-none c = elim c [ ]

@@ -1,6 +1,6 @@
 -- The tender's claims on the device that a host lends, in the C host's numbers: from a device made fresh, whatever calls but fresh follow, refused ones included.
 -- Assumes nothing.
-use Prim.Native.Nat.{ℕ, _+_, _-_, _≤_, _<_}
+use Prim.Native.Nat.{ℕ, _+_, _*_, _-_, _≤_, _<_}
 use mathlib.Core.Path.{_≡_, refl, ap, sym, subst, _∙_}
 use mathlib.Core.Logic.{⊎-elim, _⊎_, inl, inr, _↔_, Iff·trans}
 use mathlib.Core.Bool.{true, false, cond, not, _&&_, true≢false}
@@ -123,6 +123,14 @@ the-tags-in-force-ascend from = valid-ascends (inForce from) (adopted-valid (val
 
 -- A device d was made fresh from a settings value, and these lines followed and left d′. What is claimed of the next call is claimed of each line of a life: `each-line` of Lived.antt.
 -- `machineIn d′` is the machine that the device is: its set, cursor, clock and cache are the device's, and its live entries stand in the device's places (`own-fields`, `live-in` of Places.antt).
+-- a reply's report with its parties and its id said otherwise
+ten-alike : {r : Report} {n p q i j : ℕ} → r ≡ ten 0 0 5 n p 0 0 0 i 0 → p ≡ q → i ≡ j → r ≡ ten 0 0 5 n q 0 0 0 j 0
+ten-alike e a b = rw (a, b) at e
+
+-- what is said of a frame and two counts, of those that are shown
+shown-as : {way : Way} {tags : List Tag} {f w u : List ℕ} {p q p′ q′ base start quantity : ℕ} → w ≡ u → p ≡ p′ → q ≡ q′ → Rewrites way tags f u p′ q′ base start quantity → Rewrites way tags f w p q base start quantity
+shown-as e a b r = rw (e, a, b) r
+
 module _ (from : Settings) {r : Report} {d d′ : Device} (ls : List Line) (fresh : Freshly from r d) (life : Lived d ls d′) where
   -- the settings in force, the calls so far, and that the device is the machine after them
   abbrev v : Value
@@ -606,6 +614,24 @@ module _ (from : Settings) {r : Report} {d d′ : Device} (ls : List Line) (fres
       let x = request c t f o in
       rw (ap (λ (y : Seen). y .frame) (sees x s)) (claim.what-a-23-writes v xs c t f o _ _ _ _ (rw (lived .after) at (report-tells x s .issued e)) named)
 
+  -- What the reply to a 23 brings: while what a 23 asked is outstanding under a reply's id, the registers from byte 9 on, as many as the number at byte 10 of the 23 says, are those of the addresses from the number
+  -- at byte 8 on, turned to binary by their tags in force; and both counts are of that range.
+  pub what-a-23-reads : (g : List ℕ) → getD g 7 0 ≡ 23 → (t : ℕ) (f o l : List ℕ) {saw : Seen} {d″ : Device} → Called d′ (reply t f o l) saw d″ → saw .report .refusal ≡ 0
+      → (client due : ℕ) → Outstanding (toldIn (inForce from) ls) (saw .report .id) (asking g) client due → excepts 23 f ≡ false
+      → Rewrites ToBinary (inForce from .tags) f (saw .frame) (saw .report .partial) (saw .report .value) 9 (numberAt g 8) (numberAt g 10)
+  unfolding numbers
+  what-a-23-reads g named t f o l s z client due out plain =
+      let h = passes (reply t f o l) s z in
+      let shown = sees (reply t f o l) s in
+      let same = answers-what v xs t f o l h (asking g) client due (rw (lived .told, shown) at out) in
+      let a = claim.a-reply-goes-to-its-own v xs t f o l h .0 in
+      let tags = ap (λ (y : Value). y .tags) (claim.the-settings-in-force-stay v xs) in
+      let told = ap (λ (y : Seen). y .report) shown ∙ ap numbers (a .says) in
+      let by : (q : Rewritten → ℕ) → q (returned (settings (afterCalls v xs) .tags) (a .entry .what) f) ≡ q (returned (v .tags) (asking g) f) =
+      λ q. ap (λ (ts : List Tag). q (returned ts (a .entry .what) f)) tags ∙ ap (λ (w : What). q (returned (v .tags) w f)) same in
+      shown-as (ap (λ (y : Seen). y .frame) shown) (ap (λ (y : Report). y .partial) told ∙ by (λ y. y .partial)) (ap (λ (y : Report). y .value) told ∙ by (λ y. y .value))
+      (claim.what-a-23-reads v xs t f o l a g same named plain)
+
   -- Request #108: "If a write covers a strict tag partly, or its value is outside the range, the client gets exception 03 and nothing is issued." A write 06, 16 or 23 that is not refused and whose
   -- bytes give neither exception 03 nor 02 reports exception 03 exactly if some strict tag has a register in the write and another outside it, or lies in it with a value outside its range, in
   -- plain numbers (`Violates`). All ten numbers, the buffer, and that nothing is issued, closed or dropped then: `an-exception-is-this`. What is lent is bytes, which a line does not say.
@@ -631,13 +657,15 @@ module _ (from : Settings) {r : Report} {d d′ : Device} (ls : List Line) (fres
       rw (sees x s) (Iff·trans (exception-exactly _ 3) (claim.only-a-tag-forbids v xs c t f o h bytes))
 
   -- Request #109: "On any tagged register it gets exception 03, because masks have no sense on digits." A 22 that is not refused reports exception 03 exactly if a tag in force has the register that
-  -- bytes 8 and 9 name, whatever the tag's kind, strict or not; it has no other exception 03 and no 02.
+  -- bytes 8 and 9 name, whatever the tag's kind, strict or not; and it never reports 02.
   pub a-mask-on-a-tag-gets-03-exactly : (c t : ℕ) (f o : List ℕ) {saw : Seen} {d″ : Device} → Called d′ (request c t f o) saw d″ → saw .report .refusal ≡ 0 → getD f 7 0 ≡ 22
-      → ((saw .report .outcome ≡ isException) × (saw .report .code ≡ 3)) ↔ ((tag : Tag) × List·Memᴰ tag (inForce from .tags) × Has tag (numberAt f 8))
+      → (((saw .report .outcome ≡ isException) × (saw .report .code ≡ 3)) ↔ ((tag : Tag) × List·Memᴰ tag (inForce from .tags) × Has tag (numberAt f 8)))
+      × ((saw .report .outcome ≡ isException) × (saw .report .code ≡ 2) → ⊥)
   a-mask-on-a-tag-gets-03-exactly c t f o s z seven =
       let x = request c t f o in
       let h = passes x s z in
-      rw (sees x s) (Iff·trans (exception-exactly _ 3) (claim.a-mask-on-a-tag-gets-03-exactly v xs c t f o h seven))
+      let says = claim.a-mask-on-a-tag-gets-03-exactly v xs c t f o h seven in
+      rw (sees x s) (Iff·trans (exception-exactly _ 3) (says .0), λ e. says .1 (exception-exactly _ 2 .0 e))
 
   -- "#108's claim extends to them": no 22 goes out to a register that a tag in force has, function and address as the buffer has them after the call. That of 23 is what-goes-out-at-a-strict-tag.
   pub no-mask-goes-out-to-a-tag : (c t : ℕ) (f o : List ℕ) {saw : Seen} {d″ : Device} → Called d′ (request c t f o) saw d″ → saw .report .outcome ≡ isIssued
@@ -708,10 +736,6 @@ module _ (from : Settings) {r : Report} {d d′ : Device} (ls : List Line) (fres
   unfolding numbers
   detach-says-done c s z = let x = detach c in let h = passes x s z in rw (sees x s, claim.detach-says-done v xs c h)
 
--- what is said of a frame and two counts, of those that are shown
-shown-as : {way : Way} {tags : List Tag} {f w u : List ℕ} {p q p′ q′ base start quantity : ℕ} → w ≡ u → p ≡ p′ → q ≡ q′ → Rewrites way tags f u p′ q′ base start quantity → Rewrites way tags f w p q base start quantity
-shown-as e a b r = rw (e, a, b) r
-
 module _ (from : Settings) {r r′ : Report} {d d′ e e′ : Device} (ls ks : List Line) (fresh : Freshly from r d) (life : Lived d ls d′) (fresh′ : Freshly from r′ e) (life′ : Lived e ks e′) where
   -- Tender 2: a value in a tag's range, written over the whole tag in one request, stored as sent and read back whole in one, comes back equal. Over two lives of devices that were
   -- made from one settings value, or two places of one life: the registers of the tag in the frame that was issued, carried by the reply to a read that covers the tag and is
@@ -755,11 +779,11 @@ module _ (from : Settings) {r r′ : Report} {d d′ e e′ : Device} (ls ks : L
       )
 
   -- Request #109, of such lives: "reply an exact echo". While what a 22 that was issued asked is outstanding under a reply's id, a reply that is no exception is handed on as the client's own frame,
-  -- once its id is laid over it, and both counts are 0.
+  -- once its id is laid over it; all ten numbers of the report are said, and both counts are 0.
   pub a-masks-reply-is-its-request : (c t : ℕ) (g o : List ℕ) → ((k : ℕ) → getD g k 0 < 256) → getD g 7 0 ≡ 22 → {saw : Seen} {d″ : Device} → Called d′ (request c t g o) saw d″ → saw .report .outcome ≡ isIssued
       → (t′ : ℕ) (f o′ l : List ℕ) → ((k : ℕ) → getD f k 0 < 256) → {saw′ : Seen} {e″ : Device} → Called e′ (reply t′ f o′ l) saw′ e″ → saw′ .report .refusal ≡ 0
       → (client due : ℕ) → Outstanding (toldIn (inForce from) ks) (saw′ .report .id) (asking g) client due → excepts 22 f ≡ false
-      → (k : ℕ) × (saw′ .report ≡ ten 0 0 5 (length g) k 0 0 0 (saw′ .report .id) 0) × (laid (idOf g) (take (saw′ .report .length) (saw′ .frame)) ≡ g)
+      → (saw′ .report ≡ ten 0 0 5 (length g) (length (waitingUnder (toldIn (inForce from) ks) (saw′ .report .id))) 0 0 0 (getD f 0 0 * 256 + getD f 1 0) 0) × (laid (idOf g) (take (saw′ .report .length) (saw′ .frame)) ≡ g)
   unfolding numbers
   a-masks-reply-is-its-request c t g o bytes seven called issue t′ f o′ l bytes′ called′ z client due out plain =
       let ys = callsOf ks in
@@ -768,27 +792,10 @@ module _ (from : Settings) {r r′ : Report} {d d′ e e′ : Device} (ls ks : L
       let same = answers-what (inForce from) ys t′ f o′ l h (asking g) client due (rw (lived from ks fresh′ life′ .told, shown) at out) in
       let r = claim.a-masks-reply-is-its-request (inForce from) (callsOf ls) c t g o bytes seven _ _ _ _ (rw (lived from ls fresh life .after) at (report-tells (request c t g o) called .issued issue))
       ys t′ f o′ l bytes′ h (claim.a-reply-goes-to-its-own (inForce from) ys t′ f o′ l h .0) same plain in
-      let told = ap (λ (y : Seen). y .report) shown ∙ ap numbers (r .0) in (
-        length (claim.a-reply-goes-to-its-own (inForce from) ys t′ f o′ l h .0 .entry .parties),
-        told ∙ ap (λ (n : ℕ). ten 0 0 5 (length g) (length (claim.a-reply-goes-to-its-own (inForce from) ys t′ f o′ l h .0 .entry .parties)) 0 0 0 n 0) (sym (ap (λ (y : Report). y .id) told)),
+      let told = ap (λ (y : Seen). y .report) shown ∙ ap numbers (r .0) in
+      let reply-told = a-reply-goes-to-its-own from ks fresh′ life′ t′ f o′ l called′ z .report in
+      let parties = sym (ap (λ (y : Report). y .parties) told) ∙ ap (λ (y : Report). y .parties) reply-told in
+      let named = sym (ap (λ (y : Report). y .id) told) ∙ ap (λ (y : Report). y .id) reply-told in (
+        ten-alike told parties named,
         rw (ap (λ (y : Report). y .length) told, ap (λ (y : Seen). y .frame) shown) (r .1),
       )
-
-  -- What the reply to a 23 brings, of such lives: while what a 23 asked is outstanding under a reply's id, the registers from byte 9 on, as many as the number at byte 10 of the 23 says, are those of the addresses
-  -- from the number at byte 8 on, turned to binary by their tags in force; and both counts are of that range.
-  pub what-a-23-reads : (g : List ℕ) → getD g 7 0 ≡ 23 → (t′ : ℕ) (f o′ l : List ℕ) {saw′ : Seen} {e″ : Device} → Called e′ (reply t′ f o′ l) saw′ e″ → saw′ .report .refusal ≡ 0
-      → (client due : ℕ) → Outstanding (toldIn (inForce from) ks) (saw′ .report .id) (asking g) client due → excepts 23 f ≡ false
-      → Rewrites ToBinary (inForce from .tags) f (saw′ .frame) (saw′ .report .partial) (saw′ .report .value) 9 (numberAt g 8) (numberAt g 10)
-  unfolding numbers
-  what-a-23-reads g named t′ f o′ l called′ z client due out plain =
-      let ys = callsOf ks in
-      let h = passes from ks fresh′ life′ (reply t′ f o′ l) called′ z in
-      let shown = sees from ks fresh′ life′ (reply t′ f o′ l) called′ in
-      let same = answers-what (inForce from) ys t′ f o′ l h (asking g) client due (rw (lived from ks fresh′ life′ .told, shown) at out) in
-      let a = claim.a-reply-goes-to-its-own (inForce from) ys t′ f o′ l h .0 in
-      let tags = ap (λ (y : Value). y .tags) (claim.the-settings-in-force-stay (inForce from) ys) in
-      let told = ap (λ (y : Seen). y .report) shown ∙ ap numbers (a .says) in
-      let by : (q : Rewritten → ℕ) → q (returned (settings (afterCalls (inForce from) ys) .tags) (a .entry .what) f) ≡ q (returned (inForce from .tags) (asking g) f) =
-      λ q. ap (λ (ts : List Tag). q (returned ts (a .entry .what) f)) tags ∙ ap (λ (w : What). q (returned (inForce from .tags) w f)) same in
-      shown-as (ap (λ (y : Seen). y .frame) shown) (ap (λ (y : Report). y .partial) told ∙ by (λ y. y .partial)) (ap (λ (y : Report). y .value) told ∙ by (λ y. y .value))
-      (claim.what-a-23-reads (inForce from) ys t′ f o′ l a g same named plain)
