@@ -28,7 +28,7 @@ const HUNDREDS: u32 = TENS * 16;
 const THOUSANDS: u32 = HUNDREDS * 16;
 
 // What a tag holds: four digits in one register, or eight in two, or a sign and three digits in one.
-#[derive(Drop)]
+#[derive(Clone, Copy)]
 pub enum Kind {
     Width16,
     Width32,
@@ -36,14 +36,14 @@ pub enum Kind {
 }
 
 // A value as BCD, or the notice that the value is outside the range of the kind.
-#[derive(Drop)]
+#[derive(Clone, Copy)]
 pub enum Encoded {
     Bcd(u32),
     OutOfRange,
 }
 
 // The value of a BCD number, or the notice that it is no number of the kind: a nibble is above 9, or the sign is none, or it is minus 0.
-#[derive(Drop)]
+#[derive(Clone, Copy)]
 pub enum Decoded {
     Binary(u32),
     NoNumber,

@@ -238,7 +238,7 @@ pub fn earliest(
 }
 
 // What a request may take: the place that it joins, and the place that it would be issued into; PLACES where there is none.
-#[derive(Drop)]
+#[derive(Clone, Copy)]
 pub struct Seats {
     pub open: usize,
     pub free: usize,

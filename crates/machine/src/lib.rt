@@ -2,7 +2,7 @@
 use pdu::ProxyId;
 
 // What a call answers. Each case's numbers for the C host are in specs/Numbers.antt.
-#[derive(Drop)]
+#[derive(Clone, Copy)]
 pub enum Answer {
     Refused {
         number: u32,
@@ -44,7 +44,7 @@ pub enum Answer {
 
 // The C host's answer: a field that a call does not speak of is 0.
 #[repr(C)]
-#[derive(Drop)]
+#[derive(Clone, Copy)]
 pub struct Report {
     pub refusal: u32,
     pub line: u32,
@@ -60,7 +60,7 @@ pub struct Report {
 
 // How many requests are live, and the earliest deadline of them, NO_DEADLINE where none is.
 #[repr(C)]
-#[derive(Drop)]
+#[derive(Clone, Copy)]
 pub struct NextDeadline {
     pub time: u64,
     pub live: u32,

@@ -6,7 +6,7 @@ use libc::STDOUT_FILENO;
 use std::num::wrapping_add_u64;
 
 // How many examples were shown, and how many of them came out otherwise than is said beside them.
-#[derive(Drop)]
+#[derive(Clone, Copy)]
 pub struct Tally {
     pub shown: u64,
     pub differ: u64,

@@ -12,7 +12,7 @@ const MULTIPLE_BASE: usize = 13;
 const READ_WRITE_BASE: usize = 17;
 
 // What a request has for registers: nothing, masks for the one at an address, or a run of them from byte base on, of the addresses from start on.
-#[derive(Drop)]
+#[derive(Clone, Copy)]
 pub enum Carried {
     Nothing,
     Mask(u16),

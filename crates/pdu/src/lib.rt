@@ -18,21 +18,21 @@ pub const AND_MASK_AT: usize = 10;
 pub const OR_MASK_AT: usize = 12;
 
 // An id that the proxy issued, and an id that a client gave: two types that cannot be mixed.
-#[derive(Drop)]
+#[derive(Clone, Copy)]
 pub struct ProxyId(pub u16);
 
-#[derive(Drop)]
+#[derive(Clone, Copy)]
 pub struct OriginalId(pub u16);
 
 // What a function reads or writes: coils and discrete inputs are single bits, holding and input registers words of 16 bits.
-#[derive(Drop)]
+#[derive(Clone, Copy)]
 pub enum Table {
     Bits,
     Registers,
 }
 
 // The classes of functions: 01 to 04, 05 and 06, 15 and 16, 22, 23, and every other.
-#[derive(Drop)]
+#[derive(Clone, Copy)]
 pub enum Class {
     Reads(Table),
     WritesOne(Table),
@@ -43,7 +43,7 @@ pub enum Class {
 }
 
 // What was asked, kept with the live entry; of a single write also the value, as the client wrote it; of 22 both masks, of 23 both ranges.
-#[derive(Drop)]
+#[derive(Clone, Copy)]
 pub enum Asked {
     Read {
         table: Table,
@@ -75,7 +75,7 @@ pub enum Asked {
 }
 
 // What the check of a request comes to: refusal 5, refusal 6, an exception's code, or what it asks.
-#[derive(Drop)]
+#[derive(Clone, Copy)]
 pub enum Checked {
     BadFunction,
     BadLength,
@@ -84,7 +84,7 @@ pub enum Checked {
 }
 
 // A live entry, without its parties.
-#[derive(Drop)]
+#[derive(Clone, Copy)]
 pub struct Entry {
     pub id: ProxyId,
     pub unit: u8,

@@ -9,7 +9,7 @@ use values::tagwords::tag_word;
 const ISSUED: u16 = 9;
 
 // What a call gives: a refusal's number; or so many bytes of the buffer, with both counts.
-#[derive(Drop)]
+#[derive(Clone, Copy)]
 pub enum Given {
     Refused(u32),
     Frame(usize, Raw),

@@ -5,14 +5,14 @@ ghost use Rattle.settings.specs.TagWords.{tag_of, last_of};
 use values::tagwords::{tag_address, tag_kind};
 
 // Which way a rewriting goes.
-#[derive(Drop)]
+#[derive(Clone, Copy)]
 pub enum Way {
     ToBcd,
     ToBinary,
 }
 
 // How many tags were left raw: for partial cover, and for their value.
-#[derive(Drop)]
+#[derive(Clone, Copy)]
 pub struct Raw {
     pub partial: u32,
     pub value: u32,
@@ -25,14 +25,14 @@ pub const NOT_RAW: Raw = Raw {
 };
 
 // A tag's number rewritten, or the notice that its value leaves it raw.
-#[derive(Drop)]
+#[derive(Clone, Copy)]
 pub enum Turned {
     Number(u32),
     LeftRaw,
 }
 
 // Whether a tag was left raw: not, or for partial cover, or for its value.
-#[derive(Drop)]
+#[derive(Clone, Copy)]
 pub enum Rawness {
     NotRaw,
     Partial,

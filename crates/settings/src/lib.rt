@@ -6,7 +6,7 @@ use bcd::Kind;
 
 // The boundary's settings: how many of the tag places count, and each tag's address, width, sign and ttl, and whether it is strict.
 #[repr(C)]
-#[derive(Drop)]
+#[derive(Clone, Copy)]
 pub struct Settings {
     pub timeout: u32,
     pub join: u32,

@@ -22,14 +22,14 @@ pub struct ReadText {
 const CEILING: u32 = 1000000;
 
 // A line's number and the place behind the line; or that the line is wrong.
-#[derive(Drop)]
+#[derive(Clone, Copy)]
 pub enum LineRead {
     Numbered(u32, usize),
     Wrong,
 }
 
 // A tag's address, width, sign and ttl, whether it is strict, and the place behind its lines; or the number of its wrong line.
-#[derive(Drop)]
+#[derive(Clone, Copy)]
 pub enum TagRead {
     Tagged(u32, u32, u32, u32, u32, usize),
     WrongAt(u32),

@@ -10,7 +10,7 @@ ghost use Rattle.settingstext.specs.inner.Parts.{Laid, head_text, tag_text, tags
 use values::is_valid;
 
 // What writing comes to: the text's length, or a refusal: the buffer is too short, the value is invalid.
-#[derive(Drop)]
+#[derive(Clone, Copy)]
 pub enum Wrote {
     Text(usize),
     TooShort,

@@ -12,7 +12,7 @@ use columns::Columns;
 use pdu::{Entry, ProxyId};
 
 // A place of the table: whether it is live, its entry, whether that is closed, the client that it was issued for, how many parties wait.
-#[derive(Drop)]
+#[derive(Clone, Copy)]
 pub struct Place {
     pub live: bool,
     pub entry: Entry,

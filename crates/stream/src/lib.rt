@@ -16,7 +16,7 @@ pub struct LentStream {
 
 // What a call on a stream answers: C's zb_taken.
 #[repr(C)]
-#[derive(Drop)]
+#[derive(Clone, Copy)]
 pub struct Taken {
     pub refusal: u32,
     pub outcome: u32,

@@ -5,7 +5,7 @@ ghost use Rattle.wire.specs.Splitting.{standing_of, first_frame};
 use crate::pair_at;
 
 // What stands at the start of a run of received bytes.
-#[derive(Drop)]
+#[derive(Clone, Copy)]
 pub enum Split {
     Frame,
     MoreNeeded,
