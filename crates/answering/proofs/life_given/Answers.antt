@@ -1,0 +1,56 @@
+-- `answering::life_given` meets its contract: an exception and what is closed give none, a read of registers what its tags give, and all else none.
+use mathlib.Core.Path.{◌≡◌, refl, ap, sym, ◌∙◌}
+use mathlib.Core.Logic.{⊎_elim}
+use mathlib.Core.Bool.{Bool, true, false, ◌||◌}
+use mathlib.Core.List.{List, [], ◌∷◌}
+use native.Mathlib.Omega.{arith}
+use types.Run.{OneOf}
+use denote.Enum.Declared.{tag_of}
+use Rattle.settings.specs.Grammar.{Tag}
+use Rattle.pdu.specs.declared.Asked.{Asked}
+use Rattle.pdu.specs.declared.Asked.TheVariants.{Read, SingleWrite, MultipleWrite, MaskWrite, ReadWrite, Other}
+use Rattle.pdu.specs.contracts.Asked.{the_type}
+use Rattle.laws.proofs.Choice.{or_left, or_right}
+use Rattle.pdu.specs.Replies.{excepts}
+use Rattle.pdu.specs.Words.{what_of, closed_in}
+use Rattle.cache.specs.Life.{cacheable_by}
+use Rattle.answering.proofs.KeepLaws.{given-none, given_read, given_other}
+use Rattle.answering.proofs.life_given.Goals.{After-is_closed}
+use Rattle.answering.proofs.life_given.Goals as goal
+
+-- what the first test says
+tested : (c : After-is_closed) {b : Bool} → (c.is_exception-excepted.result || c.is_closed.result) ≡ b
+    → (excepts (what_of c.args.word).function c.args.frame.now || closed_in c.args.word) ≡ b
+tested c {b} e =
+    let x : excepts (what_of c.args.word).function c.args.frame.now ≡ c.is_exception-excepted.result =
+    sym (c.is_exception-excepted.ensures ∙ ap (λ n. excepts n c.args.frame.now) c.function_in.ensures) in
+    let y : closed_in c.args.word ≡ c.is_closed.result = sym c.is_closed.ensures in
+    rw (x, y) e
+
+pub returns-then-excepted-is_closed : goal.returns-then-excepted-is_closed
+returns-then-excepted-is_closed c e asks noted = given-none _ _ e _ asks noted (tested (goal.at.returns-then-excepted-is_closed c).After-is_closed c.if-excepted-is_closed.true)
+
+-- what is no read is not cacheable
+others-give-none : (tags : List Tag) (a : Asked) → OneOf (1 ∷ 2 ∷ 3 ∷ 4 ∷ 5 ∷ []) (tag_of the_type a) → cacheable_by tags a ≡ false
+unfolding cacheable_by
+others-give-none tags (Read t s q) h = absurd (⊎_elim (λ e. omega arith) (⊎_elim (λ e. omega arith) (⊎_elim (λ e. omega arith) (⊎_elim (λ e. omega arith) (λ e. omega arith)))) h)
+others-give-none tags (SingleWrite t a v) h = refl
+others-give-none tags (MultipleWrite t s q) h = refl
+others-give-none tags (MaskWrite a x y) h = refl
+others-give-none tags (ReadWrite s q u p) h = refl
+others-give-none tags Other h = refl
+
+pub returns-in_default : goal.returns-in_default
+returns-in_default c e asks noted = given_other _ _ e _ asks noted (sym c.asked_in.ensures) (others-give-none _ c.asked_in.result c.in_default.keys2)
+
+pub life_of-requires : goal.life_of-requires
+life_of-requires c = c.requires
+
+pub returns-in-Bits : goal.returns-in-Bits
+unfolding cacheable_by
+returns-in-Bits c e asks noted = given_other _ _ e _ asks noted (sym c.asked_in.ensures ∙ c.in-Read.is) (rw c.in-Bits.is refl)
+
+pub returns-in-Registers : goal.returns-in-Registers
+returns-in-Registers c e asks noted =
+    let t = tested (goal.at.returns-in-Registers c).After-is_closed c.if-excepted-is_closed.false in
+    given_read _ _ e _ asks noted (or_left _ _ t) (or_right (excepts (what_of c.args.word).function c.args.frame.now) _ t) (sym c.asked_in.ensures ∙ c.in-Read.is ∙ rw c.in-Registers.is refl) c.life_of.ensures

@@ -1,0 +1,54 @@
+-- `finding::free_id` meets its contract. The outer loop walks over live ids, which the pigeonhole ends; the inner loop's invariant: no place passed holds the id.
+use Prim.Native.Nat.{ℕ, ◌+◌, ◌-◌}
+use mathlib.Core.Path.{◌≡◌, refl, ap, sym, ◌∙◌}
+use mathlib.Core.Bool.{true, false}
+use mathlib.Core.List.{List}
+use native.Mathlib.Omega.{arith}
+use borrow.Author.Count.{below_more, below_none}
+use borrow.Author.Tests.{eq-eqb, ne_eqb}
+use Rattle.numbers.specs.Numbers.{ids as every-id}
+use Rattle.laws.specs.Circle.{turn, gap}
+use Rattle.pdu.specs.declared.ProxyId.{ProxyId}
+use Rattle.table.specs.inner.Places.{holds, live_id}
+use Rattle.finding.proofs.IdLaws.{live_yes, live_no, Walk, walk_starts, walk_nearer, walk_on, walk_ends}
+use Rattle.finding.proofs.free_id.Goals as goal
+
+pub search-init : goal.search-init
+search-init c = walk_starts c.args.ids.now c.args.top c.args.cursor.0 (omega arith)
+
+pub loop-k-init : goal.loop-k-init
+loop-k-init c = (omega arith, refl, below_none _)
+
+module _ (c : tie.After-next invariant-loop decreases-loop invariant-search decreases-search) where
+  abbrev inner : tie.At-loop invariant-loop decreases-loop invariant-search decreases-search
+  inner = c.before.before.before.before.before
+
+  abbrev outer : tie.At-search invariant-loop decreases-loop invariant-search decreases-search
+  outer = inner.before
+
+  abbrev column : List ℕ
+  column = outer.before.args.ids.now
+
+  live : live_id column outer.before.args.top outer.search.id.0 ≡ true
+  live = live_yes column _ _ inner.loop.k c.before.before.before.before.loop-test.true (eq-eqb _ _ (c.before.if1.true ∙ ap (λ (i : ProxyId). i.0 + 1) inner.loop.inv.1))
+
+  on : Walk column outer.before.args.top outer.before.args.cursor.0 c.next.result.0 × (gap every-id outer.before.args.cursor.0 c.next.result.0 ≡ gap every-id outer.before.args.cursor.0 outer.search.id.0 + 1)
+  on = walk_on column _ _ outer.before.pre outer.search.inv live (c.next.ensures ∙ ap (λ (i : ProxyId). turn every-id (i.0 + 1)) inner.loop.inv.1)
+
+-- an id that a place holds is live, and the walk goes one on
+pub search-smaller : goal.search-smaller
+search-smaller c = let o = outer c in omega (arith, (on c).1, walk_nearer (column c) _ _ o.before.pre o.search.inv (live c))
+
+pub search-preserved : goal.search-preserved
+search-preserved c = (on c).0
+
+pub loop-k-preserved : goal.loop-k-preserved
+loop-k-preserved c =
+    let l = c.loop-k.invariant in
+    (omega arith, l.1, below_more _ _ l.2 (ne_eqb _ _ (λ q. c.if-ids-k.false (q ∙ ap (λ (i : ProxyId). i.0 + 1) (sym l.1)))))
+
+pub returns : goal.returns
+returns c =
+    let l = c.loop-k.invariant in
+    let is = c.args.ids.now in
+    ap (λ (i : ProxyId). i.0) l.1 ∙ walk_ends is _ _ c.requires c.search.invariant (live_no is _ _ (λ k h. l.2 k (omega arith)))

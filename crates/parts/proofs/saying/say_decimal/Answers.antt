@@ -1,0 +1,10 @@
+-- `parts::saying::say_decimal` meets its contract: the digits that are made are the fewest.
+use Rattle.std.proofs.Common.{ap, ◌∙◌, arith}
+use Rattle.parts.specs.Said.{said}
+use Rattle.parts.proofs.SaidLaws.{numeral-made}
+use Rattle.parts.proofs.saying.say_decimal.Goals as goal
+
+pub returns : goal.returns
+returns c =
+    let a = c.args in
+    c.say.ensures ∙ ap (said a.right.now a.at) (c.decimal-size.ensures.1.1 ∙ numeral-made 10 1 a.n c.decimal-size.result (omega arith) (omega arith) c.decimal-size.ensures.1.0)

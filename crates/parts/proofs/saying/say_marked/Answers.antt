@@ -1,0 +1,27 @@
+-- `parts::saying::say_marked` meets its contract, mark by mark.
+use Rattle.std.proofs.Common.{ap, ◌∙◌}
+use Rattle.parts.specs.Said.{said, marked}
+use Rattle.parts.proofs.SaidLaws.{marked_other}
+use Rattle.parts.proofs.saying.say_marked.Goals as goal
+
+pub returns-in-68 : goal.returns-in-68
+unfolding marked
+returns-in-68 c = rw c.in-68.is c.say_decimal.ensures
+
+pub returns-in-66 : goal.returns-in-66
+unfolding marked
+returns-in-66 c = rw c.in-66.is c.say_digits.ensures
+
+pub returns-in-88 : goal.returns-in-88
+unfolding marked
+returns-in-88 c = rw c.in-88.is c.say_digits-in-88.ensures
+
+pub returns-in-76 : goal.returns-in-76
+unfolding marked
+returns-in-76 c = rw c.in-76.is c.say_digits-in-76.ensures
+
+pub returns-in_default : goal.returns-in_default
+returns-in_default c =
+    let a = c.args in
+    let r = c.in_default.rest in
+    c.say.ensures ∙ ap (said a.right.now a.at) (marked_other a.mark a.n r.0.0.0.1 r.0.0.1 r.0.1 r.1)

@@ -1,0 +1,6 @@
+-- `proxy::making::fresh` meets its contract: cleared columns with what was adopted are the fresh state.
+use Rattle.proxy.proofs.MakingLaws.{blank_bytes, made-fresh}
+use Rattle.proxy.proofs.making.fresh.Goals as goal
+
+pub returns : goal.returns
+returns c = made-fresh _ _ _ _ _ _ c.clear.ensures c.adopt_value.ensures (c.empty.ensures _ blank_bytes)
