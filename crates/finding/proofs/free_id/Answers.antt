@@ -1,5 +1,5 @@
 -- `finding::free_id` meets its contract. The outer loop walks over live ids, which the pigeonhole ends; the inner loop's invariant: no place passed holds the id.
-use Prim.Native.Nat.{ℕ, ◌+◌, ◌-◌}
+use Prim.Native.Nat.{◌+◌, ◌-◌}
 use mathlib.Core.Path.{◌≡◌, refl, ap, sym, ◌∙◌}
 use mathlib.Core.Bool.{true, false}
 use native.Mathlib.Omega.{arith}
@@ -8,7 +8,7 @@ use borrow.Author.Tests.{eq-eqb, ne_eqb}
 use Rattle.numbers.specs.Numbers.{ids as every-id}
 use Rattle.laws.specs.Circle.{turn, gap}
 use Rattle.pdu.specs.declared.ProxyId.{ProxyId}
-use Rattle.table.specs.inner.Places.{holds, live_id}
+use Rattle.table.specs.inner.Places.{live_id}
 use Rattle.finding.proofs.IdLaws.{live_yes, live_no, Walk, walk_starts, walk_nearer, walk_on, walk_ends}
 use Rattle.finding.proofs.free_id.Goals as goal
 use Rattle.finding.proofs.free_id.Goals.{After-next-id}
