@@ -57,7 +57,7 @@ found c = rw c.proxy_of.ensures at c.find-place.ensures
 lives : (c : Else-place-eq-PLACES)
     → Living (columns c.args.ids.now c.args.asked.now c.args.callers.now c.args.deadlines.now c.args.counts.now c.args.clients.now c.args.originals.now c.args.top.now) c.find-place.result
 lives c =
-    holder_lives (columns c.args.ids.now c.args.asked.now c.args.callers.now c.args.deadlines.now c.args.counts.now c.args.clients.now c.args.originals.now c.args.top.now) c.requires.0 (id_of c.args.frame.now) c.find-place.result (found c) c.if-place-eq-PLACES.false
+    holder_lives (columns c.args.ids.now c.args.asked.now c.args.callers.now c.args.deadlines.now c.args.counts.now c.args.clients.now c.args.originals.now c.args.top.now) c.requires.0 (id_of c.args.frame.now) c.find-place.result (rw c.proxy_of.ensures at c.find-place.ensures) c.if-place-eq-PLACES.false
 
 -- the reply answers what was asked there
 answered-by : (c : Else-not-answers_word)
