@@ -4,7 +4,6 @@ use mathlib.Core.Bool.{true, false}
 use native.Mathlib.Omega.{arith}
 use lib.ListN.{length, get_or}
 use lib.Seq.{length-take-le}
-use borrow.Author.Tests.{not-true, not-false}
 use Rattle.numbers.specs.Numbers.{places}
 use Rattle.laws.specs.Search.{best}
 use Rattle.wire.specs.Frame.{id_of}
@@ -62,7 +61,7 @@ lives c =
 -- the reply answers what was asked there
 answered-by : (c : Else-not-answers_word)
     → answering (held (columns c.args.ids.now c.args.asked.now c.args.callers.now c.args.deadlines.now c.args.counts.now c.args.clients.now c.args.originals.now c.args.top.now) c.find-place.result).what c.args.frame.now ≡ true
-answered-by c = sym c.answers_word.ensures ∙ not-false _ c.if-not-answers_word.false
+answered-by c = sym c.answers_word.ensures ∙ c.if-not-answers_word.false
 
 pub returns-then-refused-ne0 : goal.returns-then-refused-ne0
 returns-then-refused-ne0 c whole sounds =
@@ -92,7 +91,7 @@ pub returns-then-not-answers_word : goal.returns-then-not-answers_word
 returns-then-not-answers_word c whole sounds =
     let a = c.args in (
       was_mismatched (came (goal.at.returns-then-not-answers_word c).Start whole) sounds a.time a.frame.now a.out.now a.list.now
-          (gate (goal.at.returns-then-not-answers_word c).Else-refused-ne0) c.find-place.result (found (goal.at.returns-then-not-answers_word c).After-find-place) c.if-place-eq-PLACES.false (sym c.answers_word.ensures ∙ not-true _ c.if-not-answers_word.true),
+          (gate (goal.at.returns-then-not-answers_word c).Else-refused-ne0) c.find-place.result (found (goal.at.returns-then-not-answers_word c).After-find-place) c.if-place-eq-PLACES.false (sym c.answers_word.ensures ∙ c.if-not-answers_word.true),
       sounds,
       λ h. refl,
     )
