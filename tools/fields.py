@@ -36,7 +36,7 @@ def value(field, member, language):
 
 def lent(path, names):
     """The fields that a function is lent; they stand first among its parameters, in their order."""
-    params = [n for n, _ in sources.function('crates', path).params]
+    params = sources.parameters('crates', path)
     found = [n for n in names if n in params]
     assert params[: len(found)] == found, f'{path}: its fields stand in another order'
     return found
