@@ -23,5 +23,5 @@ returns-in-76 c = rw c.in-76.is c.say_digits-in-76.ensures
 pub returns-in_default : goal.returns-in_default
 returns-in_default c =
     let a = c.args in
-    let r = c.in_default.rest in
+    let r = c.in_default.in_default-own.rest in
     c.say.ensures ∙ ap (said a.right.now a.at) (marked_other a.mark a.n r.0.0.0.1 r.0.0.1 r.0.1 r.1)
