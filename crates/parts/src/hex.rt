@@ -52,14 +52,14 @@ fn digit(n: u8) -> u8
 }
 
 // Says a blank and the digits of each byte.
-pub fn say_hex(right: &[u8], at: usize, bytes: &[u8], out: &mut Output) -> usize
+pub fn say_hex(right: &[u8], at: usize, bytes: &[u8], output: &mut Output) -> usize
     ensures { result ≡ said right.now at (hex_of bytes.now) }
 {
     let mut next = at;
     let mut k: usize = 0;
     while k < bytes.len() {
         let byte = bytes[k];
-        next = say(right, next, &[b' ', digit(byte / 16), digit(byte)], out);
+        next = say(right, next, &[b' ', digit(byte / 16), digit(byte)], output);
         k += 1;
     }
     next

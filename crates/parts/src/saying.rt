@@ -1,4 +1,4 @@
-// What comes out is said piece by piece: each is printed, and held against what must stand at its place. A place is that of the next piece.
+// What comes output is said piece by piece: each is printed, and held against what must stand at its place. A place is that of the next piece.
 ghost use Rattle.std.specs.Prelude.{◌≡◌, ◌+◌, min, max};
 ghost use Rattle.parts.specs.Said.{lost, said, numeral, marked, formed};
 
@@ -10,9 +10,9 @@ use crate::{before, behind};
 const LOST: usize = 18446744073709551615;
 
 // Prints bytes, unless what they are held against is nothing: a call that is not the last of its row is made so.
-pub fn print_held(right: &[u8], bytes: &[u8], out: &mut Output) {
+pub fn print_held(right: &[u8], bytes: &[u8], output: &mut Output) {
     if 0 < right.len() {
-        out.print(bytes);
+        output.print(bytes);
     }
 }
 
@@ -24,10 +24,10 @@ fn further(at: usize, size: usize) -> usize
 }
 
 // Says a piece, and tells the place behind it.
-pub fn say(right: &[u8], at: usize, piece: &[u8], out: &mut Output) -> usize
+pub fn say(right: &[u8], at: usize, piece: &[u8], output: &mut Output) -> usize
     ensures { result ≡ said right.now at piece.now }
 {
-    print_held(right, piece, out);
+    print_held(right, piece, output);
     if at == LOST {
         return LOST;
     }
@@ -40,32 +40,32 @@ pub fn say(right: &[u8], at: usize, piece: &[u8], out: &mut Output) -> usize
 }
 
 // Says a number in decimal digits, and in so many hexadecimal ones.
-fn say_decimal(right: &[u8], at: usize, n: u64, out: &mut Output) -> usize
+fn say_decimal(right: &[u8], at: usize, n: u64, output: &mut Output) -> usize
     ensures { result ≡ said right.now at (numeral 10 1 n) }
 {
     let mut digits = [0u8; 20];
     let size = decimal(n, &mut digits);
-    say(right, at, &digits[..size], out)
+    say(right, at, &digits[..size], output)
 }
 
-fn say_digits(right: &[u8], at: usize, n: u64, width: usize, out: &mut Output) -> usize
+fn say_digits(right: &[u8], at: usize, n: u64, width: usize, output: &mut Output) -> usize
     ensures { result ≡ said right.now at (numeral 16 (min (max width 1) 16) n) }
 {
     let mut digits = [0u8; 16];
     let size = hex(n, width, &mut digits);
-    say(right, at, &digits[..size], out)
+    say(right, at, &digits[..size], output)
 }
 
 // Says a number where a form has a mark for one: D for decimal digits; B, X, L for 2, 4, 8 hexadecimal ones.
-fn say_marked(right: &[u8], at: usize, mark: u8, n: u64, out: &mut Output) -> usize
+fn say_marked(right: &[u8], at: usize, mark: u8, n: u64, output: &mut Output) -> usize
     ensures { result ≡ said right.now at (marked mark n) }
 {
     match mark {
-        b'D' => say_decimal(right, at, n, out),
-        b'B' => say_digits(right, at, n, 2, out),
-        b'X' => say_digits(right, at, n, 4, out),
-        b'L' => say_digits(right, at, n, 8, out),
-        _ => say(right, at, &[mark], out),
+        b'D' => say_decimal(right, at, n, output),
+        b'B' => say_digits(right, at, n, 2, output),
+        b'X' => say_digits(right, at, n, 4, output),
+        b'L' => say_digits(right, at, n, 8, output),
+        _ => say(right, at, &[mark], output),
     }
 }
 
@@ -77,7 +77,7 @@ pub fn say_form(
     one: u64,
     two: u64,
     three: u64,
-    out: &mut Output,
+    output: &mut Output,
 ) -> usize
     ensures { result ≡ said right.now at (formed form.now one two three) }
 {
@@ -87,7 +87,7 @@ pub fn say_form(
     let mut k: usize = 0;
     while k < form.len() {
         let mark = form[k];
-        next = say_marked(right, next, mark, n, out);
+        next = say_marked(right, next, mark, n, output);
         if (b'A' <= mark) & (mark <= b'Z') {
             n = then;
             then = three;

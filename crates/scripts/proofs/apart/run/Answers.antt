@@ -23,6 +23,6 @@ returns-in-119 c =
 pub returns-in_default : goal.returns-in_default
 returns-in_default c =
     let a = c.args in
-    let none = c.in_default.rest in
+    let none = c.in_default.in_default-own.rest in
     let chosen = apart_state a.call.now a.bytes.now a.cursor a.clock a.attached c.letter.ensures none.0.0.1 none.0.1 none.1 in
     rw chosen c.say_form.ensures
