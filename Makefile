@@ -1,6 +1,6 @@
 # demo proves the demonstration program, runs it on its file stdin, holds what it writes to its file stdout and prints that; test is the gate, behind a look whether
-# a written file is stale and a proof of what tools/gen.py writes for a struct that holds another one (tests/generate); generate writes what is written from the list of
-# the device's fields and the entry points (crates/zilborteka/entries.txt).
+# a written file is stale and a proof of entry points over a struct that holds another one (tests/generate); generate writes what is written from the list of
+# the device's fields (crates/zilborteka/entries.txt).
 # archive proves and compiles the archive for a process; kernel-archive that one and the one for a kernel, from one module.
 # host builds the archive and runs the example host in C; host-test also compiles the header alone under four language
 # versions, runs the example as C++, and runs tests/host (SEED=n: with another seed). ARCHIVE=path: over that archive, as

@@ -4,8 +4,8 @@ In a template
   @each[ITEM]    stands for ITEM once for each field, in order: one line each where it is all of a line, else side by side
   @each:FUNCTION[ITEM]   the same for the fields that a function `crate::function` is lent: those that its parameters are named after
   @rest:FUNCTION[ITEM]   the same for the other fields
-                 ITEM has {name}, in antt as a struct of Rattle has it; {own}: the name in antt's own spelling; {type}, {zero}: the field's type and a value of it that is all zeros, in the file's language; {member}: the member of a C struct, with the comment of entries.txt;
-                 {steps}: the steps that a proof's path has for the field, copied into a local and lent: two for an array, one for a number
+                 ITEM has {name}; {type}, {zero}: the field's type and a value of it that is all zeros, in the file's language; {member}: the member of a C struct, with the comment of entries.txt
+                 Side by side and before a closing parenthesis, the last one's comma goes
   @binders       stands for the fields as arguments with their types, (ids .. : List ℕ) (top .. : ℕ) ..
   @size          stands for how many bytes the device has
 The first line of what is written says where it comes from. It is a part of tools/generate."""
@@ -24,26 +24,19 @@ def members(found):
     return [f'{text:{widest}} /* {f.comment} */' if f.comment else text for text, f in zip(spelled, found)]
 
 
-def own(name):
-    """A name of Rattle in antt's own spelling: tagWords for tag_words."""
-    first, *more = name.lower().split('_')
-    return first + ''.join(w.title() for w in more)
-
-
 def value(field, member, language):
     """What the words of an item stand for, of one field."""
     size, element = field.size, field.element
     if language == 'antt':
-        kind, zero = ('List ℕ', f'(replicate {own(size)} 0)') if size else ('ℕ', '0')
+        kind, zero = ('List ℕ', f'(replicate {size.lower()} 0)') if size else ('ℕ', '0')
     else:
         kind, zero = (f'[{element}; numbers::{size}]', f'[0{element}; numbers::{size}]') if size else (element, f'0{element}')
-    name = f'«{field.name}»' if language == 'antt' and '_' in field.name else field.name
-    return {'name': name, 'own': own(field.name), 'type': kind, 'zero': zero, 'member': member, 'steps': '.before .before' if size else '.before'}
+    return {'name': field.name, 'type': kind, 'zero': zero, 'member': member}
 
 
 def lent(path, names):
     """The fields that a function is lent; they stand first among its parameters, in their order."""
-    params = [n for n, _ in sources.function('crates', path).params]
+    params = sources.parameters('crates', path)
     found = [n for n in names if n in params]
     assert params[: len(found)] == found, f'{path}: its fields stand in another order'
     return found
@@ -56,13 +49,14 @@ def expanded(text, found, language):
     def items(word, path, item):
         some = lent(path, names) if path else names
         some = [n for n in names if n not in some] if word == 'rest' else some
-        return [re.sub(r'\{(name|own|type|zero|member|steps)\}', lambda m: v[m.group(1)], item) for n, v in zip(names, values) if n in some]
+        return [re.sub(r'\{(name|type|zero|member)\}', lambda m: v[m.group(1)], item) for n, v in zip(names, values) if n in some]
 
     each = r'@(each|rest)(?::([\w:]+))?\[([^]\n]*)\]'
     text = re.sub(f'^( *){each}$', lambda m: '\n'.join(m.group(1) + x for x in items(*m.groups()[1:])), text, flags=re.M)
     text = re.sub(each, lambda m: ' '.join(items(*m.groups())), text)
+    text = re.sub(r',(?=\))', '', text)
     groups = itertools.groupby(found, key=lambda f: 'List ℕ' if f.size else 'ℕ')
-    text = text.replace('@binders', ' '.join(f'({" ".join(own(f.name) for f in fs)} : {kind})' for kind, fs in groups))
+    text = text.replace('@binders', ' '.join(f'({" ".join(f.name for f in fs)} : {kind})' for kind, fs in groups))
     return text.replace('@size', str(sources.bytes_of('crates', found)))
 
 

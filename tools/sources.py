@@ -1,11 +1,9 @@
-"""What tools/gen.py and tools/fields.py read of Rattle sources and of the lists *entries.txt: the signature, the contract and the one call of a function, and the fields of a struct."""
+"""What tools/fields.py reads of Rattle sources and of the list crates/zilborteka/entries.txt: the parameters of a function, and the fields of the device."""
 import collections
 import functools
 import os
 import re
 
-# a function: its parameters (name, type), its result's type, what it requires and ensures ('' for nothing) with the name of its result, its body, what its file brings in
-Function = collections.namedtuple('Function', 'params result requires ensures result_name body uses ghosts')
 Field = collections.namedtuple('Field', 'name element size comment')
 WIDTHS = {'u8': 1, 'u16': 2, 'u32': 4, 'u64': 8}
 
@@ -33,34 +31,11 @@ def file_of(crates, path):
     return f'{crates}/{crate}/src/{"/".join(modules) or "lib"}.rt'
 
 
-def clause(kind, contract, path):
-    found = re.findall(kind + r' \{ (?:λ (\w+)\. )?⌜ (.*?) ⌝ \}', contract, re.S)
-    assert len(found) <= 1, f'{path} has more than one {kind}'
-    return found[0] if found else ('r', '')
-
-
-@functools.cache
-def function(crates, path):
-    text = text_of(file_of(crates, path))
-    name = path.split('::')[-1]
-    found = re.search(r'^pub (?:extern "C" )?fn ' + name + r'(?:<[^>]*>)?\((.*?)\)(?: -> (\w+))?\s*?\n?(.*?)\{\n(.*?)\n\}', text, re.M | re.S)
+def parameters(crates, path):
+    """The names of a function's parameters, in their order."""
+    found = re.search(r'^pub fn ' + path.split('::')[-1] + r'(?:<[^>]*>)?\((.*?)\)', text_of(file_of(crates, path)), re.M | re.S)
     assert found, f'no function {path}'
-    params, result, contract, body = found.groups()
-    result_name, ensures = clause('ensures', contract, path)
-    uses = {n.split('::')[-1]: '/'.join(n.split('::')) for n in re.findall(r'^use ([\w:]+);', text, re.M)}
-    ghosts = [(module, n) for module, names in re.findall(r'^ghost use (\S+)\.\{(.*?)\};', text, re.M) for n in names.split(', ')]
-    params = [tuple(x.strip() for x in p.split(':', 1)) for p in pieces(re.sub(r"'\w+ ", '', params))]
-    return Function(params, result, clause('requires', contract, path)[1], ensures, result_name, body, uses, ghosts)
-
-
-def call(body, path):
-    """The one call that a body is, or the call of what it comes to: the functions, the last one first, and the arguments of the first."""
-    functions, text = [], ' '.join(body.split())
-    while (found := re.fullmatch(r'([\w:]+)\((.*?),? ?\)', text)):
-        functions.append(found.group(1))
-        text = found.group(2)
-    assert 1 <= len(functions) <= 2, f'{path} is no call of one function, or of one on what another comes to'
-    return functions, pieces(text)
+    return [p.split(':', 1)[0].strip() for p in pieces(found.group(1))]
 
 
 def lines(file):

@@ -17,7 +17,7 @@ use Rattle.settings.specs.TagWords.{Ascending, some_strict}
 use Rattle.pdu.specs.Requests.{class_of, bad_function, bad_length, start_of, quantity_of, write_start_of, write_quantity_of, asked_by, asked_of, fault_of, checked_of}
 use Rattle.pdu.specs.declared.Table.TheVariants.{Bits, Registers}
 use Rattle.pdu.specs.declared.Class.{Class}
-use Rattle.pdu.specs.declared.Class.TheVariants.{WritesOne, WritesMany, Masks, ReadsWrites}
+use Rattle.pdu.specs.declared.Class.TheVariants.{Reads, WritesOne, WritesMany, Masks, ReadsWrites, Others}
 use Rattle.pdu.specs.declared.Asked.{Asked}
 use Rattle.pdu.specs.declared.Asked.TheVariants.{Read, SingleWrite, MultipleWrite, MaskWrite, ReadWrite, Other}
 use Rattle.pdu.specs.declared.Checked.TheVariants as check
@@ -73,6 +73,11 @@ carries_or Other = inr (λ _ _ _ c. elim c [ ])
 kept : (c : Class) (f w : List ℕ) {base start quantity : ℕ} → Carries (asked_by c w) base start quantity
     → ((base' start' quantity' : ℕ) → Carries (asked_by c f) base' start' quantity' → (k : ℕ) → 2 ≤ k → k < base' → get_or w k 0 ≡ get_or f k 0) → Carries (asked_by c f) base start quantity
 unfolding asked_by
+kept (Reads t) f w c g = elim c [ ]
+kept (WritesOne Bits) f w c g = elim c [ ]
+kept (WritesMany Bits) f w c g = elim c [ ]
+kept Masks f w c g = elim c [ ]
+kept Others f w c g = elim c [ ]
 kept (WritesOne Registers) f w single g =
     let same = g _ _ _ single in
     let e : start_of w ≡ start_of f = rw (same 8 (omega arith) (omega arith), same 9 (omega arith) (omega arith)) in

@@ -52,7 +52,7 @@ decimal_more {ds} {n} p h (c ∷ es) e =
     let value : 10 * n + (c - 48) ≡ n * 10 + (c - 48) = omega arith in
     let next : Decimal (ds ++ (c ∷ [])) (n * 10 + (c - 48)) =
     subst (λ m. Decimal (ds ++ (c ∷ [])) m) value (subst (λ b. Decimal (ds ++ (b ∷ [])) (10 * n + (c - 48))) byte (Decimal.more (c - 48) p h (omega arith))) in
-    rw append_assoc at (decimal_more next (omega arith) es w.1)
+    rw append_assoc at (decimal_more {ds = ds ++ (c ∷ [])} {n = n * 10 + (c - 48)} next (omega arith) es w.1)
 
 decimal-told : (ds : List ℕ) → trailing ds ≡ [] → plain ds ≡ true → Decimal ds (number_from 0 ds)
 unfolding number_from plain

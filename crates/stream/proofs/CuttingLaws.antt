@@ -80,7 +80,7 @@ cut_agrees r f c =
 calls_read : (f : Fed) (xs : List Offer) → Reads f → Reads (calls f xs)
 unfolding calls
 calls_read f [] h = h
-calls_read f (x ∷ xs) h = calls_read _ xs (took_reads f x.piece x.buffer h)
+calls_read f (x ∷ xs) h = calls_read (with f x.piece (took f.after x.piece x.buffer)) xs (took_reads f x.piece x.buffer h)
 
 -- Whatever calls are made on a stream for a new connection, with whatever pieces and buffers, refused ones among them: the bytes that they took are whole frames, those yielded,
 -- with the bytes kept behind them, the start of a frame or a bad header up to its sixth byte;

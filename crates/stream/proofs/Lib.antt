@@ -3,4 +3,3 @@ pub mod CuttingLaws
 pub mod CallLaws
 pub mod OfferLaws
 pub mod FieldLaws
-pub mod written

@@ -11,7 +11,7 @@ use borrow.Author.Tests.{eq-eqb, ne_eqb}
 use Rattle.numbers.specs.Numbers.{frame_buffer}
 use Rattle.laws.proofs.Choice.{lt_or}
 use Rattle.stream.specs.Stream.{TakeOutcome, refused, took}
-use Rattle.stream.specs.Hosts.{Fed, fed, start, uncut}
+use Rattle.stream.specs.Hosts.{Fed, fed, start, with, uncut}
 use Rattle.stream.specs.Lent.{stream_of, MadeStream, Takes, Resets}
 use Rattle.stream.specs.Lives.{Line, came, Lived, heard, Offering}
 use Rattle.stream.specs.Lives.Lived.{none, then}
@@ -36,11 +36,11 @@ offering_offers r f e (then t l) (again {p} {ps} {x} q b n g) h =
     let s = ((line_offers r f x e t b h.cut).some (eq-eqb _ _ n)).0 in
     let back : (r ++ take k x.offer.piece) ++ (drop k p ++ flatten ps) ≡ r ++ (p ++ flatten ps) =
     ap (λ y. (r ++ take k y) ++ (drop k p ++ flatten ps)) q ∙ sym (append_assoc (r ++ take k p) (drop k p) (flatten ps)) ∙ ap (λ y. y ++ flatten ps) (offered_rest r k p) ∙ append_assoc r p (flatten ps) in
-    rw back at (offering_offers _ _ refl l g s)
+    rw back at (offering_offers (r ++ take k x.offer.piece) (with f x.offer.piece (came x)) refl l g s)
 offering_offers r f e (then t l) (next {p} {ps} {x} q b n g) h =
     let s = (line_offers r f x e t b h.cut).all (ne_eqb _ _ n) in
     let back : (r ++ x.offer.piece) ++ flatten ps ≡ r ++ (p ++ flatten ps) = ap (λ y. (r ++ y) ++ flatten ps) q ∙ append_assoc r p (flatten ps) in
-    rw back at (offering_offers _ _ refl l g s)
+    rw back at (offering_offers (r ++ x.offer.piece) (with f x.offer.piece (came x)) refl l g s)
 
 -- Request #110, any cutting, of the exported functions: whatever pieces a host offers of a stream that it lends, empty ones among them, as HOST.md says and after the reset, the frames
 -- that it is given, the bytes that are taken, the refusal of the last call and the stream are those of the uncut run.

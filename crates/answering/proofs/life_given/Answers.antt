@@ -1,15 +1,12 @@
 -- `answering::life_given` meets its contract: an exception and what is closed give none, a read of registers what its tags give, and all else none.
+use Prim.Native.Nat.{ℕ}
 use mathlib.Core.Path.{◌≡◌, refl, ap, sym, ◌∙◌}
-use mathlib.Core.Logic.{⊎_elim}
-use mathlib.Core.Bool.{Bool, true, false, ◌||◌}
-use mathlib.Core.List.{List, [], ◌∷◌}
-use native.Mathlib.Omega.{arith}
-use types.Run.{OneOf}
-use denote.Enum.Declared.{tag_of}
+use mathlib.Core.Bool.{Bool, false, ◌||◌}
+use mathlib.Core.List.{List}
 use Rattle.settings.specs.Grammar.{Tag}
 use Rattle.pdu.specs.declared.Asked.{Asked}
+use Rattle.pdu.specs.declared.Table.{Table}
 use Rattle.pdu.specs.declared.Asked.TheVariants.{Read, SingleWrite, MultipleWrite, MaskWrite, ReadWrite, Other}
-use Rattle.pdu.specs.contracts.Asked.{the_type}
 use Rattle.laws.proofs.Choice.{or_left, or_right}
 use Rattle.pdu.specs.Replies.{excepts}
 use Rattle.pdu.specs.Words.{what_of, closed_in}
@@ -31,9 +28,9 @@ pub returns-then-excepted-is_closed : goal.returns-then-excepted-is_closed
 returns-then-excepted-is_closed c e asks noted = given-none _ _ e _ asks noted (tested (goal.at.returns-then-excepted-is_closed c).After-is_closed c.if-excepted-is_closed.true)
 
 -- what is no read is not cacheable
-others-give-none : (tags : List Tag) (a : Asked) → OneOf (1 ∷ 2 ∷ 3 ∷ 4 ∷ 5 ∷ []) (tag_of the_type a) → cacheable_by tags a ≡ false
+others-give-none : (tags : List Tag) (a : Asked) → ((t : Table) (s q : ℕ) → a ≡ Read t s q → ⊥) → cacheable_by tags a ≡ false
 unfolding cacheable_by
-others-give-none tags (Read t s q) h = absurd (⊎_elim (λ e. omega arith) (⊎_elim (λ e. omega arith) (⊎_elim (λ e. omega arith) (⊎_elim (λ e. omega arith) (λ e. omega arith)))) h)
+others-give-none tags (Read t s q) h = absurd (h t s q refl)
 others-give-none tags (SingleWrite t a v) h = refl
 others-give-none tags (MultipleWrite t s q) h = refl
 others-give-none tags (MaskWrite a x y) h = refl
@@ -41,7 +38,7 @@ others-give-none tags (ReadWrite s q u p) h = refl
 others-give-none tags Other h = refl
 
 pub returns-in_default : goal.returns-in_default
-returns-in_default c e asks noted = given_other _ _ e _ asks noted (sym c.asked_in.ensures) (others-give-none _ c.asked_in.result c.in_default.keys2)
+returns-in_default c e asks noted = given_other _ _ e _ asks noted (sym c.asked_in.ensures) (others-give-none _ c.asked_in.result c.in_default.not-Read)
 
 pub life_of-requires : goal.life_of-requires
 life_of-requires c = c.requires

@@ -9,10 +9,10 @@ pub give_back-requires : goal.give_back-requires
 give_back-requires c =
     let p = c.requires.proper in
     let b = answer_brought (what_of c.args.word) c.args.frame.now p.0.lawful p.1 in
-    (c.requires.framed, (rw (c.function_in-function.ensures, c.asked_in-asked.ensures) b, c.requires.tag_words))
+    record { framed = c.requires.framed; brought = rw (c.function_in-function.ensures, c.asked_in-asked.ensures) b; tag_words = c.requires.tag_words }
 
 pub returns : goal.returns
 returns c =
     let a = c.args in
-    by_word a.out.now a.frame.now (tags_of a.tag-count a.tag-words.now) (what_of a.word)
+    by_word a.out.now a.frame.now (tags_of a.tag_count a.tag_words.now) (what_of a.word)
     c.function_in-function.ensures c.asked_in-asked.ensures c.give_back.ensures

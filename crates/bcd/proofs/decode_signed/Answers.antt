@@ -26,11 +26,14 @@ size_is : (c : After-unpack-size) → c.unpack-size.result ≡ unpacked 3 c.args
 size_is c = sign-unpacked 3 _ _ c.unpack-size.ensures
 
 size_most : (c : After-unpack-size) → c.unpack-size.result ≤ 999
-size_most c = let l = unpacked-below 3 c.args.w (all_digits c) in omega (arith, size_is c)
+size_most c = let l = unpacked-below 3 c.args.w (sym (sign-decimal 3 _ _ c.is_decimal.ensures) ∙ c.if-is_decimal.true) in omega (arith, sign-unpacked 3 _ _ c.unpack-size.ensures)
 
 -- and its negative
 minus-within : (c : After-unpack-size) → InThreeDigits (pos 0 -ℤ to_z w16 c.unpack-size.result)
-minus-within c = negated_within _ (size_integer _ (size_most c))
+minus-within c =
+    let l = unpacked-below 3 c.args.w (sym (sign-decimal 3 _ _ c.is_decimal.ensures) ∙ c.if-is_decimal.true) in
+    let m : c.unpack-size.result ≤ 999 = omega (arith, sign-unpacked 3 _ _ c.unpack-size.ensures) in
+    negated_within _ (size_integer _ m)
 
 pub overflow_cast-size : goal.overflow_cast-size
 overflow_cast-size c = record { sfits = omega (arith, size_most (goal.at.overflow_cast-size c).After-unpack-size) }

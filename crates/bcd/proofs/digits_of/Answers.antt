@@ -13,7 +13,7 @@ read : (s : Start) → to_z w16 (of_z w16 s.args.value) ≡ s.args.value
 read s = word_back s.args.value s.requires
 
 size-within : (c : After-size_of) → c.size_of.result ≤ 999
-size-within c = rw (c.size_of.ensures, read c) (size_most c.args.value c.requires)
+size-within c = rw (c.size_of.ensures, word_back c.args.value c.requires) (size_most c.args.value c.requires)
 
 pub overflow_cast-size_of : goal.overflow_cast-size_of
 overflow_cast-size_of c = record { fits = omega (arith, size-within (goal.at.overflow_cast-size_of c).After-size_of) }

@@ -1,10 +1,10 @@
 -- `caching::oldest_place` meets its contract. The loop's invariant: `found` is the best of the places passed.
-use Prim.Native.Nat.{◌-◌}
 use mathlib.Core.Path.{◌≡◌, refl}
-use mathlib.Core.Logic.{⊎_elim, inl, inr}
+use mathlib.Core.Logic.{inl, inr}
 use native.Mathlib.Omega.{arith}
 use Rattle.laws.specs.Search.{best}
 use Rattle.caching.proofs.KeptLaws.{oldest_turn}
+use Rattle.caching.proofs.oldest_place.Goals.{then-cache-k, else-cache-k}
 use Rattle.caching.proofs.oldest_place.Goals as goal
 
 pub loop-k-init : goal.loop-k-init
@@ -14,7 +14,7 @@ loop-k-init c = (omega arith, omega arith, refl)
 pub loop-k-preserved : goal.loop-k-preserved
 loop-k-preserved c =
     let i = c.loop-k.invariant in
-    let t = oldest_turn c.args.cache.now c.loop-k.k c.loop-k.found (omega arith) i.1 i.2 (⊎_elim (λ w. inl (w.0.taken, w.1)) (λ w. inr (w.0.left, w.1)) c.if-cache-k.branch) in
+    let t = oldest_turn c.args.cache.now c.loop-k.k c.loop-k.found (omega arith) i.1 i.2 (elim c.if-cache-k.branch [ then-cache-k w ↦ inl (w.if-cache-k.true, w.found-is) | else-cache-k w ↦ inr (w.if-cache-k.false, w.found-is) ]) in
     (omega arith, t.0, t.1)
 
 pub returns : goal.returns

@@ -1,17 +1,17 @@
 -- `finding::free_id` meets its contract. The outer loop walks over live ids, which the pigeonhole ends; the inner loop's invariant: no place passed holds the id.
-use Prim.Native.Nat.{ℕ, ◌+◌, ◌-◌}
+use Prim.Native.Nat.{◌+◌, ◌-◌}
 use mathlib.Core.Path.{◌≡◌, refl, ap, sym, ◌∙◌}
 use mathlib.Core.Bool.{true, false}
-use mathlib.Core.List.{List}
 use native.Mathlib.Omega.{arith}
 use borrow.Author.Count.{below_more, below_none}
 use borrow.Author.Tests.{eq-eqb, ne_eqb}
 use Rattle.numbers.specs.Numbers.{ids as every-id}
 use Rattle.laws.specs.Circle.{turn, gap}
 use Rattle.pdu.specs.declared.ProxyId.{ProxyId}
-use Rattle.table.specs.inner.Places.{holds, live_id}
+use Rattle.table.specs.inner.Places.{live_id}
 use Rattle.finding.proofs.IdLaws.{live_yes, live_no, Walk, walk_starts, walk_nearer, walk_on, walk_ends}
 use Rattle.finding.proofs.free_id.Goals as goal
+use Rattle.finding.proofs.free_id.Goals.{After-next-id}
 
 pub search-init : goal.search-init
 search-init c = walk_starts c.args.ids.now c.args.top c.args.cursor.0 (omega arith)
@@ -19,25 +19,16 @@ search-init c = walk_starts c.args.ids.now c.args.top c.args.cursor.0 (omega ari
 pub loop-k-init : goal.loop-k-init
 loop-k-init c = (omega arith, refl, below_none _)
 
-module _ (c : tie.After-next invariant-loop decreases-loop invariant-search decreases-search) where
-  abbrev inner : tie.At-loop invariant-loop decreases-loop invariant-search decreases-search
-  inner = c.before.before.before.before.before
-
-  abbrev outer : tie.At-search invariant-loop decreases-loop invariant-search decreases-search
-  outer = inner.before
-
-  abbrev column : List ℕ
-  column = outer.before.args.ids.now
-
-  live : live_id column outer.before.args.top outer.search.id.0 ≡ true
-  live = live_yes column _ _ inner.loop.k c.before.before.before.before.loop-test.true (eq-eqb _ _ (c.before.if1.true ∙ ap (λ (i : ProxyId). i.0 + 1) inner.loop.inv.1))
-
-  on : Walk column outer.before.args.top outer.before.args.cursor.0 c.next.result.0 × (gap every-id outer.before.args.cursor.0 c.next.result.0 ≡ gap every-id outer.before.args.cursor.0 outer.search.id.0 + 1)
-  on = walk_on column _ _ outer.before.pre outer.search.inv live (c.next.ensures ∙ ap (λ (i : ProxyId). turn every-id (i.0 + 1)) inner.loop.inv.1)
-
 -- an id that a place holds is live, and the walk goes one on
+live : (c : After-next-id) → live_id c.args.ids.now c.args.top c.search.id.0 ≡ true
+live c = live_yes c.args.ids.now _ _ c.loop-k.k c.loop-k-test.true (eq-eqb _ _ (c.if-ids-k.true ∙ ap (λ (i : ProxyId). i.0 + 1) c.loop-k.invariant.1))
+
+on : (c : After-next-id)
+    → Walk c.args.ids.now c.args.top c.args.cursor.0 c.next-id.result.0 × (gap every-id c.args.cursor.0 c.next-id.result.0 ≡ gap every-id c.args.cursor.0 c.search.id.0 + 1)
+on c = walk_on c.args.ids.now _ _ c.requires c.search.invariant (live c) (c.next-id.ensures ∙ ap (λ (i : ProxyId). turn every-id (i.0 + 1)) c.loop-k.invariant.1)
+
 pub search-smaller : goal.search-smaller
-search-smaller c = let o = outer c in omega (arith, (on c).1, walk_nearer (column c) _ _ o.before.pre o.search.inv (live c))
+search-smaller c = omega (arith, (on c).1, walk_nearer c.args.ids.now _ _ c.requires c.search.invariant (live c))
 
 pub search-preserved : goal.search-preserved
 search-preserved c = (on c).0

@@ -9,6 +9,7 @@ use Rattle.laws.proofs.SpanLaws.{span_more}
 use Rattle.table.specs.inner.Places.{is_taken, is_sooner}
 use Rattle.finding.proofs.ScanLaws.{live_id_lem, place-later, place_higher, place-sooner}
 use Rattle.finding.proofs.next_sooner.Goals as goal
+use Rattle.finding.proofs.next_sooner.Goals.{After-is_sooner}
 
 pub overflow_sub-highest : goal.overflow_sub-highest
 overflow_sub-highest c = let a = c.args in live_id_lem a.ids.now a.deadlines.now a.found c.requires.2
@@ -27,19 +28,21 @@ loop-k-init c =
     )
 
 -- what the test says of the place
-told : (c : tie.After-is-sooner invariant-loop decreases-loop)
-    → let a = c.before.before.before.before.before.before.before.args in
-    (is_taken a.ids.now c.before.before.loop.k && is_sooner a.ids.now a.deadlines.now c.before.before.loop.k a.found) ≡ c.is_sooner_lem.result
+told : (c : After-is_sooner)
+    → let a = c.args in
+    (is_taken a.ids.now c.loop-k.k && is_sooner a.ids.now a.deadlines.now c.loop-k.k a.found) ≡ c.is_sooner.result
 told c =
-    let s = c.before.before.before.before.before.before.before in
-    let a = s.args in
-    place-sooner a.ids.now a.deadlines.now a.found s.requires.2 c.before.before.loop.k c.is_sooner_lem.ensures
+    let a = c.args in
+    place-sooner a.ids.now a.deadlines.now a.found c.requires.2 c.loop-k.k c.is_sooner.ensures
 
 pub returns-then-is_sooner : goal.returns-then-is_sooner
-returns-then-is_sooner c = let i = c.loop-k.invariant in (i.0, i.1, i.2, λ h. told c ∙ c.if-is_sooner.true)
+returns-then-is_sooner c =
+    let i = c.loop-k.invariant in
+    (i.0, i.1, i.2, λ h. told (goal.at.returns-then-is_sooner c).After-is_sooner ∙ c.if-is_sooner.true)
 
 pub loop-k-preserved : goal.loop-k-preserved
-loop-k-preserved c = (omega arith, omega arith, span_more _ _ _ c.loop-k.invariant.2 (told c ∙ c.if-is_sooner.false))
+loop-k-preserved c =
+    (omega arith, omega arith, span_more _ _ _ c.loop-k.invariant.2 (told (goal.at.loop-k-preserved c).After-is_sooner ∙ c.if-is_sooner.false))
 
 pub returns : goal.returns
 returns c = let i = c.loop-k.invariant in (i.0, i.1, i.2, λ h. absurd (omega arith))

@@ -2,10 +2,10 @@
 use Prim.Native.Nat.{◌-◌}
 use mathlib.Core.Path.{sym, ◌∙◌}
 use mathlib.Core.Bool.{false}
-use mathlib.Core.Logic.{⊎_elim}
 use native.Mathlib.Omega.{arith}
 use Rattle.finding.proofs.ScanLaws.{scan_starts, scan_low, scan_takes, scan_passes, scan_ends, first-takes, first_passes, free-below}
 use Rattle.finding.proofs.open_and_free.Goals as goal
+use Rattle.finding.proofs.open_and_free.Goals.{then-is_lowest_open, else-is_lowest_open, then-ids-k, else-ids-k}
 
 pub loop-k-init : goal.loop-k-init
 loop-k-init c = (scan_starts, scan_starts)
@@ -18,14 +18,14 @@ pub loop-k-preserved : goal.loop-k-preserved
 loop-k-preserved c =
     let below = c.loop-k-test.true in
     let won = sym c.is_lowest_open.ensures in (
-      ⊎_elim
-          (λ w. scan_takes c.loop-k.invariant.0 below (won ∙ w.0.taken) w.1)
-          (λ w. scan_passes c.loop-k.invariant.0 below (won ∙ w.0.left) w.1)
-          c.if-is_lowest_open.branch,
-      ⊎_elim
-          (λ w. first-takes c.loop-k.invariant.1 below w.0.taken w.1)
-          (λ w. first_passes c.loop-k.invariant.1 below w.0.left w.1)
-          c.if-ids-k.branch,
+      elim c.if-is_lowest_open.branch [
+        then-is_lowest_open w ↦ scan_takes c.loop-k.invariant.0 below (won ∙ w.if-is_lowest_open.true) w.open-is
+        | else-is_lowest_open w ↦ scan_passes c.loop-k.invariant.0 below (won ∙ w.if-is_lowest_open.false) w.open-is
+      ],
+      elim c.if-ids-k.branch [
+        then-ids-k w ↦ first-takes c.loop-k.invariant.1 below w.if-ids-k.true w.free-is
+        | else-ids-k w ↦ first_passes c.loop-k.invariant.1 below w.if-ids-k.false w.free-is
+      ],
     )
 
 pub returns : goal.returns

@@ -1,4 +1,4 @@
--- `reply_by_value::replied` meets its contract: what the core does over the columns that it is lent it does to the columns that have them. Written by tools/fields.py from Proof.antt.in.
+-- `reply_by_value::replied` meets its contract: what the core does over the columns that it is lent it does to the columns that have them.
 use Rattle.state_by_value.specs.Fields.{columned}
 use Rattle.reply_by_value.proofs.replied.Goals as goal
 

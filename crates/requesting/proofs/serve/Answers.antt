@@ -21,7 +21,12 @@ returns-then-place-lt-CACHE_PLACES c =
     hit_there c.args.time c.word_asked-word.ensures c.requires.sound_table c.requires.settled.1 c.hit_place-place.ensures c.args.client c.args.out.now c.if-place-lt-CACHE_PLACES.true c.show_cached.ensures
 
 pub miss-requires : goal.miss-requires
-miss-requires c = (c.requires.sound_table, (c.requires.settled.0, (c.requires.admitted, (c.word_asked-word.ensures, c.requires.settled.1.bounded))))
+miss-requires c = record {
+  sound_table = c.requires.sound_table;
+  settled = c.requires.settled.0;
+  admitted = c.requires.admitted;
+  asks = (c.word_asked-word.ensures, c.requires.settled.1.bounded);
+}
 
 pub returns : goal.returns
 returns c =

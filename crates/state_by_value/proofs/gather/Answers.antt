@@ -16,7 +16,7 @@ pub loop-k-preserved : goal.loop-k-preserved
 loop-k-preserved c =
     let l = c.loop-k in
     let inside : l.k < places = search rules in
-    let e = get_d_tab places (row_at c.args.t1) l.k (place_of 0 0 0 0 0) inside in
+    let e = get_d_tab places (row_at c.args.c) l.k (place_of 0 0 0 0 0) inside in
     (search rules, filled_more places (place_of 0 0 0 0 0) _ l.entries l.k _ inside l.invariant.1 (rw e c.place_of.ensures))
 
 pub returns : goal.returns

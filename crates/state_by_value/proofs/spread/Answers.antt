@@ -6,15 +6,12 @@ use native.Mathlib.Omega.{arith}
 use lib.ListN.{length, get_or, set, length-map}
 use Rattle.numbers.specs.Numbers.{places}
 use Rattle.laws.proofs.ListLaws.{get_d_map}
-use Rattle.laws.proofs.FillLaws.{Filled, filled_none, filled_more, filled_all}
+use Rattle.laws.proofs.FillLaws.{filled_none, filled_more, filled_all}
 use Rattle.state_by_value.specs.Places.{number_of, word_in, caller_of, deadline_of, count_of}
 use Rattle.state_by_value.specs.declared.Place.{Place}
 use borrow.Author.Rules.{rules}
+use Rattle.state_by_value.proofs.spread.Invariants.{Column}
 use Rattle.state_by_value.proofs.spread.Goals as goal
-
--- a column of which the first k places are the numbers f of the entries
-abbrev Column : List Place → (Place → ℕ) → List ℕ → ℕ → Type 0
-Column es f = Filled places 0 (map f es)
 
 module _ (es : List Place) (long : length es ≡ places) (f : Place → ℕ) {l : List ℕ} {k : ℕ} where
   -- a turn of the loop

@@ -1,5 +1,4 @@
 -- `stream::fill` meets its contract. The loop's invariant: the first i bytes of the piece are pasted behind the bytes kept.
-use Prim.Native.Nat.{◌-◌}
 use mathlib.Core.Path.{◌≡◌}
 use native.Mathlib.Omega.{arith}
 use lib.ListN.{length-set}

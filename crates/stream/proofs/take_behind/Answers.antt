@@ -24,7 +24,7 @@ frame-stands c = sym c.standing.ensures ∙ c.in-Frame.is
 frame-known : (c : After-first_frame-frame)
     → ((c.args.count.now ≤ length c.first_frame-frame.result.now) × (length c.first_frame-frame.result.now ≤ most_frame) × (frame_buffer ≤ length c.args.out.now))
 frame-known c =
-    let h = ready c in
+    let h : Ready c.args.bytes.now c.args.count.now c.args.mark.now c.args.piece.now c.args.out.now c.fill-end.result c.fill-end.new.bytes = record { made = c.requires.0; long = c.requires.1; none = c.requires.2; filled = c.fill-end.ensures } in
     let l = frame-long h (frame-stands c) in
     (rw c.first_frame-frame.ensures l.0, rw c.first_frame-frame.ensures l.1, h.long)
 

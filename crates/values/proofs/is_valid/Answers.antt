@@ -1,19 +1,17 @@
 -- `values::is_valid` meets its contract: the loop over the tags decides what the definition says of the value.
-use borrow.Author.Tests.{not-true, not-false}
 use native.Mathlib.Omega.{arith}
-use Prim.Native.Nat.{◌-◌}
 use Rattle.settings.specs.Values.{settings}
 use Rattle.settings.proofs.ValueLaws.{checked_none, checked_more, refused, few, checked_all}
 use borrow.Author.Rules.{rules}
 use Rattle.values.proofs.is_valid.Goals as goal
 
 pub returns-then-not-head_right : goal.returns-then-not-head_right
-returns-then-not-head_right c = refused _ c.head_right.ensures (not-true _ c.if-not-head_right.true)
+returns-then-not-head_right c = refused _ c.head_right.ensures c.if-not-head_right.true
 
 pub loop-k-init : goal.loop-k-init
 loop-k-init c =
     let a = c.args in
-    (search rules, few (settings a.timeout a.join a.tags a.addr.now a.width.now a.sign.now a.ttl.now a.strict.now) c.head_right.ensures (not-false _ c.if-not-head_right.false), checked_none _)
+    (search rules, few (settings a.timeout a.join a.tags a.addr.now a.width.now a.sign.now a.ttl.now a.strict.now) c.head_right.ensures c.if-not-head_right.false, checked_none _)
 
 pub loop-k-preserved : goal.loop-k-preserved
 loop-k-preserved c =
@@ -22,4 +20,4 @@ loop-k-preserved c =
 
 pub returns : goal.returns
 returns c =
-    checked_all _ c.head_right.ensures (not-false _ c.if-not-head_right.false) (omega arith) c.loop-k.invariant.2
+    checked_all _ c.head_right.ensures c.if-not-head_right.false (omega arith) c.loop-k.invariant.2

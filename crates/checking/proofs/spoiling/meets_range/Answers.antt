@@ -1,4 +1,5 @@
 -- `checking::spoiling::meets_range` meets its contract: each arm knows what is asked.
+use Rattle.std.proofs.Common.{rules}
 use Rattle.pdu.specs.Spoiling.{meets}
 use Rattle.checking.proofs.spoiling.meets_range.Goals as goal
 
@@ -17,3 +18,11 @@ returns-in-MaskWrite c = rw (c.in-MaskWrite.is, c.is_same-in-MaskWrite.ensures, 
 pub returns-in-ReadWrite : goal.returns-in-ReadWrite
 unfolding meets
 returns-in-ReadWrite c = rw (c.in-ReadWrite.is, c.is_same-in-ReadWrite.ensures, c.overlap-in-ReadWrite.ensures)
+
+pub returns-in-Read : goal.returns-in-Read
+unfolding meets
+returns-in-Read c = search rules
+
+pub returns-in-Other : goal.returns-in-Other
+unfolding meets
+returns-in-Other c = search rules

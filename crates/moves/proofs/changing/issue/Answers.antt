@@ -8,4 +8,5 @@ pub returns : goal.returns
 returns c =
     let a = c.args in
     let m = columns a.ids.now a.asked.now a.callers.now a.deadlines.now a.counts.now a.clients.now a.originals.now a.top.now in
-    rw c.raised.ensures (issued m c.requires.sound_table a.place a.id.0 a.word a.deadline a.client a.original.0 c.requires.place_lt_places.0 (omega arith) c.requires.proper)
+    let is = issued m c.requires.sound_table a.place a.id.0 a.word a.deadline a.client a.original.0 (omega arith) (omega arith) c.requires.proper in
+    record { top_after = rw c.raised.ensures is.0; sound_table_2 = rw c.raised.ensures is.1 }

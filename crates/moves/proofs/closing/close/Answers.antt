@@ -1,9 +1,8 @@
 -- `moves::closing::close` meets its contract: a read closes nothing, and any other request what it meets.
 use mathlib.Core.Path.{ap, sym, ◌∙◌}
-use borrow.Author.Tests.{not-false}
 use Rattle.pdu.specs.Reads.{is_read}
 use Rattle.table.proofs.ClosingLaws.{closed_read, closed_all}
 use Rattle.moves.proofs.closing.close.Goals as goal
 
 pub returns-else-not-is_read : goal.returns-else-not-is_read
-returns-else-not-is_read c word unit what = closed_all _ _ _ _ _ (closed_read _ _ _ _ (ap is_read what ∙ sym c.is_read.ensures ∙ not-false _ c.if-not-is_read.false))
+returns-else-not-is_read c = λ word unit what. closed_all _ _ _ _ _ (closed_read _ _ _ _ (ap is_read what ∙ sym c.is_read.ensures ∙ c.if-not-is_read.false))

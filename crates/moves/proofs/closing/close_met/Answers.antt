@@ -16,7 +16,7 @@ loop-k-preserved c = (
 )
 
 pub returns : goal.returns
-returns c word unit what =
+returns c = λ word unit what.
     let l = c.loop-k in
     let e : l.k ≡ c.args.top = omega arith in
     closed_all _ _ _ _ _ (rw e at (l.invariant.1 word unit what))

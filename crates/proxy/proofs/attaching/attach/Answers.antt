@@ -6,14 +6,14 @@ use Rattle.proxy.proofs.AttachLaws.{attach_above, attach_again, attach_new}
 use Rattle.proxy.proofs.attaching.attach.Goals as goal
 
 pub returns-then-client-ge-CLIENTS : goal.returns-then-client-ge-CLIENTS
-returns-then-client-ge-CLIENTS c s sounds = attach_above _ sounds c.args.client c.if-client-ge-CLIENTS.true
+returns-then-client-ge-CLIENTS c = λ s sounds. attach_above _ sounds c.args.client c.if-client-ge-CLIENTS.true
 
 pub returns-then-is_member : goal.returns-then-is_member
-returns-then-is_member c s sounds =
+returns-then-is_member c = λ s sounds.
     attach_again _ sounds c.args.client c.if-client-ge-CLIENTS.false (sym c.is_member.ensures ∙ c.if-is_member.true)
 
 pub returns : goal.returns
-returns c s sounds =
+returns c = λ s sounds.
     let a = c.args in
     let h = c.if-client-ge-CLIENTS.false in
     rw (one_shl clients a.client h, or_with a.attached.now a.client)

@@ -7,7 +7,7 @@ use Rattle.proxy.proofs.AttachLaws.{no_stranger, detach_stranger, detach_known}
 use Rattle.proxy.proofs.attaching.detach.Goals as goal
 
 pub returns-then-is_stranger : goal.returns-then-is_stranger
-returns-then-is_stranger c s sounds = detach_stranger _ sounds c.args.client (sym c.is_stranger.ensures ∙ c.if-is_stranger.true)
+returns-then-is_stranger c = λ s sounds. detach_stranger _ sounds c.args.client (sym c.is_stranger.ensures ∙ c.if-is_stranger.true)
 
 pub overflow_cast-client : goal.overflow_cast-client
 overflow_cast-client c =
@@ -20,7 +20,7 @@ overflow_shl-attached c =
     no_stranger _ _ (sym c.is_stranger.ensures ∙ c.if-is_stranger.false)
 
 pub returns : goal.returns
-returns c s sounds =
+returns c = λ s sounds.
     let a = c.args in
     let known = sym c.is_stranger.ensures ∙ c.if-is_stranger.false in
     let h = no_stranger a.attached.now a.client known in

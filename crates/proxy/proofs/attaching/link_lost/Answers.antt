@@ -3,4 +3,4 @@ use Rattle.proxy.proofs.AttachLaws.{lost}
 use Rattle.proxy.proofs.attaching.link_lost.Goals as goal
 
 pub returns : goal.returns
-returns c s sounds = lost _ sounds _ (c.empty.ensures s.shown sounds.cache.bytes)
+returns c = λ s sounds. lost _ sounds _ (c.empty.ensures s.shown sounds.cache.bytes)

@@ -7,4 +7,6 @@ pub fill_words-requires : goal.fill_words-requires
 fill_words-requires c = let v = (settings_valid_exactly _).0 c.requires in record { tags_le_most_tags = v.few; by_index = v.each }
 
 pub returns : goal.returns
-returns c = kept_settings_lem _ _ c.requires c.fill_words.ensures
+returns c =
+    let k = kept_settings_lem _ _ c.requires c.fill_words.ensures in
+    record { tag_words_after = k.0; settled = k.1 }

@@ -1,5 +1,4 @@
 -- `settingstext::reading::begins` meets its contract: so many bytes of the key stand in the text. The measure is what is left of the key.
-use Prim.Native.Nat.{◌-◌}
 use Rattle.settingstext.proofs.PlaceLaws.{begun_none, begun_all, begun_short, begun_other, begun_more}
 use Rattle.settingstext.proofs.reading.begins.Goals as goal
 

@@ -1,5 +1,4 @@
 -- `settingstext::reading::number_at` meets its contract: the digits so far are a number. The measure is what is left of the text.
-use Prim.Native.Nat.{◌-◌}
 use Rattle.settingstext.proofs.PlaceLaws.{counted_none, counted_end, counted-done, counted_asks, counted_wrong, counted_more, refused}
 use Rattle.settingstext.proofs.reading.number_at.Goals as goal
 

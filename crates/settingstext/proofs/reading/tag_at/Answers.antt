@@ -1,7 +1,6 @@
 -- `settingstext::reading::tag_at` meets its contract: each answer of its lines is one of the outcomes of reading a tag.
 use mathlib.Core.Path.{sym, ◌∙◌}
 use native.Mathlib.Omega.{arith}
-use borrow.Author.Tests.{not-true, not-false}
 use Rattle.settingstext.proofs.AnswerLaws.{placed_inside, placed_most, sign_small, later_inside, tag_unaddressed, tag_unwidthed, tag_unfit, tag-unsigned, tag_untimed, tag_unmarked, tag_fit}
 use Rattle.settingstext.proofs.reading.tag_at.Goals as goal
 
@@ -22,7 +21,7 @@ overflow_add-address c = omega (arith, placed_most _ _ _ _ _ _ (sym c.in-Numbere
 pub returns-then-not-width-address : goal.returns-then-not-width-address
 returns-then-not-width-address c prior low =
     let p = c.requires in
-    tag_unfit _ _ _ _ p.0 prior low _ _ (sym c.in-Numbered.is ∙ c.line_at.ensures) _ _ (sym c.in-Numbered-line_at.is ∙ c.line_at-2.ensures) _ p.1 (not-true _ c.if-not-width-address.true)
+    tag_unfit _ _ _ _ p.0 prior low _ _ (sym c.in-Numbered.is ∙ c.line_at.ensures) _ _ (sym c.in-Numbered-line_at.is ∙ c.line_at-2.ensures) _ p.1 c.if-not-width-address.true
 
 -- `one` to `four` below: the points behind so many lines that were read; `fit`: behind the test of the width
 pub later_at-requires : goal.later_at-requires
@@ -32,7 +31,7 @@ later_at-requires c =
 pub returns-in_default-later_at : goal.returns-in_default-later_at
 returns-in_default-later_at c prior low =
     let p = c.requires in
-    tag-unsigned _ _ _ _ p.0 prior low _ _ (sym c.in-Numbered.is ∙ c.line_at.ensures) _ _ (sym c.in-Numbered-line_at.is ∙ c.line_at-2.ensures) (not-false _ c.if-not-width-address.false) _ p.1
+    tag-unsigned _ _ _ _ p.0 prior low _ _ (sym c.in-Numbered.is ∙ c.line_at.ensures) _ _ (sym c.in-Numbered-line_at.is ∙ c.line_at-2.ensures) c.if-not-width-address.false _ p.1
     (sym c.in_default-later_at.is ∙ rw c.most_sign-most.ensures at c.later_at.ensures)
 
 pub later_at-requires-2 : goal.later_at-requires-2
@@ -42,7 +41,7 @@ later_at-requires-2 c =
 pub returns-in_default-later_at-2 : goal.returns-in_default-later_at-2
 returns-in_default-later_at-2 c prior low =
     let p = c.requires in
-    tag_untimed _ _ _ _ p.0 prior low _ _ (sym c.in-Numbered.is ∙ c.line_at.ensures) _ _ (sym c.in-Numbered-line_at.is ∙ c.line_at-2.ensures) (not-false _ c.if-not-width-address.false) _ _ _ p.1 (sym c.in-Numbered-later_at.is ∙ rw c.most_sign-most.ensures at c.later_at.ensures)
+    tag_untimed _ _ _ _ p.0 prior low _ _ (sym c.in-Numbered.is ∙ c.line_at.ensures) _ _ (sym c.in-Numbered-line_at.is ∙ c.line_at-2.ensures) c.if-not-width-address.false _ _ _ p.1 (sym c.in-Numbered-later_at.is ∙ rw c.most_sign-most.ensures at c.later_at.ensures)
     (sym c.in_default-later_at-2.is ∙ c.later_at-2.ensures)
 
 pub later_at-requires-3 : goal.later_at-requires-3
@@ -52,10 +51,10 @@ later_at-requires-3 c =
 pub returns-in_default-later_at-3 : goal.returns-in_default-later_at-3
 returns-in_default-later_at-3 c prior low =
     let p = c.requires in
-    tag_unmarked _ _ _ _ p.0 prior low _ _ (sym c.in-Numbered.is ∙ c.line_at.ensures) _ _ (sym c.in-Numbered-line_at.is ∙ c.line_at-2.ensures) (not-false _ c.if-not-width-address.false) _ _ _ _ _ p.1 (sym c.in-Numbered-later_at.is ∙ rw c.most_sign-most.ensures at c.later_at.ensures) (sym c.in-Numbered-later_at-2.is ∙ c.later_at-2.ensures)
+    tag_unmarked _ _ _ _ p.0 prior low _ _ (sym c.in-Numbered.is ∙ c.line_at.ensures) _ _ (sym c.in-Numbered-line_at.is ∙ c.line_at-2.ensures) c.if-not-width-address.false _ _ _ _ _ p.1 (sym c.in-Numbered-later_at.is ∙ rw c.most_sign-most.ensures at c.later_at.ensures) (sym c.in-Numbered-later_at-2.is ∙ c.later_at-2.ensures)
     (sym c.in_default-later_at-3.is ∙ c.later_at-3.ensures)
 
 pub returns : goal.returns
 returns c prior low =
     let p = c.requires in
-    tag_fit _ _ _ _ p.0 prior low _ _ (sym c.in-Numbered.is ∙ c.line_at.ensures) _ _ (sym c.in-Numbered-line_at.is ∙ c.line_at-2.ensures) (not-false _ c.if-not-width-address.false) _ _ _ _ _ _ _ p.1 (sym c.in-Numbered-later_at.is ∙ rw c.most_sign-most.ensures at c.later_at.ensures) (sym c.in-Numbered-later_at-2.is ∙ c.later_at-2.ensures) (sym c.in-Numbered-later_at-3.is ∙ c.later_at-3.ensures)
+    tag_fit _ _ _ _ p.0 prior low _ _ (sym c.in-Numbered.is ∙ c.line_at.ensures) _ _ (sym c.in-Numbered-line_at.is ∙ c.line_at-2.ensures) c.if-not-width-address.false _ _ _ _ _ _ _ p.1 (sym c.in-Numbered-later_at.is ∙ rw c.most_sign-most.ensures at c.later_at.ensures) (sym c.in-Numbered-later_at-2.is ∙ c.later_at-2.ensures) (sym c.in-Numbered-later_at-3.is ∙ c.later_at-3.ensures)

@@ -1,5 +1,4 @@
 -- `settingstext::writing::text_length` meets its contract: the loop over the tags adds up the text's length.
-use Prim.Native.Nat.{◌-◌}
 use native.Mathlib.Omega.{arith}
 use Rattle.settingstext.proofs.WritingLaws.{measured_none, measured_more, measured_all}
 use Rattle.settingstext.proofs.writing.text_length.Goals as goal

@@ -1,6 +1,5 @@
 -- `settingstext::writing::write_bytes` meets its contract: the bytes at their places, the rest as it was.
 use native.Mathlib.Omega.{arith}
-use Prim.Native.Nat.{◌-◌}
 use Rattle.settingstext.proofs.WritingLaws.{copied_none, copied_more, copied_all}
 use Rattle.settingstext.proofs.writing.write_bytes.Goals as goal
 

@@ -1,5 +1,4 @@
 -- `settingstext::writing::write_tags` meets its contract: the lines of all tags, one tag a turn.
-use Prim.Native.Nat.{◌-◌}
 use native.Mathlib.Omega.{arith}
 use Rattle.settingstext.proofs.WritingLaws.{written_none, written_more, written_all, tag-room}
 use borrow.Author.Rules.{rules}
