@@ -4,7 +4,10 @@ ghost use Rattle.parts.specs.Texts.{end_of, head_of, rest_of, field_of, longer a
 
 use std::num::wrapping_add_u64;
 
+pub mod digits;
 pub mod hex;
+pub mod input;
+pub mod output;
 pub mod saying;
 pub mod tally;
 
