@@ -1,64 +1,42 @@
 #!/usr/bin/env python3
-"""facts.py: writes into the first line of each wrong program where the check refuses it, from the logs that `rt ci`, `rt must-fail` or `tools/trials` left:
-the promise or the law whose proof breaks first, and the others that break by themselves and not because they rest on one that broke.
-Run it at the top of the repository. An edit without a log keeps its line. The trials of a crate are sorted by name."""
+"""facts.py LOG...: writes into the first line of each wrong program where the check refuses it, from the logs that `rt ci`, `rt must-fail` or `tools/trials` printed:
+the promise or the law whose proof breaks first. Run it at the top of the repository. A wrong program that no log names, or whose refusal names no fact, keeps its line. The trials of a crate are sorted by name."""
 import os
 import re
+import sys
 
 import edits
 
-# `tools/trials` tries an edit of the gate, too, if it is told its name
-GATE, TRIALS = 'target/must-fail', 'target/trials/target/must-fail'
-MOST = 10
+SAID = re.compile(r'must-fail (\w+)/([\w-]+)\.edit: refused, as it must be: (?:note: )?(?:\./)?(specs|proofs)/(\S+?)\.antt:\d+:\d+: error: `([^`]+)`', re.M)
 
 
-def facts(log):
-    """What the errors of a log are at, in their order: the first with its file, the others by name."""
-    first, others = None, []
-    for line in log.split('\n'):
-        found = re.match(r"(?:note: )?\S*?/(src|specs|proofs)/(\S+?):\d+:\d+: (error: )?(?:`([^`]+)`)?", line)
-        if not found or not (found.group(3) or line.startswith('note: ')):
-            continue
-        # a proof that waits for another function's: the fact is that function's
-        if 'was not admitted' in line:
-            continue
-        part, path, _, name = found.groups()
-        if first is not None:
-            if name and name not in others and name not in first and part != 'src' and 'has no ' not in line:
-                others.append(name)
-        elif part == 'proofs' and path.endswith('/Proof.antt'):
-            first = f'the promise of `{path.split("/")[-2]}`, at `{name}` of its proof'
-        elif part != 'src':
-            first = f'`{name}` of {part}/{path}'
-        else:
-            missed = re.search(r'^fn (\S+): no proof.* does not close (.*)$', log, re.M)
-            if missed:
-                first = f'the promise of `{missed.group(1).split("::")[-1]}`, at {missed.group(2)}'
-    return first, others
+def fact(part, path, name):
+    """What breaks, as a first line says it: a goal of a function's proof, or a law of a file."""
+    *above, file = path.split('/')
+    if file in ('Answers', 'Invariants'):
+        return f'the promise of `{above[-1]}`, at `{name}` of its proof'
+    return f'`{name}` of {part}/{path}.antt'
 
 
-def with_fact(text, crate, name, folders):
-    """The text of an edit with its first line from the last log of it."""
-    logs = [p for p in (f'{folder}/{crate}/{name}/.log' for folder in folders) if os.path.exists(p)]
-    if not logs:
-        return text
-    first, others = facts(open(max(logs, key=os.path.getmtime)).read())
-    if first is None:
-        print(f'{crate}/{name}: no fact found')
-        return text
-    also = '; also by ' + ', '.join(f'`{x}`' for x in others[:MOST]) if others else ''
-    also += ' and others' if len(others) > MOST else ''
+def with_fact(text, first):
     lines = text.split('\n')
-    if lines[0].startswith(edits.FIRST):
-        lines = lines[1:]
-    return '\n'.join([f'{edits.FIRST} {first}{also}.'] + lines)
+    # what is said already, with further goals behind it, stays
+    if lines[0].startswith(f'{edits.FIRST} {first}'):
+        return text
+    return '\n'.join([f'{edits.FIRST} {first}.'] + lines[lines[0].startswith(edits.FIRST):])
 
 
+found = {}
+for log in sys.argv[1:]:
+    for crate, name, part, path, goal in SAID.findall(open(log).read()):
+        found[crate, name] = fact(part, path, goal)
 for crate in sorted(os.listdir('crates')):
     for name, text in edits.gate_edits_of(crate).items():
-        now = with_fact(text, crate, name, (GATE, TRIALS))
+        now = with_fact(text, found[crate, name]) if (crate, name) in found else text
         if now != text:
             with open(f'crates/{crate}/must-fail/{name}.edit', 'w') as file:
                 file.write(now)
-for crate in edits.crates_with_trials():
-    edits.write_trials(crate, {name: with_fact(text, crate, name, (TRIALS,)) for name, text in edits.trials_of(crate).items()})
+    trials = edits.trials_of(crate)
+    now = {name: with_fact(text, found[crate, name]) if (crate, name) in found else text for name, text in trials.items()}
+    if now != trials:
+        edits.write_trials(crate, now)
