@@ -3,6 +3,8 @@
 // A row of a table is a name, a call, and what comes of it, each ended by '|', and the row by LF. A row with no name belongs to the one above it.
 // A line with nothing in it and one that begins with '#' are passed over.
 // The calls: see naming.rt of scripts. What comes of them: see telling.rt there.
+#![tactic(auto)]
+
 ghost use Rattle.state_by_value.specs.States.{MadeState};
 
 use parts::input::read_full;

@@ -1,4 +1,4 @@
-// What comes output is said piece by piece: each is printed, and held against what must stand at its place. A place is that of the next piece.
+// What comes out is said piece by piece: each is printed, and held against what must stand at its place. A place is that of the next piece.
 ghost use Rattle.std.specs.Prelude.{◌≡◌, ◌+◌, min, max};
 ghost use Rattle.parts.specs.Said.{lost, said, numeral, marked, formed};
 

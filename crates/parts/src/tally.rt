@@ -6,7 +6,7 @@ use crate::digits::decimal;
 use crate::output::Output;
 use std::num::wrapping_add_u64;
 
-// How many examples were shown, and how many of them came output otherwise than is said beside them.
+// How many examples were shown, and how many of them came out otherwise than is said beside them.
 #[derive(Clone, Copy)]
 pub struct Tally {
     pub shown: u64,

@@ -1,4 +1,6 @@
 // Document 01's examples of requests and replies, and MAP's own, as whole frames, each with what it must give beside it: the table is in the file stdin.
+#![tactic(auto)]
+
 mod driving;
 mod showing;
 

@@ -2,6 +2,8 @@
 // Its first line is the pieces that the rows name, each ended by '|'. A row is the wrong line, a blank, and the text as it is spelled: ';' is LF, '^' CR,
 // '~' tab, '_' a blank, '$' NUL, and '@1' to '@9' and '@A' to '@K' the pieces. Behind a '|' stands the text that is written of the value, where it is another.
 // In place of a line's number, v has the value looked at, s the same with a sign at its first tag, t that with a ttl of 500 there and of 60000 at the second, and m that with the first tag strict.
+#![tactic(auto)]
+
 mod spelling;
 mod texts;
 

@@ -1,5 +1,5 @@
 -- `parts::saying::say_form` meets its contract. The loop's invariant: what is left of the form, said at the place, is said in all.
-use Rattle.std.proofs.Common.{◌-◌, arith}
+use Rattle.std.proofs.Common.{arith}
 use Rattle.parts.specs.Said.{formed}
 use Rattle.parts.proofs.SaidLaws.{saying_none, saying_more, saying_all, formed_more, formed-none}
 use Rattle.parts.proofs.saying.say_form.Goals as goal

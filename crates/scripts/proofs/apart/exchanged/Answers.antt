@@ -1,5 +1,5 @@
 -- `scripts::apart::exchanged` meets its contract: the loop fills the text byte by byte. Its invariant: the first k bytes are those of the text with one byte in place of another.
-use Prim.Native.Nat.{◌<◌, ◌-◌}
+use Prim.Native.Nat.{◌<◌}
 use mathlib.Core.Path.{refl, sym, ◌∙◌}
 use native.Mathlib.Omega.{arith}
 use Rattle.laws.proofs.ListLaws.{length-tab}
@@ -21,8 +21,8 @@ loop-k-preserved c =
       omega arith,
       filled_more 512 0 _ l.text l.k c.if-byte-from.text inside l.invariant.1
           (elim c.if-byte-from.branch [
-            then-byte-from w ↦ w.text-is ∙ sym (exchanged_there a.bytes.now a.from a.to l.k inside e w.if-byte-from.true)
-          | else-byte-from w ↦ w.text-is ∙ sym (exchanged_other a.bytes.now a.from a.to l.k inside e w.if-byte-from.false)
+            | then-byte-from w ↦ w.text-is ∙ sym (exchanged_there a.bytes.now a.from a.to l.k inside e w.if-byte-from.true)
+            | else-byte-from w ↦ w.text-is ∙ sym (exchanged_other a.bytes.now a.from a.to l.k inside e w.if-byte-from.false)
           ]),
     )
 
