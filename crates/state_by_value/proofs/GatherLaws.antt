@@ -10,7 +10,6 @@ use lib.ListN.{length, get_or, length-map}
 use lib.Dec.{eqb}
 use borrow.Author.Tests.{eqb-false}
 use Rattle.numbers.specs.Numbers.{places}
-use Rattle.laws.specs.Lists.{tab}
 use Rattle.laws.proofs.Choice.{true_or, lt_or}
 use Rattle.laws.proofs.ListLaws.{tab_ext, tab_get_d, map-tab, length-tab, get_d_tab}
 use Rattle.book.specs.Book.{book}

@@ -1,6 +1,6 @@
 -- The columns that a state by value is, and the state by value that columns are.
 -- Assumes nothing.
-use Rattle.std.specs.Prelude.{ℕ, List, map, get_or}
+use Rattle.std.specs.Prelude.{ℕ, map, get_or}
 use Rattle.numbers.specs.Numbers.{places}
 use Rattle.laws.specs.Lists.{tab}
 use Rattle.proxy.specs.State.{State as Columned, lent, SoundState}

@@ -17,7 +17,7 @@ use Rattle.device.specs.Device.{Served, Freshly, Awaited}
 use Rattle.device.proofs.DeviceLaws.{same-device}
 use Rattle.machine.specs.Numbers.{is_done}
 use Rattle.reports.specs.Reports.{is_frame, is_more}
-use Rattle.stream.specs.Stream.{Stream, TakeOutcome, is_done as done_on_a_stream, is_frame as frame_of_a_stream, is_more as more_for_a_stream}
+use Rattle.stream.specs.Stream.{TakeOutcome, is_done as done_on_a_stream, is_frame as frame_of_a_stream, is_more as more_for_a_stream}
 use Rattle.stream.specs.Lent.{stream_of, Takes, Resets}
 use Rattle.stream.specs.declared.LentStream.{LentStream}
 use Rattle.stream.specs.declared.Taken.{Taken}

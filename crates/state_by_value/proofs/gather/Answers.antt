@@ -1,5 +1,5 @@
 -- `state_by_value::gather` meets its contract: the loop fills the entries place by place with what the columns say.
-use Prim.Native.Nat.{◌<◌, ◌-◌}
+use Prim.Native.Nat.{◌<◌}
 use mathlib.Core.Path.{refl}
 use Rattle.numbers.specs.Numbers.{places}
 use Rattle.laws.proofs.ListLaws.{length-tab, get_d_tab}
