@@ -1,4 +1,4 @@
-# demo proves the demonstration program, runs it on its file stdin, holds what it writes to its file stdout and prints that; test is the gate, behind a look whether
+# demo proves the demonstration program, runs it on its file stdin and prints what it writes; test is the gate, which holds that to its file stdout, behind a look whether
 # a written file is stale and a proof of entry points over a struct that holds another one (tests/generate); generate writes what is written from the list of
 # the device's fields (crates/zilborteka/entries.txt).
 # archive proves and compiles the archive for a process; kernel-archive that one and the one for a kernel, from one module.
@@ -21,8 +21,7 @@ AGAINST_MODEL = $(addprefix tests/host/, dice.c lent.c pair.c reached.c model.c)
 export ARCHIVE
 
 demo:
-	rt check demo
-	@cat crates/demo/stdout
+	cd crates/demo && rt run <stdin
 
 test:
 	tools/generate --check
@@ -33,7 +32,7 @@ generate:
 	tools/generate
 
 archive:
-	rt staticlib zilborteka
+	tools/archive
 
 kernel-archive:
 	tools/kernel-archive

@@ -1,37 +1,34 @@
 -- What a reply leaves in the columns of the cache is what the machine keeps of it.
 -- Assumes nothing.
-use Prim.Native.Nat.{ℕ, ◌+◌, ◌≤◌, ◌<◌}
+use Prim.Native.Nat.{ℕ, ◌≤◌}
 use mathlib.Core.Path.{◌≡◌, refl, ap, sym, ◌∙◌}
-use mathlib.Core.Logic.{⊎_elim, ◌⊎◌, inl, inr}
-use mathlib.Core.Bool.{Bool, true, false, cond, not, ◌&&◌, ◌||◌, false≢true}
+use mathlib.Core.Logic.{⊎_elim}
+use mathlib.Core.Bool.{true, false, cond, ◌||◌, false≢true}
 use mathlib.Core.List.{List, [], ◌∷◌}
 use native.Mathlib.Omega.{arith}
-use lib.ListN.{length, get_or, take, drop}
+use lib.ListN.{length, take, drop}
 use lib.Dec.{eqb}
 use lib.Seq.{take_at}
-use borrow.Author.Tests.{eqb-true, ne_eqb, not-true}
+use borrow.Author.Tests.{ne_eqb}
 use Rattle.laws.specs.Bytes.{over}
-use Rattle.laws.proofs.Choice.{true_or, or_either, and_left, and_right, never}
+use Rattle.laws.proofs.Choice.{true_or}
 use Rattle.wire.specs.Frame.{misframed, laid}
 use Rattle.wire.proofs.FrameLaws.{length-laid, laid-framed}
 use Rattle.settings.specs.Grammar.{Tag}
 use Rattle.settings.specs.TagWords.{Ascending}
-use Rattle.pdu.specs.Replies.{What, what, excepts, answering}
-use Rattle.pdu.specs.Words.{word_of, what_of, closed_in, Proper}
-use Rattle.pdu.specs.declared.Table.TheVariants.{Bits, Registers}
+use Rattle.pdu.specs.Replies.{What, excepts, answering}
+use Rattle.pdu.specs.Words.{what_of, closed_in, Proper}
+use Rattle.pdu.specs.declared.Table.TheVariants.{Registers}
 use Rattle.pdu.specs.declared.Asked.{Asked}
-use Rattle.pdu.specs.declared.Asked.TheVariants.{Read, SingleWrite, MultipleWrite, Other}
 use Rattle.pdu.specs.Plain.{sort_of}
 use Rattle.pdu.proofs.SpoilingLaws.{proper_ranges}
 use Rattle.pdu.proofs.RequestLaws.{read_class}
-use Rattle.rewrite.specs.Rewriting.{Rewritten, with_counts}
-use Rattle.rewrite.specs.Frames.{returned, under}
-use Rattle.rewrite.specs.inner.Lent.{tags_of}
+use Rattle.rewrite.specs.Frames.{returned}
 use Rattle.rewrite.proofs.FrameLaws.{length-returned, front_returned, returned-framed, returned_answers, laid_answers}
 use Rattle.cache.specs.Cache.{Cached, Cache, filled_with}
 use Rattle.cache.specs.Life.{cacheable, cacheable_by, life_by, life_of}
 use Rattle.cache.proofs.LifeLaws.{cacheable_reads, cacheable_exactly, life_positive}
-use Rattle.caching.specs.Kept.{cached, cache_of, Word, Key, Fills}
+use Rattle.caching.specs.Kept.{cached, Key, Fills}
 use Rattle.book.specs.Book.{Live}
 use Rattle.machine.specs.Machine.{Machine, Note, settings}
 use Rattle.machine.specs.Replies.{fills, cached_of, cache_after}

@@ -1,6 +1,6 @@
 -- Each outcome of a reply: refused before the table is looked into, unknown, mismatched, answered.
 -- Assumes nothing.
-use Prim.Native.Nat.{ℕ, ◌-◌}
+use Prim.Native.Nat.{ℕ}
 use mathlib.Core.Path.{◌≡◌, ap, sym, ◌∙◌}
 use mathlib.Core.Bool.{true, false}
 use mathlib.Core.Option.{Option, some, none}
@@ -11,7 +11,7 @@ use Rattle.numbers.specs.Numbers.{places}
 use Rattle.laws.specs.Bytes.{over}
 use Rattle.laws.specs.Search.{best}
 use Rattle.wire.specs.Frame.{id_of}
-use Rattle.pdu.specs.Replies.{What, what, answering}
+use Rattle.pdu.specs.Replies.{What, answering}
 use Rattle.pdu.specs.declared.ProxyId.{ProxyId}
 use Rattle.rewrite.specs.Rewriting.{Rewritten, with_counts}
 use Rattle.rewrite.specs.Frames.{returned, under}

@@ -1,6 +1,6 @@
 -- Each outcome of a tick: refused, nothing due, timed out.
 -- Assumes nothing.
-use Prim.Native.Nat.{ℕ, ◌-◌}
+use Prim.Native.Nat.{ℕ}
 use mathlib.Core.Path.{◌≡◌, ap, sym, ◌∙◌}
 use mathlib.Core.Option.{Option, none}
 use mathlib.Core.List.{List}

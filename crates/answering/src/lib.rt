@@ -1,4 +1,6 @@
 // The reply and the tick: an entry of the live table ends, its parties stand in the list, its frame in the buffer; a reply may fill a place of the cache.
+#![tactic(auto)]
+
 ghost use Rattle.std.specs.Prelude.{◌≡◌, true, cond, ℕ, eqb};
 ghost use Rattle.wire.specs.Frame.{laid};
 ghost use Rattle.pdu.specs.Replies.{What, answering};

@@ -1,1 +1,2 @@
 // The cache of replies to reads: definitions and laws alone.
+#![tactic(auto)]

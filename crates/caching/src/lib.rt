@@ -1,4 +1,6 @@
 // The cache in two columns: which place a read hits, which place a reply takes, and a place filled, dropped and shown.
+#![tactic(auto)]
+
 pub mod lives;
 
 ghost use Rattle.std.specs.Prelude.{◌≡◌, true, false, List, ℕ, ◌+◌, ◌*◌, ◌≤◌, ◌<◌, max, length, get_or};

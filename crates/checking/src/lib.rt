@@ -1,4 +1,6 @@
 // The check of a request: what it may ask; what was asked as one word; which live read it spoils; the check of a reply.
+#![tactic(auto)]
+
 pub mod matching;
 pub mod spoiling;
 pub mod words;

@@ -3,13 +3,17 @@
 // A row of a table is a name, a call, and what comes of it, each ended by '|', and the row by LF. A row with no name belongs to the one above it.
 // A line with nothing in it and one that begins with '#' are passed over.
 // The calls: see naming.rt of scripts. What comes of them: see telling.rt there.
+#![tactic(auto)]
+
 ghost use Rattle.state_by_value.specs.States.{MadeState};
 
-use libc::STDIN_FILENO;
+use parts::input::read_full;
+use parts::output::Output;
 use parts::tally::Tally;
 use parts::{before, end_of, field, head, number, rest, tally};
 use running::{Ran, run};
 use state_by_value::State;
+use std::io;
 
 mod running;
 
@@ -30,25 +34,25 @@ fn start(tally: Tally) -> Session
 }
 
 // The calls of a row, the call of which "x62 " before it makes 62; of the last one alone it is said what came of it.
-fn repeat(state: State, right: &[u8], call: &[u8]) -> Ran
+fn repeat(state: State, right: &[u8], call: &[u8], output: &mut Output) -> Ran
     requires { MadeState state }
     ensures { MadeState result.state }
 {
     if wire::byte_at(call, 0) != b'x' {
-        return run(state, right, call);
+        return run(state, right, call, output);
     }
     let times = number(head(call, b' '), 1);
     let once = rest(call, b' ');
     let mut ran = Ran { state, at: 0 };
     let mut k: u64 = 1;
     while k < times {
-        ran = run(ran.state, before(right, 0), once);
+        ran = run(ran.state, before(right, 0), once, output);
         k += 1;
     }
-    run(ran.state, right, once)
+    run(ran.state, right, once, output)
 }
 
-fn row(s: Session, row: &[u8]) -> Session
+fn row(s: Session, row: &[u8], output: &mut Output) -> Session
     requires { MadeState s.state }
     ensures { MadeState result.state }
 {
@@ -57,15 +61,15 @@ fn row(s: Session, row: &[u8]) -> Session
     }
     let call = field(row, b'|', 1);
     let right = field(row, b'|', 2);
-    scripts::print_call(field(row, b'|', 0), call);
-    let ran = repeat(s.state, right, call);
-    let tally = tally::ended(s.tally, right, ran.at);
+    scripts::print_call(field(row, b'|', 0), call, output);
+    let ran = repeat(s.state, right, call, output);
+    let tally = tally::ended(s.tally, right, ran.at, output);
     let state = ran.state;
     Session { state, tally }
 }
 
 // Every row of a table.
-fn play(s: Session, table: &[u8]) -> Session
+fn play(s: Session, table: &[u8], output: &mut Output) -> Session
     requires { MadeState s.state }
     ensures { MadeState result.state }
 {
@@ -73,20 +77,27 @@ fn play(s: Session, table: &[u8]) -> Session
     let mut at: usize = 0;
     while at < table.len() {
         let end = end_of(table, at, b'\n');
-        session = row(session, &table[at..end]);
+        session = row(session, &table[at..end], output);
         at = end + 1;
     }
     session
 }
 
 // Plays the table, and says how many rows there were and how many of them differ.
-fn main() {
+fn main(rt: HostRuntime) -> io::Result<()> {
+    let mut output = Output::new(rt.stdout());
     parts::tally::print_line(
         b"",
         b"a call = its outcome, proxy id, tags raw for partial cover and for value: frame to client,id of each party",
+        &mut output,
     );
-    let mut buffer = io::large_buffer();
-    let size = io::read_full(STDIN_FILENO, &mut buffer);
-    let s = play(start(tally::start(size, &buffer)), before(&buffer, size));
-    tally::print(b"demo: ", s.tally, b" shown, ");
+    let mut buffer = [0u8; 65536];
+    let size = read_full(&mut rt.stdin(), &mut buffer)?;
+    let s = play(
+        start(tally::start(size, &buffer)),
+        before(&buffer, size),
+        &mut output,
+    );
+    tally::print(b"demo: ", s.tally, b" shown, ", &mut output);
+    output.end()
 }

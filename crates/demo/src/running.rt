@@ -2,6 +2,7 @@
 ghost use Rattle.state_by_value.specs.States.{MadeState};
 
 use parts::hex::parse;
+use parts::output::Output;
 use parts::{before, behind, field, head, number, rest};
 use scripts::apart;
 use scripts::naming::{length_in, letter, value_in};
@@ -59,7 +60,7 @@ fn lend(state: State, call: &[u8], frame: &[u8], out: &mut [u8], list: &mut [u16
 }
 
 // A call on the state, in buffers that are filled before it and looked at as a whole behind it.
-fn run_call(state: State, right: &[u8], call: &[u8], bytes: &[u8]) -> Ran
+fn run_call(state: State, right: &[u8], call: &[u8], bytes: &[u8], output: &mut Output) -> Ran
     requires { MadeState state }
     ensures { MadeState result.state }
 {
@@ -71,21 +72,29 @@ fn run_call(state: State, right: &[u8], call: &[u8], bytes: &[u8]) -> Ran
     let r = lend(state, call, before(&frame, size), &mut out, &mut list);
     let state = r.state;
     let answer = r.answer;
-    let at = tell(right, answer, &out, &list);
+    let at = tell(right, answer, &out, &list, output);
     Ran { state, at }
 }
 
 // A call, with what came of it said.
-pub fn run(state: State, right: &[u8], row: &[u8]) -> Ran
+pub fn run(state: State, right: &[u8], row: &[u8], output: &mut Output) -> Ran
     requires { MadeState state }
     ensures { MadeState result.state }
 {
     let call = head(row, b':');
     let bytes = behind(rest(row, b':'), 1);
     if !apart::leaves(call) {
-        return run_call(state, right, call, bytes);
+        return run_call(state, right, call, bytes, output);
     }
     let cursor = state.cursor.0;
-    let at = apart::run(right, call, bytes, cursor, state.clock, state.attached);
+    let at = apart::run(
+        right,
+        call,
+        bytes,
+        cursor,
+        state.clock,
+        state.attached,
+        output,
+    );
     Ran { state, at }
 }

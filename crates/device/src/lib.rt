@@ -1,4 +1,6 @@
 // The device that a host lends, and how the fields of a device are lent to a core. Written by tools/fields.py from lib.rt.in.
+#![tactic(auto)]
+
 ghost use Rattle.std.specs.Prelude.{◌≡◌};
 ghost use Rattle.device.specs.Fields.{state_size};
 

@@ -1,1 +1,2 @@
 // Document 01's examples P1 to P12, held against the definitions.
+#![tactic(auto)]

@@ -1,4 +1,6 @@
 // Searches over the places: they stop at the last live place.
+#![tactic(auto)]
+
 ghost use Rattle.std.specs.Prelude.{◌≡◌, ℕ, ◌+◌, ◌<◌, ◌≤◌, cond, true, false, ◌&&◌, ◌||◌, get_or, eqb, ltb, leb};
 ghost use Rattle.numbers.specs.Numbers.{places};
 ghost use Rattle.laws.specs.Search.{best, first, least, count};

@@ -7,7 +7,7 @@ use mathlib.Core.Bool.{Bool, true, false, ◌&&◌, ◌||◌, and-false, false�
 use native.Mathlib.Omega.{arith}
 use lib.Dec.{eqb, ltb, leb}
 use borrow.Author.Tests.{lt-ltb, le-ltb, ltb-true, le-leb, lt-leb, leb-true, eq-eqb, ne_eqb, eqb-true}
-use Rattle.laws.proofs.Choice.{true_or, eq_or, lt_or, and_left, or_left, or_right, or_either, same_test}
+use Rattle.laws.proofs.Choice.{eq_or, lt_or, and_left, or_left, or_right, or_either, same_test}
 
 -- a test that another one needs may be left out beside it
 spared : (a c e s : Bool) → e ≡ false → (s ≡ true → c ≡ true) → ((a && c) && (e || s)) ≡ (a && s)

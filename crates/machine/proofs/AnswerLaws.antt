@@ -1,6 +1,6 @@
 -- What a reply's parties and a tick's parties get, and when nothing is due.
 -- Assumes nothing.
-use Prim.Native.Nat.{ℕ, ◌+◌, ◌*◌, ◌≤◌, ◌<◌}
+use Prim.Native.Nat.{ℕ, ◌<◌}
 use mathlib.Core.Path.{◌≡◌, refl, ap, sym, subst, ◌∙◌}
 use mathlib.Core.Logic.{⊎_elim, ◌⊎◌, inl, inr}
 use mathlib.Core.Bool.{true, false}
@@ -16,8 +16,7 @@ use Rattle.laws.proofs.Choice.{eq_or, lt_or}
 use Rattle.wire.specs.Frame.{misframed, id_of, laid, exception}
 use Rattle.settings.specs.Grammar.{Tag}
 use Rattle.pdu.specs.Replies.{What, answering, excepts}
-use Rattle.pdu.specs.declared.Asked.{Asked}
-use Rattle.pdu.proofs.ReplyLaws.{ReplyRoom, answering-room}
+use Rattle.pdu.proofs.ReplyLaws.{answering-room}
 use Rattle.rewrite.specs.declared.Way.TheVariants.{ToBinary}
 use Rattle.rewrite.specs.Rewriting.{Rewritten}
 use Rattle.rewrite.specs.Frames.{returned}

@@ -167,7 +167,7 @@ module _ (v : Value) (xs : List Call) where
 
   -- and those others are of different ids
   pub the_others_differ : Differing distance (ledger_of v xs).issues
-  the_others_differ = (apart_exactly distance (ledger_of v xs).issues).0 an_id_comes_round_late
+  the_others_differ = (apart_exactly distance (ledger_of v xs).issues).0 (ids_come_round_late (product v) xs)
 
   -- Tender 3: an accepted request stands in the party places afterwards, as the latest party of a live entry that asks what it asks.
   pub the_accepted_stand : (c t : ℕ) (f o : List ℕ) (id : ℕ)

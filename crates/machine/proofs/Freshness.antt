@@ -34,7 +34,7 @@ use Rattle.cache.specs.Life.{life_by}
 use Rattle.cache.specs.Plain.{Takes, Cacheable}
 use Rattle.cache.proofs.CacheLaws.{taken_low, taken_exactly, emptied_exactly}
 use Rattle.cache.proofs.LifeLaws.{cacheable_reads, cacheable_exactly, life_exactly}
-use Rattle.book.specs.Book.{Live, Event, Good, at}
+use Rattle.book.specs.Book.{Live, Event, Good}
 use Rattle.book.specs.Book.Event.{issued}
 use Rattle.book.specs.Desk.{id_place}
 use Rattle.book.specs.Follower.{state_after}

@@ -1,6 +1,6 @@
 -- The machine: the book of live requests with the settings in force, its cursor and its clock, the set of attached clients, and the cache of replies to reads.
 -- Assumes nothing.
-use Rattle.std.specs.Prelude.{ℕ, ◌<◌, Bool, false}
+use Rattle.std.specs.Prelude.{ℕ, Bool, false}
 use Rattle.std.proofs.Common.{lit<}
 use Rattle.numbers.specs.Numbers.{ids, places, room}
 use Rattle.settings.specs.Grammar.{Value}

@@ -1,4 +1,6 @@
 // What each call does, in document 01's words: definitions and the theorems on them. The only code is the types of what is answered.
+#![tactic(auto)]
+
 use pdu::ProxyId;
 
 // What a call answers. Each case's numbers for the C host are in specs/Numbers.antt.

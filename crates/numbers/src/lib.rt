@@ -1,4 +1,6 @@
 // The sizes, bounds and codes of documents 01 and 02: specs/Numbers.antt has each under the same name, and how many ids there are in place of the last.
+#![tactic(auto)]
+
 pub const CLIENTS: u32 = 32;
 
 pub const PLACES: usize = 256;

@@ -1,3 +1,4 @@
 pub mod TextLaws
 pub mod HexLaws
 pub mod SaidLaws
+pub mod DigitLaws

@@ -4,7 +4,7 @@ use Rattle.std.proofs.Common.{◌≡◌, ℕ, zero, suc, ◌+◌, ◌-◌, ◌^�
 use mathlib.Core.Bool.{false≢true, and_assoc}
 use native.Mathlib.Nat.{pow-le-pow_left, pow-le-pow_right}
 use Rattle.laws.proofs.Choice.{true_or, eq_or, lt_or, and_left, and_right, same_test, never}
-use Rattle.io.specs.Digits.{last_digits, IsDigitCount}
+use Rattle.parts.specs.Digits.{last_digits, IsDigitCount}
 use Rattle.parts.specs.Said.{begins, lost, said, fewest, numeral, marked, formed}
 
 -- a text begins with two pieces where it begins with the first and goes on with the second

@@ -1,7 +1,7 @@
 -- What is said piece by piece, held against what must stand there; and the text of a form with its numbers.
 -- Assumes nothing.
 use Rattle.std.specs.Prelude.{ℕ, zero, suc, ◌+◌, ◌-◌, ◌^◌, min, Bool, true, false, cond, ◌&&◌, List, [], ◌∷◌, ◌++◌, length, drop, ◌==◌, nat_le, nat_lt}
-use Rattle.io.specs.Digits.{last_digits}
+use Rattle.parts.specs.Digits.{last_digits}
 
 -- whether a text begins with a piece
 unfoldable pub begins : List ℕ → List ℕ → Bool

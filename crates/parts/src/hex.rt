@@ -4,6 +4,7 @@ ghost use Rattle.laws.specs.Bytes.{over};
 ghost use Rattle.parts.specs.Texts.{nibble as nibbleOf, bytes_of, digit as digitOf, hex_of};
 ghost use Rattle.parts.specs.Said.{said};
 
+use crate::output::Output;
 use crate::saying::say;
 
 // The number that a hexadecimal digit is: 0 to 9, A to F.
@@ -51,14 +52,14 @@ fn digit(n: u8) -> u8
 }
 
 // Says a blank and the digits of each byte.
-pub fn say_hex(right: &[u8], at: usize, bytes: &[u8]) -> usize
+pub fn say_hex(right: &[u8], at: usize, bytes: &[u8], output: &mut Output) -> usize
     ensures { result ≡ said right.now at (hex_of bytes.now) }
 {
     let mut next = at;
     let mut k: usize = 0;
     while k < bytes.len() {
         let byte = bytes[k];
-        next = say(right, next, &[b' ', digit(byte / 16), digit(byte)]);
+        next = say(right, next, &[b' ', digit(byte / 16), digit(byte)], output);
         k += 1;
     }
     next

@@ -1,10 +1,15 @@
 // Parts of byte strings, numbers in them, and what comes out held against what must come out, for the programs that run tables of examples.
+#![tactic(auto)]
+
 ghost use Rattle.std.specs.Prelude.{◌≡◌, ◌+◌, ◌≤◌, length, take, drop};
 ghost use Rattle.parts.specs.Texts.{end_of, head_of, rest_of, field_of, longer as longerOf, number_of};
 
 use std::num::wrapping_add_u64;
 
+pub mod digits;
 pub mod hex;
+pub mod input;
+pub mod output;
 pub mod saying;
 pub mod tally;
 

@@ -2,7 +2,8 @@
 ghost use Rattle.std.specs.Prelude.{◌≡◌};
 ghost use Rattle.parts.specs.Tallies.{started, is_row, counted as countedOf, ended as ended_of};
 
-use libc::STDOUT_FILENO;
+use crate::digits::decimal;
+use crate::output::Output;
 use std::num::wrapping_add_u64;
 
 // How many examples were shown, and how many of them came out otherwise than is said beside them.
@@ -39,28 +40,35 @@ pub fn counted(t: Tally, differ: u64) -> Tally
 }
 
 // The end of the line in which an example was said up to a place; what must stand there is printed where they differ.
-pub fn ended(t: Tally, right: &[u8], at: usize) -> Tally
+pub fn ended(t: Tally, right: &[u8], at: usize, output: &mut Output) -> Tally
     ensures { result ≡ ended_of t right.now at }
 {
-    io::write_all(STDOUT_FILENO, b"\n");
+    output.print(b"\n");
     if at == right.len() {
         return counted(t, 0);
     }
-    print_line(b"  DIFFERS ", right);
+    print_line(b"  DIFFERS ", right, output);
     counted(t, 1)
 }
 
-pub fn print_line(label: &[u8], text: &[u8]) {
-    io::write_all(STDOUT_FILENO, label);
-    io::write_all(STDOUT_FILENO, text);
-    io::write_all(STDOUT_FILENO, b"\n");
+pub fn print_line(label: &[u8], text: &[u8], output: &mut Output) {
+    output.print(label);
+    output.print(text);
+    output.print(b"\n");
 }
 
 // The last line of a program: its name, its tally, and the word for what it counts.
-pub fn print(name: &[u8], t: Tally, word: &[u8]) {
-    io::write_all(STDOUT_FILENO, name);
-    io::print_decimal(STDOUT_FILENO, t.shown);
-    io::write_all(STDOUT_FILENO, word);
-    io::print_decimal(STDOUT_FILENO, t.differ);
-    io::write_all(STDOUT_FILENO, b" differ\n");
+pub fn print(name: &[u8], t: Tally, word: &[u8], output: &mut Output) {
+    output.print(name);
+    print_decimal(t.shown, output);
+    output.print(word);
+    print_decimal(t.differ, output);
+    output.print(b" differ\n");
+}
+
+// Prints a number in decimal digits.
+fn print_decimal(n: u64, output: &mut Output) {
+    let mut digits = [0u8; 20];
+    let size = decimal(n, &mut digits);
+    output.print(&digits[..size]);
 }

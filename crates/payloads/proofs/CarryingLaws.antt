@@ -1,7 +1,7 @@
 -- What a request has for registers decides which of them are in its frame, how the frame goes on, and whether a tag forbids it.
 -- Assumes nothing.
 use Prim.Native.Nat.{ℕ}
-use mathlib.Core.Path.{◌≡◌, refl, ap, ◌∙◌}
+use mathlib.Core.Path.{◌≡◌, refl, ap}
 use mathlib.Core.Bool.{Bool, false}
 use mathlib.Core.List.{List}
 use Rattle.laws.proofs.Choice.{never}

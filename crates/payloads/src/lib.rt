@@ -1,4 +1,6 @@
 // What a frame's payload becomes: a request's on its way to the controller, a reply's on its way back.
+#![tactic(auto)]
+
 pub mod carrying;
 pub mod registers;
 pub mod strict;

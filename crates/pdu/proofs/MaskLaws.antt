@@ -2,7 +2,7 @@
 -- Assumes nothing.
 use Prim.Native.Nat.{ℕ, zero, suc, ◌+◌, ◌*◌, ◌/◌, ◌%◌, ◌<◌}
 use mathlib.Core.Path.{◌≡◌, sym, ◌∙◌}
-use mathlib.Core.Logic.{⊎_elim, ◌⊎◌}
+use mathlib.Core.Logic.{⊎_elim}
 use mathlib.Core.Bool.{true, false, true≢false}
 use mathlib.Core.List.{List}
 use native.Mathlib.Omega.{arith}
@@ -10,7 +10,7 @@ use lib.ListN.{length, get_or, drop, length-drop}
 use lib.Seq.{ext_get_or, get_or-drop}
 use Rattle.laws.specs.Bytes.{pair_at}
 use Rattle.laws.proofs.Choice.{eq_or}
-use Rattle.wire.specs.Frame.{unit_of, function_of, pdu_size, misframed}
+use Rattle.wire.specs.Frame.{unit_of, function_of, misframed}
 use Rattle.wire.proofs.FrameLaws.{framed}
 use Rattle.pdu.specs.Requests.{start_of, and_mask_of, or_mask_of}
 use Rattle.pdu.specs.Replies.{What, what, excepts, answering}

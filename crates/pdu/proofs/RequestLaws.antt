@@ -1,7 +1,7 @@
 -- What the check of a request comes to, exactly when, by the class of its function; and what is known of a legal request.
 -- Assumes nothing.
 use Prim.Native.Nat.{ℕ, ◌+◌, ◌*◌, ◌/◌, ◌%◌, ◌≤◌, ◌<◌}
-use mathlib.Core.Path.{◌≡◌, refl, ap, sym, ◌∙◌}
+use mathlib.Core.Path.{◌≡◌, refl, sym, ◌∙◌}
 use mathlib.Core.Logic.{◌↔◌, ⊎_elim, ◌⊎◌, inl, inr}
 use mathlib.Core.Bool.{Bool, true, false, cond, not, ◌||◌}
 use mathlib.Core.List.{List}
@@ -18,7 +18,6 @@ use Rattle.wire.specs.Frame.{unit_of, function_of, pdu_size}
 use Rattle.pdu.specs.Requests.{class_of, start_of, quantity_of, value_of, byte_count_of, write_start_of, write_quantity_of, write_count_of, bytes_for, most_read_of, most_written_of, bad_function, bad_length, bad_value, bad_address, asked_by, asked_of, fault_of, checked_by, checked_of}
 use Rattle.pdu.specs.Replies.{what}
 use Rattle.pdu.specs.Words.{asked_bits, asked_from, Lawful, Proper}
-use Rattle.pdu.specs.declared.Table.{Table}
 use Rattle.pdu.specs.declared.Table.TheVariants.{Bits, Registers}
 use Rattle.pdu.specs.declared.Class.{Class}
 use Rattle.pdu.specs.declared.Class.TheVariants.{Reads, WritesOne, WritesMany, Masks, ReadsWrites, Others}

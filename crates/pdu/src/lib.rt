@@ -1,4 +1,6 @@
 // What a request asks, what it may ask and what answers it: the definitions with their laws; proxy ids and clients' ids as two types.
+#![tactic(auto)]
+
 ghost use Rattle.std.specs.Prelude.{◌≡◌, ◌+◌, ◌<◌};
 ghost use Rattle.numbers.specs.Numbers.{ids};
 ghost use Rattle.laws.specs.Circle.{turn};

@@ -1,11 +1,19 @@
 // Document 01's examples of requests and replies, and MAP's own, as whole frames, each with what it must give beside it: the table is in the file stdin.
+#![tactic(auto)]
+
 mod driving;
 mod showing;
 
-fn main() {
-    let mut buffer = io::large_buffer();
-    let size = io::read_full(libc::STDIN_FILENO, &mut buffer);
+use parts::input::read_full;
+use parts::output::Output;
+use std::io;
+
+fn main(rt: HostRuntime) -> io::Result<()> {
+    let mut output = Output::new(rt.stdout());
+    let mut buffer = [0u8; 65536];
+    let size = read_full(&mut rt.stdin(), &mut buffer)?;
     let t = parts::tally::start(size, &buffer);
-    let t = showing::examples(t, parts::before(&buffer, size));
-    parts::tally::print(b"pdus: ", t, b" shown, ");
+    let t = showing::examples(t, parts::before(&buffer, size), &mut output);
+    parts::tally::print(b"pdus: ", t, b" shown, ", &mut output);
+    output.end()
 }

@@ -1,6 +1,6 @@
 -- What attach, detach and link lost do to the set, the parties and the ids is the machine's outcome of that call, and keeps the state sound.
 -- Assumes nothing.
-use Prim.Native.Nat.{ℕ, ◌≤◌, ◌<◌, ◌^◌}
+use Prim.Native.Nat.{ℕ, ◌≤◌, ◌<◌}
 use mathlib.Core.Path.{◌≡◌, refl, ap, sym, ◌∙◌}
 use mathlib.Core.Bool.{true, false, not}
 use mathlib.Core.Option.{none}
@@ -20,9 +20,9 @@ use Rattle.book.specs.Book.Move.{wipe}
 use Rattle.machine.specs.Machine.{machine, rules}
 use Rattle.machine.specs.Calls.{done, out_of, list_of}
 use Rattle.machine.specs.Calls.Call.{attach, detach, link_lost}
-use Rattle.machine.specs.Refusals.{rows, lowest, refusal, is_strange_to, is_stranger}
+use Rattle.machine.specs.Refusals.{rows, lowest, is_strange_to, is_stranger}
 use Rattle.machine.specs.Numbers.{numbers}
-use Rattle.machine.specs.Outcomes.{granted, outcome}
+use Rattle.machine.specs.Outcomes.{granted}
 use Rattle.machine.specs.declared.Answer.TheVariants.{Refused, Done as Finished, Lost}
 use Rattle.machine.proofs.OutcomeLaws.{granted_is, refused_is}
 use Rattle.cache.specs.Cache.{Cache, emptied as nothing_cached}

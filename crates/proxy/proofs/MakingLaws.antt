@@ -11,7 +11,6 @@ use native.Mathlib.Omega.{arith}
 use lib.ListN.{length, take, replicate, length-replicate, length-append}
 use lib.Pow.{pow_pos}
 use Rattle.numbers.specs.Numbers.{clients, places, party_places, most_tags, usual_timeout, cache_places, cache_numbers, cache_bytes}
-use Rattle.laws.specs.Lists.{tab}
 use Rattle.laws.specs.Bits.{has}
 use Rattle.laws.proofs.Choice.{true_or}
 use Rattle.laws.proofs.ListLaws.{length-tab, get_d_repeat}
@@ -33,7 +32,7 @@ use Rattle.table.specs.Columns.{Columns, columns, table_of}
 use Rattle.table.specs.inner.Changes.{blank}
 use Rattle.table.proofs.EntryLaws.{blank-table}
 use Rattle.table.proofs.ChangeLaws.{clear_sound}
-use Rattle.proxy.specs.State.{State, KeptSettings, kept_settings, value_in, state, machine_of, Settled, SoundState}
+use Rattle.proxy.specs.State.{State, KeptSettings, kept_settings, value_in, state, Settled, SoundState}
 use Rattle.proxy.specs.Gates.{adopted, making_answer}
 use Rattle.proxy.specs.Calls.{Adopts, Freshened}
 

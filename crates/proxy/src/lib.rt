@@ -1,4 +1,6 @@
 // What a state in columns is; a fresh one, and the calls on one that carry no time: attach, detach, link lost.
+#![tactic(auto)]
+
 pub mod attaching;
 pub mod making;
 

@@ -1,4 +1,6 @@
 // What the C host is told: of an answer, and of the calls that need no device: splitting a run, settings read and written.
+#![tactic(auto)]
+
 ghost use Rattle.std.specs.Prelude.{◌≡◌};
 ghost use Rattle.settings.specs.Values.{settings};
 ghost use Rattle.machine.specs.Numbers.{report, is_hit, numbers};

@@ -1,4 +1,6 @@
 // The request over a state by value, for programs and tests. Written by tools/fields.py from lib.rt.in.
+#![tactic(auto)]
+
 ghost use Rattle.std.specs.Prelude.{[]};
 ghost use Rattle.machine.specs.Calls.Call.{request as asks};
 ghost use Rattle.proxy.specs.Calls.{Does};

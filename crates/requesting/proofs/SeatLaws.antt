@@ -31,7 +31,7 @@ use Rattle.rewrite.specs.Rewriting.{with_counts}
 use Rattle.rewrite.specs.Frames.{forwarded, under}
 use Rattle.rewrite.specs.inner.Lent.{tags_of, Sent}
 use Rattle.rewrite.proofs.RoomLaws.{legal_sent}
-use Rattle.cache.specs.Cache.{Cached, in_cache, hit_place, dropped_by}
+use Rattle.cache.specs.Cache.{in_cache, hit_place, dropped_by}
 use Rattle.caching.specs.Kept.{cache_of, Word, Drops, SoundCache}
 use Rattle.book.specs.Book.{entry, marked}
 use Rattle.book.specs.Desk.{free_place}

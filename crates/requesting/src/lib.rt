@@ -1,4 +1,6 @@
 // The request call over lent columns: the gate, the check of what is asked, and what a legal request comes to.
+#![tactic(auto)]
+
 ghost use Rattle.std.specs.Prelude.{◌≡◌, false, List, [], ℕ, ◌-◌, ◌≤◌, ◌<◌, length, get_or};
 ghost use Rattle.std.proofs.Math.Option.{none};
 ghost use Rattle.numbers.specs.Numbers.{ids as idCount, places, room, exception_frame, least_frame, frame_buffer, cache_places};

@@ -1,6 +1,6 @@
 -- Which requests 06 were re-encoded, in plain words, and that the others are sent as they came.
 -- Assumes nothing.
-use Prim.Native.Nat.{ℕ, ◌+◌, ◌-◌, ◌%◌, ◌≤◌, ◌<◌}
+use Prim.Native.Nat.{ℕ, ◌-◌, ◌%◌, ◌≤◌, ◌<◌}
 use mathlib.Core.Path.{◌≡◌, refl, ap, sym, ◌∙◌}
 use mathlib.Core.Logic.{⊎_elim, ◌↔◌}
 use mathlib.Core.Bool.{true, false, not, ◌||◌, false≢true, true≢false, or-true}
@@ -14,11 +14,10 @@ use Rattle.laws.specs.Bytes.{pair_at}
 use Rattle.laws.specs.Digits.{digits, value as value_of}
 use Rattle.laws.specs.Search.{first}
 use Rattle.laws.proofs.Choice.{true_or, same_test, or_left, or_right, or_either}
-use Rattle.bcd.specs.declared.Kind.{Kind}
-use Rattle.bcd.specs.declared.Encoded.TheVariants.{Bcd, OutOfRange}
-use Rattle.bcd.specs.Bcd.{registers, in_range, encoded}
+use Rattle.bcd.specs.declared.Encoded.TheVariants.{Bcd}
+use Rattle.bcd.specs.Bcd.{registers, in_range}
 use Rattle.bcd.specs.Words.{words_of, number_of}
-use Rattle.bcd.proofs.RoundTrip.{encode_accepts, encode_refuses}
+use Rattle.bcd.proofs.RoundTrip.{encode_accepts}
 use Rattle.settings.specs.Grammar.{Tag}
 use Rattle.settings.specs.TagWords.{kind_of, last_of, tag_of}
 use Rattle.pdu.specs.declared.Table.TheVariants.{Registers}

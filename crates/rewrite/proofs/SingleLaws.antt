@@ -30,14 +30,14 @@ use Rattle.rewrite.specs.declared.Way.{Way}
 use Rattle.rewrite.specs.declared.Way.TheVariants.{ToBinary}
 use Rattle.rewrite.specs.Registers.{registers_at, laid_at}
 use Rattle.rewrite.specs.Rewriting.{turned, Verdict, own_in, verdict, laid_by, with_counts, rewriting}
-use Rattle.rewrite.specs.Rewriting.Verdict.{outside, partial, value, done}
+use Rattle.rewrite.specs.Rewriting.Verdict.{outside, value, done}
 use Rattle.rewrite.specs.Frames.{reencoded, returned}
-use Rattle.rewrite.specs.Plain.{Has, InRun, Whole}
+use Rattle.rewrite.specs.Plain.{Has, Whole}
 use Rattle.rewrite.proofs.RegisterLaws.{laid-registers}
 use Rattle.rewrite.proofs.OrderLaws.{ascending_in, one_owner}
-use Rattle.rewrite.proofs.VerdictLaws.{outside_exactly, partial_exactly, value_exactly, done_exactly, turned-decoded, raw-decoded}
+use Rattle.rewrite.proofs.VerdictLaws.{outside_exactly, value_exactly, done_exactly, turned-decoded, raw-decoded}
 use Rattle.rewrite.proofs.TagLaws.{by_verdict, by-verdict}
-use Rattle.rewrite.proofs.TableLaws.{idle_before, idle_behind, idle_none}
+use Rattle.rewrite.proofs.TableLaws.{idle_before, idle_behind}
 use Rattle.rewrite.proofs.FrameLaws.{returned_single, returned-raw}
 use Rattle.rewrite.proofs.ReencodedLaws.{reencoded_exactly}
 

@@ -1,4 +1,6 @@
 // The definitions of a rewriting, with their laws: the tags over a run of registers, rewritten in place, with both raw counts.
+#![tactic(auto)]
+
 ghost use Rattle.std.specs.Prelude.{◌≡◌};
 ghost use Rattle.settings.specs.TagWords.{tag_of, last_of};
 

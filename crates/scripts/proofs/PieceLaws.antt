@@ -8,8 +8,6 @@ use native.Mathlib.Numerals.{add-one}
 use lib.ListN.{length, get_or, take, drop, drop_of_length-le}
 use lib.Seq.{drop-cons}
 use borrow.Author.Tests.{eq-eqb, ne_eqb}
-use types.Run.{OneOf, miss}
-use denote.Enum.Declared.{tag_of}
 use Rattle.parts.specs.Said.{said}
 use Rattle.parts.specs.Texts.{hex_of}
 use Rattle.parts.proofs.SaidLaws.{said-said}
@@ -17,7 +15,6 @@ use Rattle.machine.specs.declared.Answer.{Answer}
 use Rattle.machine.specs.declared.Answer.TheVariants.{Refused, Done, Issued, Joined, Excepted, Answered, TimedOut, NothingDue, Lost, Hit}
 use Rattle.machine.specs.declared.Report.{Report}
 use Rattle.machine.specs.Numbers.{numbers}
-use Rattle.machine.specs.contracts.Answer.{the_type}
 use Rattle.scripts.specs.Pieces.{frame_text, kept_byte, kept_place, all_are, touched}
 use Rattle.scripts.specs.Telling.{outcome_text, name_text, party_text, parties_text, report_text, answer_text}
 
@@ -58,7 +55,7 @@ unfolding touched
 touched_changed kept e = rw e
 
 -- every answer but a lost link is named by its report
-pub name_other : (a : Answer) → OneOf (0 ∷ 1 ∷ 2 ∷ 3 ∷ 4 ∷ 5 ∷ 6 ∷ 7 ∷ 9 ∷ []) (tag_of the_type a) → name_text a ≡ outcome_text (numbers a)
+pub name_other : (a : Answer) → ((s : ℕ) → a ≡ Lost s → ⊥) → name_text a ≡ outcome_text (numbers a)
 unfolding name_text
 name_other (Refused n) h = refl
 name_other Done h = refl
@@ -68,7 +65,7 @@ name_other (Excepted c) h = refl
 name_other (Answered i n k p v) h = refl
 name_other (TimedOut i k) h = refl
 name_other NothingDue h = refl
-name_other (Lost s) h = absurd (miss (0 ∷ 1 ∷ 2 ∷ 3 ∷ 4 ∷ 5 ∷ 6 ∷ 7 ∷ 9 ∷ []) 8 tt h)
+name_other (Lost s) h = absurd (h s refl)
 name_other (Hit n p v) h = refl
 
 -- all that is said of an answer, piece by piece

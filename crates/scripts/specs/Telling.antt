@@ -1,6 +1,6 @@
 -- What is said of a call on a state: its name with its numbers, the frame, the parties, and whether more was changed.
 -- Assumes nothing.
-use Rattle.std.specs.Prelude.{ℕ, zero, suc, ◌+◌, ◌*◌, cond, List, [], ◌∷◌, ◌++◌, length, get_or, take, drop, eqb}
+use Rattle.std.specs.Prelude.{ℕ, zero, suc, ◌+◌, ◌*◌, cond, List, [], ◌∷◌, ◌++◌, get_or, take, drop, eqb}
 use Rattle.parts.specs.Texts.{field_of}
 use Rattle.parts.specs.Said.{formed}
 use Rattle.machine.specs.declared.Answer.{Answer}

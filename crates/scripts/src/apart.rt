@@ -8,6 +8,7 @@ use crate::naming::{length_in, letter, value_in};
 use crate::pieces::{say_colon, say_frame, say_kept};
 use crate::telling::KEPT;
 use parts::hex::parse;
+use parts::output::Output;
 use parts::saying::{say, say_form};
 use parts::{before, head};
 use settings::Settings;
@@ -16,32 +17,32 @@ use settingstext::writing::Wrote;
 use wire::splitting::Split;
 
 // What stands at the start of a run.
-fn say_standing(right: &[u8], standing: Split) -> usize
+fn say_standing(right: &[u8], standing: Split, output: &mut Output) -> usize
     ensures { result ≡ said right.now 0 (standing_text standing) }
 {
     match standing {
-        Split::Frame => say(right, 0, b"frame"),
-        Split::MoreNeeded => say(right, 0, b"more needed"),
-        Split::Refused => say(right, 0, b"refusal 4"),
+        Split::Frame => say(right, 0, b"frame", output),
+        Split::MoreNeeded => say(right, 0, b"more needed", output),
+        Split::Refused => say(right, 0, b"refusal 4", output),
     }
 }
 
 // The same, and the part that is handed back.
-fn split_run(right: &[u8], run: &[u8]) -> usize
+fn split_run(right: &[u8], run: &[u8], output: &mut Output) -> usize
     ensures { result ≡ said right.now 0 (run_text run.now) }
 {
-    let at = say_standing(right, wire::splitting::standing(run));
-    say_frame(right, at, wire::splitting::first_frame(run))
+    let at = say_standing(right, wire::splitting::standing(run), output);
+    say_frame(right, at, wire::splitting::first_frame(run), output)
 }
 
 // The first frame of a run.
-fn split(right: &[u8], call: &[u8], bytes: &[u8]) -> usize
+fn split(right: &[u8], call: &[u8], bytes: &[u8], output: &mut Output) -> usize
     ensures { result ≡ said right.now 0 (run_text (receivedOf call.now bytes.now)) }
 {
     let mut received = [0u8; 300];
     let parsed = parse(bytes, &mut received);
     let size = length_in(call, b'z', parsed, 300);
-    split_run(right, before(&received, size))
+    split_run(right, before(&received, size), output)
 }
 
 // A text with one byte in place of another, and NULs behind it.
@@ -59,28 +60,46 @@ fn exchanged(bytes: &[u8], from: u8, to: u8) -> [u8; 512]
 }
 
 // A settings text of so many bytes at the start of a buffer, with '/' for LF.
-fn whole(right: &[u8], buffer: &[u8], size: usize) -> usize
+fn whole(right: &[u8], buffer: &[u8], size: usize, output: &mut Output) -> usize
     ensures { result ≡ said right.now 0 (whole_text buffer.now size) }
 {
     let text = exchanged(buffer, b'\n', b'/');
-    let at = say_form(right, 0, b"D bytes", size as u64, 0, 0);
-    let at = say(right, say_colon(right, at), b" ");
-    say(right, at, before(&text, size))
+    let at = say_form(right, 0, b"D bytes", size as u64, 0, 0, output);
+    let at = say(right, say_colon(right, at, output), b" ", output);
+    say(right, at, before(&text, size), output)
 }
 
 // What writing into a buffer came to; a refusal touches no byte of it.
-fn told(right: &[u8], wrote: Wrote, buffer: &[u8; 512]) -> usize
+fn told(right: &[u8], wrote: Wrote, buffer: &[u8; 512], output: &mut Output) -> usize
     ensures { result ≡ said right.now 0 (wrote_text wrote buffer.now) }
 {
     match wrote {
-        Wrote::Text(size) => say_kept(right, whole(right, buffer, size), buffer, size),
-        Wrote::TooShort => say_kept(right, say(right, 0, b"refusal 1"), buffer, 0),
-        Wrote::Invalid => say_kept(right, say(right, 0, b"refusal 10 line 0"), buffer, 0),
+        Wrote::Text(size) => say_kept(
+            right,
+            whole(right, buffer, size, output),
+            buffer,
+            size,
+            output,
+        ),
+        Wrote::TooShort => say_kept(
+            right,
+            say(right, 0, b"refusal 1", output),
+            buffer,
+            0,
+            output,
+        ),
+        Wrote::Invalid => say_kept(
+            right,
+            say(right, 0, b"refusal 10 line 0", output),
+            buffer,
+            0,
+            output,
+        ),
     }
 }
 
 // The text of a value, written into the start of a buffer, of which so many bytes are lent.
-fn written(right: &[u8], from: Settings, lent: usize) -> usize
+fn written(right: &[u8], from: Settings, lent: usize, output: &mut Output) -> usize
     requires { lent ≤ 512 }
     ensures { result ≡ said right.now 0 (written_text from lent) }
 {
@@ -96,16 +115,24 @@ fn written(right: &[u8], from: Settings, lent: usize) -> usize
         &from.strict,
         &mut buffer[0..lent],
     );
-    told(right, wrote, &buffer)
+    told(right, wrote, &buffer, output)
 }
 
 // The first wrong line; and the timeout, join and number of tags of the value that a refusal returns.
-fn wrong(right: &[u8], found: ReadText) -> usize
+fn wrong(right: &[u8], found: ReadText, output: &mut Output) -> usize
     ensures { result ≡ said right.now 0 (wrong_text found) }
 {
     let s = found.settings;
-    let at = say_form(right, 0, b"refusal 10 line D", found.line as u64, 0, 0);
-    let at = say_colon(right, at);
+    let at = say_form(
+        right,
+        0,
+        b"refusal 10 line D",
+        found.line as u64,
+        0,
+        0,
+        output,
+    );
+    let at = say_colon(right, at, output);
     say_form(
         right,
         at,
@@ -113,19 +140,20 @@ fn wrong(right: &[u8], found: ReadText) -> usize
         s.timeout as u64,
         s.join as u64,
         s.tags as u64,
+        output,
     )
 }
 
 // A settings text read, and its value written back; or the first wrong line, and the value that a refusal returns.
-fn read(right: &[u8], bytes: &[u8]) -> usize
+fn read(right: &[u8], bytes: &[u8], output: &mut Output) -> usize
     ensures { result ≡ said right.now 0 (text_read bytes.now) }
 {
     let lines = exchanged(bytes, b'/', b'\n');
     let found = settingstext::reading::read_text(before(&lines, bytes.len()));
     if found.line == 0 {
-        written(right, found.settings, 512)
+        written(right, found.settings, 512, output)
     } else {
-        wrong(right, found)
+        wrong(right, found, output)
     }
 }
 
@@ -138,16 +166,25 @@ pub fn leaves(call: &[u8]) -> bool
 }
 
 // Runs such a call, or tells the cursor, the clock and the attached clients of the state.
-pub fn run(right: &[u8], call: &[u8], bytes: &[u8], cursor: u16, clock: u64, attached: u32) -> usize
+pub fn run(
+    right: &[u8],
+    call: &[u8],
+    bytes: &[u8],
+    cursor: u16,
+    clock: u64,
+    attached: u32,
+    output: &mut Output,
+) -> usize
     ensures { result ≡ said right.now 0 (apart_text call.now bytes.now cursor clock attached) }
 {
     match letter(call) {
-        b's' => split(right, call, bytes),
-        b'A' => read(right, bytes),
+        b's' => split(right, call, bytes, output),
+        b'A' => read(right, bytes, output),
         b'w' => written(
             right,
             value_in(head(call, b',')),
             length_in(call, b'o', 512, 512),
+            output,
         ),
         _ => say_form(
             right,
@@ -156,6 +193,7 @@ pub fn run(right: &[u8], call: &[u8], bytes: &[u8], cursor: u16, clock: u64, att
             cursor as u64,
             clock,
             attached as u64,
+            output,
         ),
     }
 }

@@ -7,6 +7,7 @@ ghost use Rattle.scripts.specs.Telling.{first_number, outcome_text, name_text, s
 
 use crate::pieces::{say_frame, say_kept, say_touched};
 use machine::{Answer, Report};
+use parts::output::Output;
 use parts::saying::say_form;
 use parts::{before, behind, field};
 
@@ -32,7 +33,7 @@ fn first_number(r: Report) -> u32
 }
 
 // The form of each outcome, in the order of the outcomes' numbers in a report; 8 and 9 are no answer's.
-fn say_outcome(right: &[u8], r: Report) -> usize
+fn say_outcome(right: &[u8], r: Report, output: &mut Output) -> usize
     ensures { result ≡ said right.now 0 (outcome_text r) }
 {
     let forms =
@@ -45,17 +46,18 @@ fn say_outcome(right: &[u8], r: Report) -> usize
         first_number(r) as u64,
         r.partial as u64,
         r.value as u64,
+        output,
     )
 }
 
 // The same, where the link that is lost, in a report done like other calls, has a form of its own.
-fn say_name(right: &[u8], answer: Answer, r: Report) -> usize
+fn say_name(right: &[u8], answer: Answer, r: Report, output: &mut Output) -> usize
     requires { r ≡ numbers answer }
     ensures { result ≡ said right.now 0 (name_text answer) }
 {
     match answer {
-        Answer::Lost { set } => say_form(right, 0, b"lost 0xL", set as u64, 0, 0),
-        _ => say_outcome(right, r),
+        Answer::Lost { set } => say_form(right, 0, b"lost 0xL", set as u64, 0, 0, output),
+        _ => say_outcome(right, r, output),
     }
 }
 
@@ -91,37 +93,42 @@ fn skipped(k: u32) -> usize
 }
 
 // Says the k-th party of a list, as its client and its id.
-fn say_party(right: &[u8], at: usize, list: &[u16], k: u32) -> usize
+fn say_party(right: &[u8], at: usize, list: &[u16], k: u32, output: &mut Output) -> usize
     ensures { result ≡ said right.now at (party_text list.now k) }
 {
     let form = behind(b" to D,0xX", skipped(k));
     let place = 2 * (k as usize);
     let client = place_at(list, place);
     let id = place_at(list, place + 1);
-    say_form(right, at, form, client as u64, id as u64, 0)
+    say_form(right, at, form, client as u64, id as u64, 0, output)
 }
 
 // Says the parties of a list, in its order.
-fn say_parties(right: &[u8], at: usize, list: &[u16], parties: u32) -> usize
+fn say_parties(right: &[u8], at: usize, list: &[u16], parties: u32, output: &mut Output) -> usize
     ensures { result ≡ said right.now at (parties_text list.now parties) }
 {
     let mut next = at;
     let mut k: u32 = 0;
     while k < parties {
-        next = say_party(right, next, list, k);
+        next = say_party(right, next, list, k, output);
         k += 1;
     }
     next
 }
 
 // Says what a call gave.
-pub fn tell(right: &[u8], answer: Answer, out: &[u8], list: &[u16]) -> usize
+pub fn tell(right: &[u8], answer: Answer, out: &[u8], list: &[u16], output: &mut Output) -> usize
     ensures { result ≡ said right.now 0 (answer_text answer out.now list.now) }
 {
     let r = reports::report_of(answer);
-    let at = say_name(right, answer, r);
-    let at = say_frame(right, at, before(out, r.length as usize));
-    let at = say_parties(right, at, list, r.parties);
-    let at = say_kept(right, at, out, r.length as usize);
-    say_touched(right, at, kept_places(list, 2 * (r.parties as usize)))
+    let at = say_name(right, answer, r, output);
+    let at = say_frame(right, at, before(out, r.length as usize), output);
+    let at = say_parties(right, at, list, r.parties, output);
+    let at = say_kept(right, at, out, r.length as usize, output);
+    say_touched(
+        right,
+        at,
+        kept_places(list, 2 * (r.parties as usize)),
+        output,
+    )
 }

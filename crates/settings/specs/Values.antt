@@ -1,6 +1,6 @@
 -- The settings value of the boundary's struct, and back; when two values are equal.
 -- Assumes nothing.
-use Rattle.std.specs.Prelude.{ℕ, ◌+◌, ◌-◌, Bool, true, false, ◌&&◌, List, [], ◌∷◌, ◌++◌, map, length, get_or, replicate, eqb}
+use Rattle.std.specs.Prelude.{ℕ, ◌-◌, Bool, true, false, ◌&&◌, List, [], ◌∷◌, ◌++◌, map, length, get_or, replicate, eqb}
 use Rattle.numbers.specs.Numbers.{most_tags, usual_timeout}
 use Rattle.laws.specs.Lists.{tab}
 use Rattle.settings.specs.Grammar.{Tag, Value}

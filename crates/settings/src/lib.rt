@@ -1,4 +1,6 @@
 // The settings value, the grammar of its text, what its tag words are, and the kind of a tag.
+#![tactic(auto)]
+
 ghost use Rattle.std.specs.Prelude.{◌≡◌, ℕ};
 ghost use Rattle.settings.specs.TagWords.{kind_of};
 

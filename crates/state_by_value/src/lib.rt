@@ -1,4 +1,6 @@
 // The state by value: a struct a live entry, the flat party arrays, cursor, clock, attached set, settings and the columns of the cache; spread into columns and gathered again.
+#![tactic(auto)]
+
 pub mod calls;
 pub mod columns;
 

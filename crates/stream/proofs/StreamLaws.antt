@@ -3,7 +3,7 @@
 use Prim.Native.Nat.{ℕ, ◌+◌, ◌-◌, ◌≤◌, ◌<◌}
 use mathlib.Core.Path.{◌≡◌, refl, ap, sym, ◌∙◌}
 use mathlib.Core.Logic.{⊎_elim}
-use mathlib.Core.Bool.{Bool, true, false, cond, not}
+use mathlib.Core.Bool.{true, false, not}
 use mathlib.Core.List.Memᴰ
 use mathlib.Core.List.{List, [], ◌∷◌, ◌++◌, append_assoc, append-nil, flatten, Memᴰ}
 use native.Mathlib.Omega.{arith}
@@ -20,7 +20,7 @@ use Rattle.wire.specs.declared.splitting.Split.{Split}
 use Rattle.wire.specs.declared.splitting.Split.TheVariants.{Frame, MoreNeeded, Refused}
 use Rattle.wire.specs.Plain.{Whole}
 use Rattle.wire.proofs.SplittingLaws.{starts, stands, refused as is_refused_lem, six_decide, short_waits, whole_stands, first_taken, first-size, first_is_whole}
-use Rattle.stream.specs.Stream.{Stream, stream, fresh, refused, TakeOutcome, take_outcome, found, took}
+use Rattle.stream.specs.Stream.{Stream, refused, take_outcome, found, took}
 use Rattle.stream.specs.Hosts.{Fed, start, with}
 use Rattle.stream.specs.Plain.{Reads}
 

@@ -1,4 +1,6 @@
 // Bytes as they arrive: a stream keeps the bytes of an unfinished frame, takes pieces of any size, and yields frames one by one.
+#![tactic(auto)]
+
 ghost use Rattle.std.specs.Prelude.{◌≡◌, ◌≤◌, min, length};
 ghost use Rattle.numbers.specs.Numbers.{most_frame, frame_buffer};
 ghost use Rattle.stream.specs.Lent.{lent_stream, MadeStream, Takes, Resets, Filled};

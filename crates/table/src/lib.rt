@@ -1,4 +1,6 @@
 // The live table in columns: the book that they are and what every call keeps of them. The code reads a place's id.
+#![tactic(auto)]
+
 ghost use Rattle.std.specs.Prelude.{◌≡◌, ◌-◌, ◌≤◌, ◌<◌, get_or};
 ghost use Rattle.numbers.specs.Numbers.{ids as idCount, places};
 

@@ -2,14 +2,18 @@
 // Its first line is the pieces that the rows name, each ended by '|'. A row is the wrong line, a blank, and the text as it is spelled: ';' is LF, '^' CR,
 // '~' tab, '_' a blank, '$' NUL, and '@1' to '@9' and '@A' to '@K' the pieces. Behind a '|' stands the text that is written of the value, where it is another.
 // In place of a line's number, v has the value looked at, s the same with a sign at its first tag, t that with a ttl of 500 there and of 60000 at the second, and m that with the first tag strict.
+#![tactic(auto)]
+
 mod spelling;
 mod texts;
 
-use libc::STDIN_FILENO;
+use parts::input::read_full;
+use parts::output::Output;
 use parts::tally::Tally;
 use parts::{before, end_of, head, rest, tally};
+use std::io;
 
-fn row<'a>(t: Tally, pieces: &'a [u8], row: &'a [u8]) -> Tally {
+fn row<'a>(t: Tally, pieces: &'a [u8], row: &'a [u8], output: &mut Output) -> Tally {
     if !tally::is_row(row) {
         return t;
     }
@@ -19,26 +23,28 @@ fn row<'a>(t: Tally, pieces: &'a [u8], row: &'a [u8]) -> Tally {
     let size = spelling::spell(pieces, head(spelled, b'|'), &mut text);
     let room = spelling::spell(pieces, rest(spelled, b'|'), &mut other);
     let word = head(row, b' ');
-    texts::read(t, word, before(&text, size), before(&other, room))
+    texts::read(t, word, before(&text, size), before(&other, room), output)
 }
 
 // Every row of a table.
-fn rows<'a>(t: Tally, pieces: &'a [u8], table: &'a [u8]) -> Tally {
+fn rows<'a>(t: Tally, pieces: &'a [u8], table: &'a [u8], output: &mut Output) -> Tally {
     let mut tally = t;
     let mut at: usize = 0;
     while at < table.len() {
         let end = end_of(table, at, b'\n');
-        tally = row(tally, pieces, &table[at..end]);
+        tally = row(tally, pieces, &table[at..end], output);
         at = end + 1;
     }
     tally
 }
 
-fn main() {
+fn main(rt: HostRuntime) -> io::Result<()> {
+    let mut output = Output::new(rt.stdout());
     let mut buffer = [0u8; 131072];
-    let size = io::read_full(STDIN_FILENO, &mut buffer);
+    let size = read_full(&mut rt.stdin(), &mut buffer)?;
     let table = before(&buffer, size);
     let t = tally::start(size, &buffer);
-    let t = rows(t, head(table, b'\n'), rest(table, b'\n'));
-    tally::print(b"texts: ", t, b" read, ");
+    let t = rows(t, head(table, b'\n'), rest(table, b'\n'), &mut output);
+    tally::print(b"texts: ", t, b" read, ", &mut output);
+    output.end()
 }

@@ -1,7 +1,7 @@
 // One text read, and held against what is said beside it.
 ghost use Rattle.std.specs.Prelude.{◌<◌};
 
-use libc::STDOUT_FILENO;
+use parts::output::Output;
 use parts::tally::{Tally, counted};
 use parts::{before, number};
 use settings::Settings;
@@ -35,7 +35,7 @@ fn comes_back(s: Settings, text: &[u8]) -> bool {
     let size = text.len();
     let short = written(s, &mut buffer, std::num::wrapping_sub_usize(size, 1));
     let whole = written(s, &mut buffer, size);
-    (short == 0) & (whole == size) & check::same(before(&buffer, size), text)
+    (short == 0) & (whole == size) & (before(&buffer, size) == text)
 }
 
 // Whether a value has document 01's timeout and join, and so many tags.
@@ -90,13 +90,13 @@ fn is_right(s: Settings, word: &[u8], text: &[u8], other: &[u8]) -> bool {
 }
 
 // Reads a text, of which the word tells the wrong line, and the other text what is written of it; one that comes out otherwise is printed.
-pub fn read(t: Tally, word: &[u8], text: &[u8], other: &[u8]) -> Tally {
+pub fn read(t: Tally, word: &[u8], text: &[u8], other: &[u8], output: &mut Output) -> Tally {
     let found = settingstext::reading::read_text(text);
     let right = is_right(found.settings, word, text, other);
     if right & (found.line as u64 == number(word, 0)) {
         return counted(t, 0);
     }
-    io::write_all(STDOUT_FILENO, word);
-    parts::tally::print_line(b" is the wrong line of\n", text);
+    output.print(word);
+    parts::tally::print_line(b" is the wrong line of\n", text, output);
     counted(t, 1)
 }

@@ -1,4 +1,6 @@
 // The tick over a state by value, for programs and tests. Written by tools/fields.py from lib.rt.in.
+#![tactic(auto)]
+
 ghost use Rattle.machine.specs.Calls.Call.{tick as ticks};
 ghost use Rattle.proxy.specs.Calls.{Does};
 ghost use Rattle.proxy.specs.State.{SoundState};

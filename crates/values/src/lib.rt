@@ -1,4 +1,6 @@
 // Whether a settings value is valid; its tags as the words that the state keeps.
+#![tactic(auto)]
+
 pub mod tagwords;
 
 ghost use Rattle.std.specs.Prelude.{◌≡◌, ◌&&◌, [], ◌∷◌, ◌+◌, ◌<◌, leb};

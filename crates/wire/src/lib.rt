@@ -1,4 +1,6 @@
 // Frames on the wire: 16-bit numbers in bytes, the unit and the function of a frame, copying; what a frame, its refusal and an exception frame are.
+#![tactic(auto)]
+
 pub mod frames;
 pub mod splitting;
 

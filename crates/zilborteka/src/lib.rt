@@ -1,4 +1,6 @@
 // The C boundary: the exported calls on the device that a host lends. Written by tools/fields.py from lib.rt.in.
+#![tactic(auto)]
+
 pub mod deviceless;
 pub mod streams;
 

@@ -1,7 +1,7 @@
 -- `answering::life_given` meets its contract: an exception and what is closed give none, a read of registers what its tags give, and all else none.
 use Prim.Native.Nat.{ℕ}
 use mathlib.Core.Path.{◌≡◌, refl, ap, sym, ◌∙◌}
-use mathlib.Core.Bool.{Bool, true, false, ◌||◌}
+use mathlib.Core.Bool.{Bool, false, ◌||◌}
 use mathlib.Core.List.{List}
 use Rattle.settings.specs.Grammar.{Tag}
 use Rattle.pdu.specs.declared.Asked.{Asked}

@@ -1,5 +1,4 @@
 -- `caching::drop_each` meets its contract. The loop's invariant: the places below k are dropped.
-use Prim.Native.Nat.{◌-◌}
 use mathlib.Core.Path.{◌≡◌}
 use native.Mathlib.Omega.{arith}
 use Rattle.caching.specs.Kept.{bound_in}

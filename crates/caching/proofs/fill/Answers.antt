@@ -34,4 +34,4 @@ returns c =
     let e = rw (part_rest f 9) at c.lay.ensures.0 in
     rw (c.store.ensures, e)
     (let k = filled a.cache.now a.shown.now c.requires.sound_cache.0 a.place a.word a.time a.life a.value (below (goal.at.returns c).Start) c.requires.key.0 (omega arith) (omega arith) f c.requires.key.1 c.requires.sound_cache.1 (rw e at c.lay.ensures.1) in
-     record { shown_after = k.0; sound_cache_2 = k.1 })
+    record { shown_after = k.0; sound_cache_2 = k.1 })

@@ -1,5 +1,4 @@
 -- `caching::oldest_place` meets its contract. The loop's invariant: `found` is the best of the places passed.
-use Prim.Native.Nat.{◌-◌}
 use mathlib.Core.Path.{◌≡◌, refl}
 use mathlib.Core.Logic.{inl, inr}
 use native.Mathlib.Omega.{arith}

@@ -1,5 +1,4 @@
 -- `caching::own_place` meets its contract. The loop's invariant: no place passed has the word, and the bound is where the loop ends.
-use Prim.Native.Nat.{◌-◌}
 use mathlib.Core.Path.{sym}
 use mathlib.Core.Bool.{false}
 use native.Mathlib.Omega.{arith}

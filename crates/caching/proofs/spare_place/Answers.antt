@@ -1,7 +1,5 @@
 -- `caching::spare_place` meets its contract. The loop's invariant: no place passed is empty or expired, and the bound is where the loop ends.
-use Prim.Native.Nat.{◌-◌}
 use mathlib.Core.Path.{sym}
-use mathlib.Core.Bool.{false}
 use native.Mathlib.Omega.{arith}
 use borrow.Author.Count.{below_more, below_none}
 use Rattle.laws.proofs.SearchLaws.{first_found}

@@ -1,5 +1,4 @@
 -- `finding::count_live` meets its contract: k places are passed, and `live` of them are live.
-use Prim.Native.Nat.{◌-◌}
 use mathlib.Core.Path.{◌≡◌, refl, ◌∙◌}
 use native.Mathlib.Omega.{arith}
 use lib.ListN.{get_or}
@@ -24,7 +23,7 @@ loop-k-preserved c =
       omega arith,
       rw (count_more (is_taken ids) k)
           (elim c.if-ids-k-ne0.branch [
-            then-ids-k-ne0 w ↦ rw (ne_eqb (get_or ids k 0) 0 w.if-ids-k-ne0.true) (w.live-is ∙ omega arith)
+            | then-ids-k-ne0 w ↦ rw (ne_eqb (get_or ids k 0) 0 w.if-ids-k-ne0.true) (w.live-is ∙ omega arith)
             | else-ids-k-ne0 w ↦ rw (eq-eqb (get_or ids k 0) 0 w.if-ids-k-ne0.false) (w.live-is ∙ omega arith)
           ]),
     )

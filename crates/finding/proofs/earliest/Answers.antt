@@ -1,5 +1,4 @@
 -- `finding::earliest` meets its contract: the search goes on from a place that is due to the next that is sooner.
-use Prim.Native.Nat.{◌-◌}
 use mathlib.Core.Path.{◌≡◌, ◌∙◌}
 use mathlib.Core.Bool.{true}
 use native.Mathlib.Omega.{arith}

@@ -1,5 +1,4 @@
 -- `finding::find` meets its contract. The loop's invariant: no place passed holds the id.
-use Prim.Native.Nat.{◌-◌}
 use mathlib.Core.Path.{sym}
 use mathlib.Core.Bool.{false}
 use native.Mathlib.Omega.{arith}

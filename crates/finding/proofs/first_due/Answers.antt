@@ -1,13 +1,12 @@
 -- `finding::first_due` meets its contract: no place that is passed is due.
-use Prim.Native.Nat.{◌-◌}
 use mathlib.Core.Path.{sym, ◌∙◌}
-use mathlib.Core.Bool.{false, and-false}
+use mathlib.Core.Bool.{and-false}
 use native.Mathlib.Omega.{arith}
 use lib.ListN.{get_or}
 use borrow.Author.Count.{below_more}
 use borrow.Author.Tests.{lt-leb}
 use Rattle.laws.proofs.SearchLaws.{first_is}
-use Rattle.table.specs.inner.Places.{is_taken, is_due}
+use Rattle.table.specs.inner.Places.{is_taken}
 use Rattle.finding.proofs.first_due.Goals as goal
 
 pub loop-k-init : goal.loop-k-init

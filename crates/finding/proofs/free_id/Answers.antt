@@ -1,7 +1,7 @@
 -- `finding::free_id` meets its contract. The outer loop walks over live ids, which the pigeonhole ends; the inner loop's invariant: no place passed holds the id.
-use Prim.Native.Nat.{◌+◌, ◌-◌}
+use Prim.Native.Nat.{◌+◌}
 use mathlib.Core.Path.{◌≡◌, refl, ap, sym, ◌∙◌}
-use mathlib.Core.Bool.{true, false}
+use mathlib.Core.Bool.{true}
 use native.Mathlib.Omega.{arith}
 use borrow.Author.Count.{below_more, below_none}
 use borrow.Author.Tests.{eq-eqb, ne_eqb}

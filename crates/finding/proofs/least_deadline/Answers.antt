@@ -1,5 +1,4 @@
 -- `finding::least_deadline` meets its contract: k places are passed, and `found` is the least deadline of those that are live.
-use Prim.Native.Nat.{◌-◌}
 use mathlib.Core.Path.{◌≡◌, refl}
 use mathlib.Core.Logic.{inl, inr}
 use native.Mathlib.Omega.{arith}
@@ -14,13 +13,13 @@ loop-k-init c = (omega arith, refl)
 
 pub loop-k-preserved : goal.loop-k-preserved
 loop-k-preserved c = (
-    omega arith,
-    least-turn _ _ _ _ _ _ c.loop-k.invariant.1 c.deadline_at-deadline.ensures
-        (elim c.if-deadline-found.branch [
-          then-deadline-found w ↦ inl (w.if-deadline-found.true, w.found-is)
-          | else-deadline-found w ↦ inr (w.if-deadline-found.false, w.found-is)
-        ]),
-  )
+  omega arith,
+  least-turn _ _ _ _ _ _ c.loop-k.invariant.1 c.deadline_at-deadline.ensures
+      (elim c.if-deadline-found.branch [
+        | then-deadline-found w ↦ inl (w.if-deadline-found.true, w.found-is)
+        | else-deadline-found w ↦ inr (w.if-deadline-found.false, w.found-is)
+      ]),
+)
 
 pub returns : goal.returns
 returns c =

@@ -1,5 +1,4 @@
 -- `finding::lowest_free` meets its contract. The loop's invariant: no place passed is free.
-use Prim.Native.Nat.{◌-◌}
 use mathlib.Core.Path.{sym, ◌∙◌}
 use mathlib.Core.Bool.{false}
 use native.Mathlib.Omega.{arith}

@@ -1,8 +1,8 @@
 -- `finding::next_sooner` meets its contract: no place that is passed is sooner than the one that was found.
-use Prim.Native.Nat.{◌-◌, ◌≤◌, ◌<◌}
+use Prim.Native.Nat.{◌≤◌, ◌<◌}
 use mathlib.Core.Path.{◌≡◌, ◌∙◌}
 use mathlib.Core.Logic.{⊎_elim}
-use mathlib.Core.Bool.{false, ◌&&◌}
+use mathlib.Core.Bool.{◌&&◌}
 use native.Mathlib.Omega.{arith}
 use Rattle.laws.proofs.Choice.{lt_or}
 use Rattle.laws.proofs.SpanLaws.{span_more}

@@ -1,7 +1,5 @@
 -- `finding::open_and_free` meets its contract: the loop is two scans of the places below top at once.
-use Prim.Native.Nat.{◌-◌}
 use mathlib.Core.Path.{sym, ◌∙◌}
-use mathlib.Core.Bool.{false}
 use native.Mathlib.Omega.{arith}
 use Rattle.finding.proofs.ScanLaws.{scan_starts, scan_low, scan_takes, scan_passes, scan_ends, first-takes, first_passes, free-below}
 use Rattle.finding.proofs.open_and_free.Goals as goal
@@ -19,11 +17,11 @@ loop-k-preserved c =
     let below = c.loop-k-test.true in
     let won = sym c.is_lowest_open.ensures in (
       elim c.if-is_lowest_open.branch [
-        then-is_lowest_open w ↦ scan_takes c.loop-k.invariant.0 below (won ∙ w.if-is_lowest_open.true) w.open-is
+        | then-is_lowest_open w ↦ scan_takes c.loop-k.invariant.0 below (won ∙ w.if-is_lowest_open.true) w.open-is
         | else-is_lowest_open w ↦ scan_passes c.loop-k.invariant.0 below (won ∙ w.if-is_lowest_open.false) w.open-is
       ],
       elim c.if-ids-k.branch [
-        then-ids-k w ↦ first-takes c.loop-k.invariant.1 below w.if-ids-k.true w.free-is
+        | then-ids-k w ↦ first-takes c.loop-k.invariant.1 below w.if-ids-k.true w.free-is
         | else-ids-k w ↦ first_passes c.loop-k.invariant.1 below w.if-ids-k.false w.free-is
       ],
     )

@@ -1,7 +1,5 @@
 -- `finding::skip_higher` meets its contract: no place that is passed may be sooner.
-use Prim.Native.Nat.{◌-◌}
 use mathlib.Core.Path.{sym, ◌∙◌}
-use mathlib.Core.Bool.{false}
 use native.Mathlib.Omega.{arith}
 use Rattle.laws.proofs.Choice.{or_four}
 use Rattle.laws.proofs.SpanLaws.{span_none, span_four}

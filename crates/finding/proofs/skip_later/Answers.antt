@@ -1,5 +1,4 @@
 -- `finding::skip_later` meets its contract: each place that is passed has a later deadline.
-use Prim.Native.Nat.{◌-◌}
 use native.Mathlib.Omega.{arith}
 use borrow.Author.Tests.{leb-false}
 use Rattle.laws.proofs.Choice.{or_four}

@@ -1,5 +1,5 @@
 -- `parts::end_of` meets its contract. The loop's invariant: the end lies between the start and the length, and the byte next stands where it does from the start on.
-use Rattle.std.proofs.Common.{◌-◌, arith, rules}
+use Rattle.std.proofs.Common.{arith, rules}
 use Rattle.parts.proofs.TextLaws.{end_past, end_here, end_further}
 use Rattle.parts.proofs.end_of.Goals as goal
 

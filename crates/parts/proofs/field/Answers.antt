@@ -1,5 +1,5 @@
 -- `parts::field` meets its contract. The loop's invariant: the part that is still to be reached from the place on is the k-th of the whole.
-use Rattle.std.proofs.Common.{◌-◌, drop, arith}
+use Rattle.std.proofs.Common.{drop, arith}
 use native.Mathlib.Nat.{sub-zero}
 use Rattle.parts.proofs.TextLaws.{field_further, field-here}
 use Rattle.parts.proofs.field.Goals as goal

@@ -1,5 +1,5 @@
 -- `parts::number` meets its contract. The loop's invariant: the number goes on from the value with the rest of the word.
-use Rattle.std.proofs.Common.{◌-◌, length, arith, eq-eqb, ne_eqb}
+use Rattle.std.proofs.Common.{length, arith, eq-eqb, ne_eqb}
 use Rattle.parts.proofs.TextLaws.{number_further, number_past}
 use Rattle.parts.proofs.number.Goals as goal
 

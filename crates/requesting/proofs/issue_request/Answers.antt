@@ -32,7 +32,7 @@ pub returns : goal.returns
 returns c =
     let asked = asked_so c.requires.asks c.requires.admitted.legal c.unit_of-unit.ensures in
     let after = c.close.ensures c.args.word asked.0 asked.1 _ _ _ _ _ c.issue.ensures.sound_table_2 in
-    λ join shown whole. issued_there (kept_settings c.args.timeout join c.args.tag_count c.args.tag_words.now) 
+    λ join shown whole. issued_there (kept_settings c.args.timeout join c.args.tag_count c.args.tag_words.now)
     (columns c.args.ids.now c.args.asked.now c.args.callers.now c.args.deadlines.now c.args.counts.now c.args.clients.now c.args.originals.now c.args.top.now)
     c.args.client c.args.out.now c.free_id-id.result
     c.requires.sound_table c.requires.asks c.requires.admitted.legal after.1 c.free_id-id.ensures (omega (arith, c.free_id-id.type_inv)) c.next-next.ensures

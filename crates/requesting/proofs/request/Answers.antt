@@ -19,7 +19,7 @@ came c =
 opened : (c : Else-refused-ne0)
     → let s = lent c.args.ids.now c.args.asked.now c.args.callers.now c.args.deadlines.now c.args.counts.now c.args.clients.now c.args.originals.now c.args.top.now c.args.cursor.now c.args.attached.now c.args.clock.now
     c.args.timeout.now c.args.join.now c.args.tag_count.now c.args.tag_words.now c.args.cache.now c.args.shown.now in
-      Open (machine_of s) c.args.client c.args.time c.args.frame.now c.args.out.now
+    Open (machine_of s) c.args.client c.args.time c.args.frame.now c.args.out.now
 opened c = gate_opens _ _ _ _ _ c.gate-refused.result c.gate-refused.ensures c.if-refused-ne0.false
 
 pub returns-then-refused-ne0 : goal.returns-then-refused-ne0
@@ -64,8 +64,7 @@ returns-in-Excepted c =
 
 pub returns-in-Legal : goal.returns-in-Legal
 returns-in-Legal c =
-    let served = c.serve.ensures in
-    (
+    let served = c.serve.ensures in (
       was_served (came (goal.at.returns-in-Legal c).Start) (opened (goal.at.returns-in-Legal c).Else-refused-ne0) (sym c.check.ensures ∙ c.in-Legal.is) (served.outcome c.args.attached.now),
       record { table = served.table; cursor = served.cursor c.requires.cursor; attached = c.requires.attached; settings = c.requires.settings; cache = served.cache },
       λ h. absurd (h (served_no_refusal _ _ _ _ (served.outcome c.args.attached.now))),

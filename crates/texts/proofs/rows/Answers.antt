@@ -1,5 +1,4 @@
 -- `texts::rows` meets its contract. The loop's invariant says nothing; the measure is what is left of the table.
-use Rattle.std.proofs.Common.{◌-◌}
 use Rattle.texts.proofs.rows.Goals as goal
 
 pub loop-at-init : goal.loop-at-init

@@ -1,6 +1,5 @@
 -- `values::is_valid` meets its contract: the loop over the tags decides what the definition says of the value.
 use native.Mathlib.Omega.{arith}
-use Prim.Native.Nat.{◌-◌}
 use Rattle.settings.specs.Values.{settings}
 use Rattle.settings.proofs.ValueLaws.{checked_none, checked_more, refused, few, checked_all}
 use borrow.Author.Rules.{rules}

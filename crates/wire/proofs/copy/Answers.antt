@@ -1,5 +1,4 @@
 -- `wire::copy` meets its contract. The loop's invariant: the first i bytes of s are pasted over the start of out.
-use Prim.Native.Nat.{◌-◌}
 use mathlib.Core.Path.{refl}
 use native.Mathlib.Omega.{arith}
 use lib.ListN.{length-set}

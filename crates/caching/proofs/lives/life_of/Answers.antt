@@ -1,5 +1,5 @@
 -- `caching::lives::life_of` meets its contract. The loop's invariant: what is left of the walk, from the register reached and with the smallest ttl so far, tells the life.
-use Prim.Native.Nat.{◌+◌, ◌-◌}
+use Prim.Native.Nat.{◌+◌}
 use mathlib.Core.Path.{◌≡◌, sym, ◌∙◌}
 use mathlib.Core.Bool.{true}
 use native.Mathlib.Omega.{arith}
@@ -49,7 +49,7 @@ loop-at-preserved c =
     let ttl = c.tag_ttl-ttl.ensures in
     let e : lower l.life (ttl_of (tag_of (get_or a.words.now l.i 0))) ≡ c.if-life-ttl.life =
     elim c.if-life-ttl.branch [
-        then-life-ttl x ↦ rw (rw ttl at x.if-life-ttl.true) (sym (x.life-is ∙ ttl))
+      | then-life-ttl x ↦ rw (rw ttl at x.if-life-ttl.true) (sym (x.life-is ∙ ttl))
       | else-life-ttl x ↦ rw (rw ttl at x.if-life-ttl.false) (sym x.life-is)
     ] in
     (omega arith, rw (c.last_of-last.ensures, ← e) g)

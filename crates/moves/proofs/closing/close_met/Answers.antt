@@ -1,5 +1,4 @@
 -- `moves::closing::close_met` meets its contract. The loop's invariant: the places below k are closed.
-use Prim.Native.Nat.{◌-◌}
 use mathlib.Core.Path.{◌≡◌}
 use native.Mathlib.Omega.{arith}
 use Rattle.table.proofs.ClosingLaws.{closed_none, closed_next, closed_all}

@@ -1,5 +1,4 @@
 -- `moves::ending::hand_out` meets its contract. The loop's invariant: the first j parties stand in the list, as pairs.
-use Prim.Native.Nat.{◌-◌}
 use mathlib.Core.Path.{◌≡◌, refl, sym, ◌∙◌}
 use native.Mathlib.Omega.{arith}
 use Rattle.laws.proofs.ListLaws.{length-tab}

@@ -1,5 +1,5 @@
 -- `moves::ending::last_live` meets its contract. The loop's invariant: the last live place below n is that below top.
-use Prim.Native.Nat.{◌-◌, ◌≤◌}
+use Prim.Native.Nat.{◌≤◌}
 use mathlib.Core.Path.{◌≡◌}
 use Rattle.table.specs.inner.Changes.{reach}
 use Rattle.moves.proofs.ending.last_live.Given as goal

@@ -1,5 +1,4 @@
 -- `moves::striking::strike` meets its contract. The loop's invariant: the places below k are struck.
-use Prim.Native.Nat.{◌-◌}
 use mathlib.Core.Path.{◌≡◌}
 use native.Mathlib.Omega.{arith}
 use Rattle.table.proofs.StrikeLaws.{struck-none, struck-next, struck_all}

@@ -1,5 +1,4 @@
 -- `moves::striking::strike_run` meets its contract. The loop's invariant: of the first j parties `kept` stay.
-use Prim.Native.Nat.{◌-◌}
 use mathlib.Core.Path.{◌≡◌}
 use native.Mathlib.Omega.{arith}
 use Rattle.table.proofs.StrikeLaws.{struck_out_none, struck_out_keep, struck_out_drop}
@@ -16,7 +15,7 @@ loop-j-preserved c =
     let l = c.loop-j in
     let s = l.invariant.1 in
     elim c.if-owner-client.branch [
-      then-owner-client w ↦ (
+      | then-owner-client w ↦ (
         omega arith,
         rw (w.clients-is, w.originals-is, w.kept-is)
             (struck_out_keep a.base l.j a.client l.kept a.clients.now a.originals.now l.clients l.originals s (omega arith) (omega arith) w.if-owner-client.true),

@@ -1,5 +1,5 @@
 -- `parts::hex::parse` meets its contract. The loop's invariant: the first k bytes are those of the text before the place.
-use Rattle.std.proofs.Common.{◌-◌, arith}
+use Rattle.std.proofs.Common.{arith}
 use Rattle.parts.proofs.HexLaws.{made_none, made_more, made-full, made-ended}
 use Rattle.parts.proofs.hex.parse.Goals as goal
 

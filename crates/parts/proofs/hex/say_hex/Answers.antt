@@ -1,5 +1,5 @@
 -- `parts::hex::say_hex` meets its contract. The loop's invariant: what is left of the bytes, said at the place, is said in all.
-use Rattle.std.proofs.Common.{◌+◌, ◌-◌, ◌/◌, ◌%◌, [], ◌∷◌, get_or, drop, arith}
+use Rattle.std.proofs.Common.{◌+◌, ◌/◌, ◌%◌, [], ◌∷◌, get_or, drop, arith}
 use Rattle.parts.specs.Texts.{digit, hex_of}
 use Rattle.parts.proofs.SaidLaws.{saying_none, saying_more, saying_all}
 use Rattle.parts.proofs.HexLaws.{hex_more, hex_none}

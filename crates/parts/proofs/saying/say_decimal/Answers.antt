@@ -7,4 +7,4 @@ use Rattle.parts.proofs.saying.say_decimal.Goals as goal
 pub returns : goal.returns
 returns c =
     let a = c.args in
-    c.say.ensures ∙ ap (said a.right.now a.at) (c.decimal-size.ensures.1.1 ∙ numeral-made 10 1 a.n c.decimal-size.result (omega arith) (omega arith) c.decimal-size.ensures.1.0)
+    c.say.ensures ∙ ap (said a.right.now a.at) (c.decimal-size.ensures.digits ∙ numeral-made 10 1 a.n c.decimal-size.result (omega arith) (omega arith) c.decimal-size.ensures.len)

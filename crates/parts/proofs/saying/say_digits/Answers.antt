@@ -7,4 +7,4 @@ use Rattle.parts.proofs.saying.say_digits.Goals as goal
 pub returns : goal.returns
 returns c =
     let a = c.args in
-    c.say.ensures ∙ ap (said a.right.now a.at) (c.hex-size.ensures.1.1 ∙ numeral-made 16 (min (max a.width 1) 16) a.n c.hex-size.result (omega arith) (omega arith) c.hex-size.ensures.1.0)
+    c.say.ensures ∙ ap (said a.right.now a.at) (c.hex-size.ensures.digits ∙ numeral-made 16 (min (max a.width 1) 16) a.n c.hex-size.result (omega arith) (omega arith) c.hex-size.ensures.len)

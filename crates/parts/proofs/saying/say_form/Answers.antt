@@ -1,8 +1,9 @@
 -- `parts::saying::say_form` meets its contract. The loop's invariant: what is left of the form, said at the place, is said in all.
-use Rattle.std.proofs.Common.{◌-◌, ⊎_elim, arith}
+use Rattle.std.proofs.Common.{arith}
 use Rattle.parts.specs.Said.{formed}
 use Rattle.parts.proofs.SaidLaws.{saying_none, saying_more, saying_all, formed_more, formed-none}
 use Rattle.parts.proofs.saying.say_form.Goals as goal
+use Rattle.parts.proofs.saying.say_form.Goals.{then-mark, else-mark}
 
 pub loop-k-init : goal.loop-k-init
 loop-k-init c =
@@ -14,7 +15,7 @@ loop-k-preserved c =
     let l = c.loop-k in
     let a = c.args in
     let turn = saying_more _ _ (formed_more a.form.now l.k l.n l.then a.three (omega arith)) c.say_marked-next.ensures l.invariant in
-    ⊎_elim (λ w. rw (w.1, w.2) (rw w.0.taken at turn)) (λ w. rw (w.1, w.2) (rw w.0.left at turn)) c.if-mark.branch
+    elim c.if-mark.branch [ then-mark w ↦ rw (w.n-is, w.then-is) (rw w.if-mark.true at turn) | else-mark w ↦ rw (w.n-is, w.then-is) (rw w.if-mark.false at turn) ]
 
 pub returns : goal.returns
 returns c =

@@ -1,5 +1,5 @@
 -- `parts::saying::say_marked` meets its contract, mark by mark.
-use Rattle.std.proofs.Common.{ap, ◌∙◌}
+use Rattle.std.proofs.Common.{ap, ◌∙◌, rules}
 use Rattle.parts.specs.Said.{said, marked}
 use Rattle.parts.proofs.SaidLaws.{marked_other}
 use Rattle.parts.proofs.saying.say_marked.Goals as goal
@@ -23,5 +23,4 @@ returns-in-76 c = rw c.in-76.is c.say_digits-in-76.ensures
 pub returns-in_default : goal.returns-in_default
 returns-in_default c =
     let a = c.args in
-    let r = c.in_default.rest in
-    c.say.ensures ∙ ap (said a.right.now a.at) (marked_other a.mark a.n r.0.0.0.1 r.0.0.1 r.0.1 r.1)
+    c.say.ensures ∙ ap (said a.right.now a.at) (marked_other a.mark a.n (search rules) (search rules) (search rules) (search rules))

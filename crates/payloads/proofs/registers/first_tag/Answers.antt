@@ -1,7 +1,6 @@
 -- `payloads::registers::first_tag` meets its contract: the first tag reaches start, or the last does not. The loop's invariant: no tag below low reaches start, and the one at high does.
 use Prim.Native.Nat.{◌-◌}
 use mathlib.Core.Path.{◌≡◌}
-use mathlib.Core.Bool.{true, false}
 use native.Mathlib.Omega.{arith}
 use lib.ListN.{get_or}
 use borrow.Author.Tests.{le-leb}

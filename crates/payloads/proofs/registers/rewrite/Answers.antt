@@ -66,16 +66,16 @@ loop-i-preserved c =
       omega arith,
       c.one_tag.auto.d ∙ l.invariant.1,
       elim c.match-one_tag.branch [
-        in-NotRaw w ↦
-          let p : c.match-one_tag.partial ≡ l.partial + 0 = omega (arith, w.partial-is) in
-          let v : c.match-one_tag.value ≡ l.value + 0 = omega (arith, w.value-is) in
-          rw (p, v) (more o NotRaw k w.in-NotRaw.is)
-      | in-Partial w ↦
-          let v : c.match-one_tag.value ≡ l.value + 0 = omega (arith, w.value-is) in
-          rw (w.partial-is, v) (more o Partial k w.in-Partial.is)
-      | in-Value w ↦
-          let p : c.match-one_tag.partial ≡ l.partial + 0 = omega (arith, w.partial-is) in
-          rw (p, w.value-is) (more o Value k w.in-Value.is)
+        | in-NotRaw w ↦
+            let p : c.match-one_tag.partial ≡ l.partial + 0 = omega (arith, w.partial-is) in
+            let v : c.match-one_tag.value ≡ l.value + 0 = omega (arith, w.value-is) in
+            rw (p, v) (more o NotRaw k w.in-NotRaw.is)
+        | in-Partial w ↦
+            let v : c.match-one_tag.value ≡ l.value + 0 = omega (arith, w.value-is) in
+            rw (w.partial-is, v) (more o Partial k w.in-Partial.is)
+        | in-Value w ↦
+            let p : c.match-one_tag.partial ≡ l.partial + 0 = omega (arith, w.partial-is) in
+            rw (p, w.value-is) (more o Value k w.in-Value.is)
       ],
     )
 

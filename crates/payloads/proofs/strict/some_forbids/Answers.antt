@@ -1,5 +1,4 @@
 -- `payloads::strict::some_forbids` meets its contract. The loop's invariant: no tag below i forbids the run.
-use Prim.Native.Nat.{◌-◌}
 use mathlib.Core.Path.{sym, ◌∙◌}
 use native.Mathlib.Omega.{arith}
 use Rattle.laws.proofs.SearchLaws.{first_le}

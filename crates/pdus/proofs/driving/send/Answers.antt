@@ -6,10 +6,9 @@ use Rattle.pdus.proofs.driving.send.Goals as goal
 
 pub forward-raw-requires : goal.forward-raw-requires
 forward-raw-requires c =
-    let f = c.args.frame.now in (
-      fits f c.args.out.now (sym c.is_misframed.ensures ∙ c.if-is_misframed.false) (omega (arith, c.if-out-lt-FRAME_BUFFER.false)),
-      (
-        sends f (λ k. (c.type_inv.frame k).fits) (sym c.check_request.ensures ∙ c.in-Legal.is),
-        c.tag_words-tags.ensures,
-      ),
-    )
+    let f = c.args.frame.now in
+    record {
+      framed = fits f c.args.out.now (sym c.is_misframed.ensures ∙ c.if-is_misframed.false) (omega (arith, c.if-out-lt-FRAME_BUFFER.false));
+      sent = sends f (λ k. (c.type_inv.frame k).fits) (sym c.check_request.ensures ∙ c.in-Legal.is);
+      tag_words = c.tag_words-tags.ensures;
+    }

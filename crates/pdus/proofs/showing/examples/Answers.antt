@@ -1,5 +1,4 @@
 -- `pdus::showing::examples` meets its contract. The loop's invariant says nothing; the measure is what is left of the table.
-use Prim.Native.Nat.{◌-◌}
 use Rattle.pdus.proofs.showing.examples.Goals as goal
 
 pub loop-at-init : goal.loop-at-init

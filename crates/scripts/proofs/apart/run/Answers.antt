@@ -1,5 +1,6 @@
 -- `scripts::apart::run` meets its contract: three letters are calls of their own, any other tells the state.
 use Rattle.scripts.proofs.ApartLaws.{apart_split, apart_read, apart_written, apart_state}
+use Rattle.std.proofs.Common.{rules}
 use Rattle.scripts.proofs.apart.run.Goals as goal
 
 pub returns-in-115 : goal.returns-in-115
@@ -23,6 +24,5 @@ returns-in-119 c =
 pub returns-in_default : goal.returns-in_default
 returns-in_default c =
     let a = c.args in
-    let none = c.in_default.rest in
-    let chosen = apart_state a.call.now a.bytes.now a.cursor a.clock a.attached c.letter.ensures none.0.0.1 none.0.1 none.1 in
+    let chosen = apart_state a.call.now a.bytes.now a.cursor a.clock a.attached c.letter.ensures (search rules) (search rules) (search rules) in
     rw chosen c.say_form.ensures

@@ -1,5 +1,4 @@
 -- `scripts::pieces::kept` meets its contract. The loop's invariant: what is left is all as it was exactly where the whole is.
-use Prim.Native.Nat.{◌-◌}
 use mathlib.Core.Path.{sym, ◌∙◌}
 use native.Mathlib.Omega.{arith}
 use Rattle.scripts.specs.Pieces.{kept_byte}

@@ -11,4 +11,4 @@ unfolding name_text
 returns-in-Lost c = c.say_form.ensures ∙ sym (ap (λ (x : Answer). said c.args.right.now 0 (name_text x)) c.in-Lost.is)
 
 pub returns-in_default : goal.returns-in_default
-returns-in_default c = cc (name_other c.args.answer c.in_default.keys2, ap outcome_text c.requires)
+returns-in_default c = cc (name_other c.args.answer c.in_default.not-Lost, ap outcome_text c.requires)

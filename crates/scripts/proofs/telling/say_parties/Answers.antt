@@ -1,5 +1,4 @@
 -- `scripts::telling::say_parties` meets its contract. The loop's invariant: the parties so far were said.
-use Prim.Native.Nat.{◌-◌}
 use mathlib.Core.Path.{◌≡◌, sym}
 use native.Mathlib.Omega.{arith}
 use Rattle.parts.proofs.SaidLaws.{said-nothing}

@@ -46,8 +46,8 @@ returns c =
     c.answer.ensures
     ∙ found-answered _
     (elim c.loop-k-test.branch [
-      else-loop-k-test w ↦ found_all _ _ head.ensures l _ w.loop-k-test.false (rw (w.stopped-is ∙ c.loop-k.invariant.0) at c.first_wrong-wrong.ensures)
-    | then-loop-k-test+in-WrongAt w ↦ found-stop _ _ head.ensures l _ w.loop-k-test.true _ _ (sym w.in-WrongAt.is ∙ w.tag_at.ensures l.prior l.low) (rw w.stopped-is at c.first_wrong-wrong.ensures)
+      | else-loop-k-test w ↦ found_all _ _ head.ensures l _ w.loop-k-test.false (rw (w.stopped-is ∙ c.loop-k.invariant.0) at c.first_wrong-wrong.ensures)
+      | then-loop-k-test+in-WrongAt w ↦ found-stop _ _ head.ensures l _ w.loop-k-test.true _ _ (sym w.in-WrongAt.is ∙ w.tag_at.ensures l.prior l.low) (rw w.stopped-is at c.first_wrong-wrong.ensures)
     ])
 
 pub overflow_cast-addr : goal.overflow_cast-addr

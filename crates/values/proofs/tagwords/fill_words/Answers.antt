@@ -1,5 +1,4 @@
 -- `values::tagwords::fill_words` meets its contract: the words of the tags stand in their places, the first with the mark where one is strict, and 0 in the places behind.
-use Prim.Native.Nat.{◌-◌}
 use native.Mathlib.Omega.{arith}
 use Rattle.settings.proofs.MarkLaws.{worded_none, worded_more, worded_room, worded_all, worded_marked}
 use Rattle.values.proofs.tagwords.fill_words.Goals as goal

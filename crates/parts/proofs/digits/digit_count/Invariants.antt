@@ -1,0 +1,10 @@
+-- After k digits, `rest` is what is left of n.
+use mathlib.Core.Path.{◌≡◌}
+use Prim.Native.Nat.{◌+◌, ◌-◌, ◌/◌, ◌^◌, ◌≤◌, ◌<◌}
+use Rattle.parts.proofs.digits.digit_count.Given as goal
+
+abbrev pub invariant-loop-rest : goal.invariant-loop-rest
+invariant-loop-rest l = (0 < l.k) × (l.k + l.rest < 2 ^ 64) × (l.rest ≡ l.n / l.base ^ l.k) × (1 < l.k → l.base ^ (l.k - 1) ≤ l.n)
+
+abbrev pub decreases-loop-rest : goal.decreases-loop-rest
+decreases-loop-rest l = l.rest
