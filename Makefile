@@ -1,5 +1,5 @@
 # demo proves the demonstration program, runs it on its file stdin and prints what it writes; test is the gate, which holds that to its file stdout, behind a look whether
-# a written file is stale and a proof of entry points over a struct that holds another one (tests/generate); generate writes what is written from the list of
+# a written file is stale and a proof of entry points over a struct that holds another one (tests/generate); generate writes include/zilborteka.h from the list of
 # the device's fields (crates/zilborteka/entries.txt).
 # archive proves and compiles the archive for a process; kernel-archive that one and the one for a kernel, from one module.
 # host builds the archive and runs the example host in C; host-test also compiles the header alone under four language

@@ -1,4 +1,4 @@
-"""What tools/fields.py reads of Rattle sources and of the list crates/zilborteka/entries.txt: the parameters of a function, and the fields of the device."""
+"""What tools/fields.py reads: the fields of the device, of the list crates/zilborteka/entries.txt and of the structs of Rattle sources."""
 import collections
 import functools
 import os
@@ -14,28 +14,16 @@ def text_of(path):
         return file.read()
 
 
-def pieces(text):
-    """The parts of a list that commas part, outside of brackets."""
-    parts, depth, begun = [], 0, 0
-    for at, sign in enumerate(text):
-        depth += (sign in '([{<') - (sign in ')]}>')
-        if sign == ',' and depth == 0:
-            parts.append(text[begun:at])
-            begun = at + 1
-    return [p.strip() for p in (*parts, text[begun:]) if p.strip()]
-
-
-def file_of(crates, path):
-    """The file of a function `crate::function` or `crate::module::function`."""
-    crate, *modules, _ = path.split('::')
-    return f'{crates}/{crate}/src/{"/".join(modules) or "lib"}.rt'
-
-
-def parameters(crates, path):
-    """The names of a function's parameters, in their order."""
-    found = re.search(r'^pub fn ' + path.split('::')[-1] + r'(?:<[^>]*>)?\((.*?)\)', text_of(file_of(crates, path)), re.M | re.S)
-    assert found, f'no function {path}'
-    return [p.split(':', 1)[0].strip() for p in pieces(found.group(1))]
+def members_of(crates, name):
+    """The fields of a struct of Rattle with those of its own structs in their places, in their order: names and types, where a type is u16 or u32xPLACES."""
+    files = sorted(f'{crates}/{c}/src/lib.rt' for c in os.listdir(crates))
+    body = next(m.group(1) for f in files if os.path.exists(f) for m in [re.search(r'^pub struct ' + name + r' \{\n(.*?)^\}', text_of(f), re.M | re.S)] if m)
+    for field, kind in re.findall(r'^    pub (\w+): (.*),$', body, re.M):
+        array = re.fullmatch(r'\[(\w+); numbers::(\w+)\]', kind)
+        if array or kind in WIDTHS:
+            yield field, f'{array.group(1)}x{array.group(2)}' if array else kind
+        else:
+            yield from members_of(crates, kind)
 
 
 def lines(file):

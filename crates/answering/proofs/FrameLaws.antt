@@ -4,7 +4,8 @@ use Prim.Native.Nat.{ℕ}
 use mathlib.Core.Path.{◌≡◌, ap, ◌∙◌}
 use mathlib.Core.List.{List}
 use Rattle.settings.specs.Grammar.{Tag}
-use Rattle.pdu.specs.Replies.{What, what}
+use Rattle.pdu.specs.Replies.{what}
+use Rattle.pdu.specs.declared.What.{What}
 use Rattle.pdu.specs.declared.Asked.{Asked}
 use Rattle.rewrite.specs.Rewriting.{Rewritten}
 use Rattle.rewrite.specs.Frames.{returned, under}

@@ -17,8 +17,24 @@ use Rattle.wire.proofs.FrameLaws.{framed}
 use Rattle.machine.specs.Machine.{Machine}
 use Rattle.machine.specs.Calls.Call.{reply, tick}
 use Rattle.machine.specs.Refusals.{Row, row, rows, lowest, refusal, is_untimely_at, is_dead, is_mismatched, entry_for}
+use Rattle.machine.specs.RefusalNumbers.{number_of}
+use Rattle.machine.specs.declared.Refusal.{Refusal}
+use Rattle.machine.specs.declared.Refusal.TheVariants.{Buffer, Client, Time, Frame, Function, Length, Unknown, Mismatch, Attached, Settings}
 use Rattle.machine.proofs.LowestLaws.{none-applies, Splits, split-none, split_more}
 use Rattle.proxy.specs.Gates.{reply_gate, tick_gate}
+
+-- A refusal has a number.
+pub number-positive : (r : Refusal) → number_of r ≡ 0 → ⊥
+number-positive Buffer e = omega arith
+number-positive Client e = omega arith
+number-positive Time e = omega arith
+number-positive Frame e = omega arith
+number-positive Function e = omega arith
+number-positive Length e = omega arith
+number-positive Unknown e = omega arith
+number-positive Mismatch e = omega arith
+number-positive Attached e = omega arith
+number-positive Settings e = omega arith
 
 -- the rows of a tick's gate
 abbrev early : (out list time clock : ℕ) → List Row

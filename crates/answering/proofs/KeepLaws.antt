@@ -3,20 +3,20 @@
 use Prim.Native.Nat.{ℕ, ◌≤◌}
 use mathlib.Core.Path.{◌≡◌, refl, ap, sym, ◌∙◌}
 use mathlib.Core.Logic.{⊎_elim}
-use mathlib.Core.Bool.{true, false, cond, ◌||◌, false≢true}
+use mathlib.Core.Bool.{Bool, true, false, cond, ◌||◌, false≢true}
+use mathlib.Core.Option.{Option, some, none}
 use mathlib.Core.List.{List, [], ◌∷◌}
 use native.Mathlib.Omega.{arith}
 use lib.ListN.{length, take, drop}
-use lib.Dec.{eqb}
 use lib.Seq.{take_at}
-use borrow.Author.Tests.{ne_eqb}
 use Rattle.laws.specs.Bytes.{over}
 use Rattle.laws.proofs.Choice.{true_or}
 use Rattle.wire.specs.Frame.{misframed, laid}
 use Rattle.wire.proofs.FrameLaws.{length-laid, laid-framed}
 use Rattle.settings.specs.Grammar.{Tag}
 use Rattle.settings.specs.TagWords.{Ascending}
-use Rattle.pdu.specs.Replies.{What, excepts, answering}
+use Rattle.pdu.specs.Replies.{excepts, answering}
+use Rattle.pdu.specs.declared.What.{What}
 use Rattle.pdu.specs.Words.{what_of, closed_in, Proper}
 use Rattle.pdu.specs.declared.Table.TheVariants.{Registers}
 use Rattle.pdu.specs.declared.Asked.{Asked}
@@ -47,41 +47,40 @@ laid-again [] h = absurd (omega arith)
 laid-again (a ∷ []) h = absurd (omega arith)
 laid-again (a ∷ b ∷ f) h = refl
 
+-- what is chosen of a life and none
+chosen : (b : Bool) {l m : ℕ} → some l ≡ cond b (some m) none → (b ≡ true) × (l ≡ m)
+chosen true e = (refl, cc)
+chosen false e = (cc, cc)
+
+chosen-none : (b : Bool) (m : ℕ) → none ≡ cond b (some m) none → b ≡ false
+chosen-none true m e = cc
+chosen-none false m e = refl
+
 -- a reply to a live entry, whose word says what was asked and whether it is closed, under the tags in force
 module _ (tags : List Tag) (word : ℕ) (e : Live What Note) (f : List ℕ) (asks : e.what ≡ what_of word) (noted : e.note ≡ note_of word) where
-  -- nothing is kept where it does not fill
-  unfilled : (fills tags e f ≡ true → ⊥) → 0 ≡ cond (fills tags e f) (life_of tags e.what) 0
-  unfilled n = ⊎_elim (λ (t : fills tags e f ≡ true). absurd (n t)) (λ (t : fills tags e f ≡ false). rw t refl) (true_or (fills tags e f))
+  -- for how long it is shown again, where it fills
+  abbrev pub given : Option ℕ
+  given = cond (fills tags e f) (some (life_of tags e.what)) none
 
-  -- An exception, and a reply to what is closed, has no life,
-  pub given-none : (excepts (what_of word).function f || closed_in word) ≡ true → 0 ≡ cond (fills tags e f) (life_of tags e.what) 0
+  -- nothing is given where it does not fill
+  unfilled : fills tags e f ≡ false → none ≡ given
+  unfilled t = rw t refl
+
+  unfilled-not : (fills tags e f ≡ true → ⊥) → none ≡ given
+  unfilled-not n = ⊎_elim (λ (t : fills tags e f ≡ true). absurd (n t)) unfilled (true_or (fills tags e f))
+
+  -- An exception, and a reply to what is closed, is given none,
+  pub given-none : (excepts (what_of word).function f || closed_in word) ≡ true → none ≡ given
   unfolding note_of
-  given-none t = unfilled (λ does.
+  given-none t = unfilled-not (λ does.
       let x = (fills_exactly tags e f).0 does in
       let a : excepts (what_of word).function f ≡ false = ap (λ (w : What). excepts w.function f) (sym asks) ∙ x.0 in
       let b : closed_in word ≡ false = ap (λ (n : Note). n.closed) (sym noted) ∙ x.1.0 in
       false≢true (sym (rw (a, b) refl) ∙ t))
 
-  -- nor has one to what is not cacheable,
-  pub given_other : {a : Asked} → (what_of word).asked ≡ a → cacheable_by tags a ≡ false → 0 ≡ cond (fills tags e f) (life_of tags e.what) 0
-  given_other q n = unfilled (λ does. false≢true (sym n ∙ ap (cacheable_by tags) (sym q) ∙ ap (λ (w : What). cacheable tags w) (sym asks) ∙ ((fills_exactly tags e f).0 does).1.1))
-
-  -- and any other one has the life of its read.
-  pub given_read : {a : Asked} {life : ℕ} → excepts (what_of word).function f ≡ false → closed_in word ≡ false → (what_of word).asked ≡ a
-      → life ≡ cond (cacheable_by tags a) (life_by tags a) 0 → life ≡ cond (fills tags e f) (life_of tags e.what) 0
-  unfolding note_of
-  given_read {a} x n q l =
-      let same : e.what.asked ≡ a = ap (λ (w : What). w.asked) asks ∙ q in
-      ⊎_elim
-      (λ (t : cacheable_by tags a ≡ true).
-      let does = (fills_exactly tags e f).1 (ap (λ (w : What). excepts w.function f) asks ∙ x, (ap (λ (z : Note). z.closed) noted ∙ n, ap (cacheable_by tags) same ∙ t)) in
-      l ∙ rw (t, does, same) refl)
-      (λ (t : cacheable_by tags a ≡ false). l ∙ rw t (given_other q t))
-      (true_or (cacheable_by tags a))
-
-  -- What has a life fills.
-  pub life-fills : {life : ℕ} → life ≡ cond (fills tags e f) (life_of tags e.what) 0 → (life ≡ 0 → ⊥) → fills tags e f ≡ true
-  life-fills l n = ⊎_elim (λ t. t) (λ (t : fills tags e f ≡ false). absurd (n (l ∙ rw t refl))) (true_or (fills tags e f))
+  -- and so is one to what is not cacheable.
+  pub given_other : {a : Asked} → (what_of word).asked ≡ a → cacheable_by tags a ≡ false → none ≡ given
+  given_other q n = unfilled-not (λ does. false≢true (sym n ∙ ap (cacheable_by tags) (sym q) ∙ ap (λ (w : What). cacheable tags w) (sym asks) ∙ ((fills_exactly tags e f).0 does).1.1))
 
   module _ (does : fills tags e f ≡ true) where
     -- What it fills is kept under the word of a read of registers.
@@ -102,6 +101,27 @@ module _ (tags : List Tag) (word : ℕ) (e : Live What Note) (f : List ℕ) (ask
         let r = cacheable_reads tags e.what.asked ((fills_exactly tags e f).0 does).1.1 in
         let c = (cacheable_exactly r.0 r.1 tags).0 (ap (cacheable_by tags) (sym r.2) ∙ ((fills_exactly tags e f).0 does).1.1) in
         rw r.2 (life_positive tags Registers r.0 r.1 c)
+
+  -- Any other one is given the life of its read.
+  pub given_read : {a : Asked} {life : Option ℕ} → excepts (what_of word).function f ≡ false → closed_in word ≡ false → (what_of word).asked ≡ a
+      → life ≡ cond (cacheable_by tags a) (some (life_by tags a)) none → life ≡ given
+  unfolding note_of
+  given_read {a} x n q l =
+      let same : e.what.asked ≡ a = ap (λ (w : What). w.asked) asks ∙ q in
+      ⊎_elim
+      (λ (t : cacheable_by tags a ≡ true).
+      let does = (fills_exactly tags e f).1 (ap (λ (w : What). excepts w.function f) asks ∙ x, (ap (λ (z : Note). z.closed) noted ∙ n, ap (cacheable_by tags) same ∙ t)) in
+      l ∙ rw (t, does, same) refl)
+      (λ (t : cacheable_by tags a ≡ false). l ∙ rw t (given_other q t))
+      (true_or (cacheable_by tags a))
+
+  -- What is given a life fills, and that is its life.
+  pub gives : {life : ℕ} → some life ≡ given → (fills tags e f ≡ true) × (life ≡ life_of tags e.what)
+  gives l = chosen (fills tags e f) l
+
+  -- What is given none does not.
+  pub gives-none : none ≡ given → fills tags e f ≡ false
+  gives-none l = chosen-none (fills tags e f) (life_of tags e.what) l
 
   -- what is handed out of it
   abbrev handed : List ℕ
@@ -125,19 +145,18 @@ module _ (tags : List Tag) (word : ℕ) (e : Live What Note) (f : List ℕ) (ask
           plain = ap (λ (w : What). excepts w.function (laid 0 handed)) (sym asks) ∙ laid-excepts 0 e.what.function handed handed_long ∙ same ∙ ((fills_exactly tags e f).0 does).0;
         }
 
-    -- What is left in the columns is the machine's cache after the reply.
-    pub kept_is : (m : Machine) (life value : ℕ) {after : Cache} → (settings m).tags ≡ tags → Ascending 0 tags → life ≡ cond (fills tags e f) (life_of tags e.what) 0 → value ≡ (returned tags e.what f).value
-        → after ≡ cond (eqb life 0) m.cache (filled_with (cached (what_of word) m.book.clock life value (laid 0 (laid 0 handed))) m.cache)
+    -- A place filled with it is the machine's cache after the reply,
+    pub kept_is : (m : Machine) {life value : ℕ} {after : Cache} → (settings m).tags ≡ tags → Ascending 0 tags → some life ≡ given → value ≡ (returned tags e.what f).value
+        → after ≡ filled_with (cached (what_of word) m.book.clock life value (laid 0 (laid 0 handed))) m.cache
         → after ≡ cache_after m e f
     unfolding cache_after cached_of
-    kept_is m life value force asc lives counts left =
-        ⊎_elim
-        (λ (does : fills tags e f ≡ true).
-        let l : life ≡ life_of tags e.what = lives ∙ rw does refl in
-        let some : eqb life 0 ≡ false = ne_eqb life 0 (λ z. let p = fills-lives does in omega arith) in
-        left ∙ rw (some, force, does) (ap (λ (c : Cached). filled_with c m.cache)
-        (rw (laid-again handed handed_long, ← asks, l, counts, none_partial tags asc e f does) refl)))
-        (λ (does : fills tags e f ≡ false).
-        let l : life ≡ 0 = lives ∙ rw does refl in
-        left ∙ rw (l, force, does) refl)
-        (true_or (fills tags e f))
+    kept_is m {life} {value} force asc lives counts left =
+        let does = (gives lives).0 in
+        let l = (gives lives).1 in
+        left ∙ rw (force, does) (ap (λ (c : Cached). filled_with c m.cache)
+        (rw (laid-again handed handed_long, ← asks, l, counts, none_partial tags asc e f does) refl))
+
+  -- and where nothing is given the cache stays.
+  pub kept-none : (m : Machine) → (settings m).tags ≡ tags → none ≡ given → m.cache ≡ cache_after m e f
+  unfolding cache_after
+  kept-none m force l = rw (force, gives-none l) refl

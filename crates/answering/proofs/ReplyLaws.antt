@@ -11,7 +11,8 @@ use Rattle.numbers.specs.Numbers.{places}
 use Rattle.laws.specs.Bytes.{over}
 use Rattle.laws.specs.Search.{best}
 use Rattle.wire.specs.Frame.{id_of}
-use Rattle.pdu.specs.Replies.{What, answering}
+use Rattle.pdu.specs.Replies.{answering}
+use Rattle.pdu.specs.declared.What.{What}
 use Rattle.pdu.specs.declared.ProxyId.{ProxyId}
 use Rattle.rewrite.specs.Rewriting.{Rewritten, with_counts}
 use Rattle.rewrite.specs.Frames.{returned, under}

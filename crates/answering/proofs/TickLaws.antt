@@ -10,7 +10,7 @@ use Rattle.numbers.specs.Numbers.{places, no_response}
 use Rattle.laws.specs.Bytes.{over}
 use Rattle.laws.specs.Search.{best}
 use Rattle.wire.specs.Frame.{exception}
-use Rattle.pdu.specs.Replies.{What}
+use Rattle.pdu.specs.declared.What.{What}
 use Rattle.pdu.specs.declared.ProxyId.{ProxyId}
 use Rattle.book.specs.Book.{Live, at}
 use Rattle.book.specs.Desk.{due_place}

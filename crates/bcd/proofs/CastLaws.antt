@@ -1,14 +1,14 @@
--- An `i16` from −999 to 999: its size and its sign, its negative, its casts, its two's complement word and its digits.
+-- An `i16` from −999 to 999: its size and its sign, its negative, its word and its digits.
 -- Assumes nothing.
 use Prim.Native.Nat.{ℕ, zero, suc, ◌+◌, ◌-◌, ◌≤◌, ◌<◌}
 use mathlib.Core.Path.{◌≡◌, refl, ap}
 use mathlib.Core.Bool.{true, false}
 use native.Mathlib.Omega.{arith}
-use lib.Dec.{T, leb→le, le→leb}
+use lib.Dec.{leb→le, le→leb}
 use lib.IntN.{ℤ, pos, negsuc, nat_abs, ◌-ℤ◌, +ℤ_idl}
-use lib.Signed.{le_z_yes, lt_z, non_neg}
-use mir.Syntax.{w16, w32}
-use mir.Val.{Fits, SFits, to_z, of_z}
+use lib.Signed.{le_z_yes, lt_z}
+use mir.Syntax.{w16}
+use mir.Val.{SFits, to_z, of_z}
 use mir.ValLaws.{to_z_pos, to_z-of_z}
 use borrow.Author.Tests.{ltb-true}
 use Rattle.laws.proofs.Choice.{never}
@@ -45,27 +45,7 @@ module _ (z : ℤ) (h : InThreeDigits z) where
   pub negated_fits : SFits w16 (pos 0 -ℤ z)
   negated_fits = size_fits (pos 0 -ℤ z) (size_most (pos 0 -ℤ z) (negated_within z h))
 
-  -- what a cast to an unsigned number asks
-  pub cast_fits : T (non_neg z) → T (non_neg (to_z w16 (of_z w16 z))) × Fits w32 (nat_abs (to_z w16 (of_z w16 z)))
-  cast_fits p = rw word_back (p, record { fits = omega (arith, size_most z h) })
-
 -- by the sign
-pub minus_cast : (z : ℤ) → lt_z z (pos 0) ≡ true → T (non_neg (pos 0 -ℤ z))
-minus_cast (pos n) t = absurd (omega (arith, ltb-true n 0 t))
-minus_cast (negsuc n) t = tt
-
-pub plus_cast : (z : ℤ) → lt_z z (pos 0) ≡ false → T (non_neg z)
-plus_cast (pos n) t = tt
-plus_cast (negsuc n) t = never (cc)
-
-pub minus_word : (z : ℤ) → lt_z z (pos 0) ≡ true → 65536 - nat_abs z ≡ of_z w16 z
-minus_word (pos n) t = absurd (omega (arith, ltb-true n 0 t))
-minus_word (negsuc n) t = refl
-
-pub plus_word : (z : ℤ) → lt_z z (pos 0) ≡ false → nat_abs z ≡ of_z w16 z
-plus_word (pos n) t = refl
-plus_word (negsuc n) t = never (cc)
-
 pub minus-digits : (z : ℤ) → InThreeDigits z → lt_z z (pos 0) ≡ true → packed 4 (nat_abs z) + 0xF000 ≡ with_sign z
 unfolding with_sign
 minus-digits (pos n) h t = absurd (omega (arith, ltb-true n 0 t))

@@ -11,8 +11,7 @@ use mir.Val.{to_z, of_z}
 use mir.ValLaws.{to_z_pos, to_z-neg, of_z-to_z}
 use Rattle.laws.proofs.Choice.{lt_or}
 use Rattle.bcd.specs.declared.Kind.TheVariants.{Signed16}
-use Rattle.bcd.specs.declared.Encoded.TheVariants.{Bcd}
-use Rattle.bcd.specs.declared.Decoded.TheVariants.{Binary}
+use Rattle.std.specs.Prelude.{Some}
 use Rattle.bcd.specs.Bcd.{in_range, encoded, decoded}
 use Rattle.bcd.specs.Integers.{InThreeDigits, with_sign}
 use Rattle.bcd.proofs.SignedLaws.{plus_sent, minus_sent}
@@ -26,7 +25,7 @@ upper v k l =
     ap (to_z w16) e ∙ to_z-neg w16 (65535 - v) (omega arith)
 
 -- Every integer from −999 to 999 is in range as a word, and encoded to its sign's nibble and its digits.
-pub integer_encoded : (z : ℤ) → InThreeDigits z → (in_range Signed16 (of_z w16 z) ≡ true) × (encoded Signed16 (of_z w16 z) ≡ Bcd (with_sign z))
+pub integer_encoded : (z : ℤ) → InThreeDigits z → (in_range Signed16 (of_z w16 z) ≡ true) × (encoded Signed16 (of_z w16 z) ≡ Some (with_sign z))
 unfolding encoded with_sign
 integer_encoded (pos n) h =
     let l = size_most (pos n) h in
@@ -36,7 +35,7 @@ integer_encoded (negsuc n) h =
     ((range_signed (65536 - suc n)).1 (inr (omega arith, omega arith)), minus_sent 3 (suc n) (omega arith) (omega arith))
 
 -- And back: the sign's nibble and the digits are read as the integer's word.
-pub integer_decoded : (z : ℤ) → InThreeDigits z → decoded Signed16 (with_sign z) ≡ Binary (of_z w16 z)
+pub integer_decoded : (z : ℤ) → InThreeDigits z → decoded Signed16 (with_sign z) ≡ Some (of_z w16 z)
 integer_decoded z h = encode_decode Signed16 (of_z w16 z) (with_sign z) (integer_encoded z h).1
 
 -- A word is in range exactly if its integer is from −999 to 999.
@@ -56,7 +55,7 @@ integer_range v l =
     (lt_or v 32768)
 
 -- A word in range, by its integer.
-pub integer_sent : (v : ℕ) → in_range Signed16 v ≡ true → InThreeDigits (to_z w16 v) × (encoded Signed16 v ≡ Bcd (with_sign (to_z w16 v)))
+pub integer_sent : (v : ℕ) → in_range Signed16 v ≡ true → InThreeDigits (to_z w16 v) × (encoded Signed16 v ≡ Some (with_sign (to_z w16 v)))
 integer_sent v t =
     let l : v < 65536 = ⊎_elim (λ (m : v ≤ 999). omega arith) (λ (m : (64537 ≤ v) × (v ≤ 65535)). omega arith) ((range_signed v).0 t) in
     let h = (integer_range v l).0 t in

@@ -1,15 +1,11 @@
 -- Binary coded decimal by kind of tag: how many registers, which values, and each way between a value and its digits.
 -- A tag's registers are one number, the register at the tag's address its lowest 16 bits: in binary and in BCD alike.
 -- Assumes nothing.
-use Rattle.std.specs.Prelude.{ℕ, suc, ◌+◌, ◌*◌, ◌-◌, ◌^◌, ◌/◌, ◌%◌, Bool, cond, not, ◌&&◌, ◌||◌, eqb, ltb}
+use Rattle.std.specs.Prelude.{ℕ, suc, ◌+◌, ◌*◌, ◌-◌, ◌^◌, ◌/◌, ◌%◌, Bool, cond, not, ◌&&◌, ◌||◌, eqb, ltb, Option, Some, None}
 use Rattle.numbers.specs.Numbers.{digits_per_register, signed_digits, minus}
 use Rattle.laws.specs.Digits.{digits, value, below}
 use Rattle.bcd.specs.declared.Kind.{Kind}
 use Rattle.bcd.specs.declared.Kind.TheVariants.{Width16, Width32, Signed16}
-use Rattle.bcd.specs.declared.Encoded.{Encoded}
-use Rattle.bcd.specs.declared.Encoded.TheVariants.{Bcd, OutOfRange}
-use Rattle.bcd.specs.declared.Decoded.{Decoded}
-use Rattle.bcd.specs.declared.Decoded.TheVariants.{Binary, NoNumber}
 
 -- n decimal digits, each as a hexadecimal one; and back
 unfoldable pub packed : ℕ → ℕ → ℕ
@@ -23,11 +19,11 @@ unfoldable pub decimal : ℕ → ℕ → Bool
 decimal n w = below 10 (digits 16 n w)
 
 -- n digits: values from 0 to 10 ^ n − 1
-unfoldable pub encoded_digits : ℕ → ℕ → Encoded
-encoded_digits n v = cond (ltb v (10 ^ n)) (Bcd (packed n v)) OutOfRange
+unfoldable pub encoded_digits : ℕ → ℕ → Option ℕ
+encoded_digits n v = cond (ltb v (10 ^ n)) (Some (packed n v)) None
 
-unfoldable pub decoded_digits : ℕ → ℕ → Decoded
-decoded_digits n w = cond (decimal n w) (Binary (unpacked n w)) NoNumber
+unfoldable pub decoded_digits : ℕ → ℕ → Option ℕ
+decoded_digits n w = cond (decimal n w) (Some (unpacked n w)) None
 
 -- the nibble number i of a word, the lowest first
 abbrev pub nibble : ℕ → ℕ → ℕ
@@ -44,19 +40,19 @@ is_plus n v = ltb v (10 ^ n)
 unfoldable pub is_minus : ℕ → ℕ → Bool
 is_minus n v = ltb v (16 ^ suc n) && ltb (complement n v) (10 ^ n)
 
-unfoldable pub encoded_signed : ℕ → ℕ → Encoded
+unfoldable pub encoded_signed : ℕ → ℕ → Option ℕ
 encoded_signed n v =
-    cond (is_plus n v) (Bcd (packed n v))
-    (cond (is_minus n v) (Bcd (packed n (complement n v) + minus * 16 ^ n))
-    OutOfRange)
+    cond (is_plus n v) (Some (packed n v))
+    (cond (is_minus n v) (Some (packed n (complement n v) + minus * 16 ^ n))
+    None)
 
 -- minus 0 is no number
-unfoldable pub decoded_signed : ℕ → ℕ → Decoded
+unfoldable pub decoded_signed : ℕ → ℕ → Option ℕ
 decoded_signed n w =
-    cond (not (decimal n w)) NoNumber
-    (cond (eqb (nibble n w) 0) (Binary (unpacked n w))
-    (cond (eqb (nibble n w) minus && not (eqb (unpacked n w) 0)) (Binary (complement n (unpacked n w)))
-    NoNumber))
+    cond (not (decimal n w)) None
+    (cond (eqb (nibble n w) 0) (Some (unpacked n w))
+    (cond (eqb (nibble n w) minus && not (eqb (unpacked n w) 0)) (Some (complement n (unpacked n w)))
+    None))
 
 -- the kinds: a later one is one more case of each of these four
 unfoldable pub registers : Kind → ℕ
@@ -69,12 +65,12 @@ in_range Width16 v = ltb v (10 ^ digits_per_register)
 in_range Width32 v = ltb v (10 ^ (2 * digits_per_register))
 in_range Signed16 v = is_plus signed_digits v || is_minus signed_digits v
 
-unfoldable pub encoded : Kind → ℕ → Encoded
+unfoldable pub encoded : Kind → ℕ → Option ℕ
 encoded Width16 v = encoded_digits digits_per_register v
 encoded Width32 v = encoded_digits (2 * digits_per_register) v
 encoded Signed16 v = encoded_signed signed_digits v
 
-unfoldable pub decoded : Kind → ℕ → Decoded
+unfoldable pub decoded : Kind → ℕ → Option ℕ
 decoded Width16 w = decoded_digits digits_per_register w
 decoded Width32 w = decoded_digits (2 * digits_per_register) w
 decoded Signed16 w = decoded_signed signed_digits w

@@ -1,14 +1,10 @@
 -- Words read and sent as each kind: a table of examples, and what the definitions make of one.
 -- Assumes nothing.
-use Rattle.std.specs.Prelude.{ℕ, List, [], ◌∷◌}
+use Rattle.std.specs.Prelude.{ℕ, List, [], ◌∷◌, Option, Some, None}
 use Rattle.bcd.specs.Bcd.{encoded, decoded}
 use Rattle.bcd.specs.Words.{words_of, number_of}
 use Rattle.bcd.specs.declared.Kind.{Kind}
 use Rattle.bcd.specs.declared.Kind.TheVariants.{Width16, Width32, Signed16}
-use Rattle.bcd.specs.declared.Encoded.{Encoded}
-use Rattle.bcd.specs.declared.Encoded.TheVariants.{Bcd, OutOfRange}
-use Rattle.bcd.specs.declared.Decoded.{Decoded}
-use Rattle.bcd.specs.declared.Decoded.TheVariants.{Binary, NoNumber}
 
 -- a tag is read, towards binary, or sent, towards BCD
 pub data Way : Type 0 where
@@ -25,13 +21,13 @@ pub data Outcome : Type 0 where
 pub data Example : Type 0 where
   example : Way → Kind → List ℕ → ℕ → Outcome → Example
 
-unfoldable pub of_decoded : Kind → Decoded → Outcome
-of_decoded k (Binary v) = becomes v (words_of k v)
-of_decoded k NoNumber = no_number
+unfoldable pub of_decoded : Kind → Option ℕ → Outcome
+of_decoded k (Some v) = becomes v (words_of k v)
+of_decoded k None = no_number
 
-unfoldable pub of_encoded : Kind → Encoded → Outcome
-of_encoded k (Bcd w) = becomes w (words_of k w)
-of_encoded k OutOfRange = out_of_range
+unfoldable pub of_encoded : Kind → Option ℕ → Outcome
+of_encoded k (Some w) = becomes w (words_of k w)
+of_encoded k None = out_of_range
 
 unfoldable pub outcome : Way → Kind → ℕ → Outcome
 outcome read k w = of_decoded k (decoded k w)

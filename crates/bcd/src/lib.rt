@@ -1,7 +1,7 @@
 // One tag's registers between binary and binary coded decimal, by the tag's kind.
 #![tactic(auto)]
 
-ghost use Rattle.std.specs.Prelude.{◌≡◌, true, ◌*◌, ◌<◌, nat_abs};
+ghost use Rattle.std.specs.Prelude.{◌≡◌, true, ◌*◌, ◌<◌};
 ghost use Rattle.std.specs.Int.{w16};
 ghost use Rattle.std.proofs.Common.{to_z, of_z};
 ghost use Rattle.numbers.specs.Numbers.{digits_per_register, signed_digits};
@@ -37,21 +37,8 @@ pub enum Kind {
     Signed16,
 }
 
-// A value as BCD, or the notice that the value is outside the range of the kind.
-#[derive(Clone, Copy)]
-pub enum Encoded {
-    Bcd(u32),
-    OutOfRange,
-}
-
-// The value of a BCD number, or the notice that it is no number of the kind: a nibble is above 9, or the sign is none, or it is minus 0.
-#[derive(Clone, Copy)]
-pub enum Decoded {
-    Binary(u32),
-    NoNumber,
-}
-
 // How many registers a tag of this kind has.
+#[tactic(auto, unfolding(crate::specs::Bcd::registers))]
 pub fn registers_of(kind: Kind) -> usize
     ensures { result ≡ registers kind }
 {
@@ -68,7 +55,7 @@ fn pack(n: u16) -> u16
     requires { n < 10000 }
     ensures { result ≡ packed 4 n }
 {
-    let v = n as u32;
+    let v = u32::from(n);
     let tens = v * 3277;
     let hundreds = v * 5243 / HUNDREDS * HUNDREDS;
     let thousands = v * 8389 / THOUSANDS * THOUSANDS;
@@ -89,92 +76,72 @@ fn unpack(w: u16) -> u16
 fn is_decimal(w: u16) -> bool
     ensures { result ≡ decimal 4 w }
 {
-    let n = w as u32;
+    let n = u32::from(w);
     ((n + 0x6666) ^ n) & 0x11110 == 0
 }
 
 // The digits of one register.
-fn encode_word(v: u32) -> Encoded
+fn encode_word(v: u32) -> Option<u32>
     ensures { result ≡ encoded_digits digits_per_register v }
 {
     if v < FOUR_DIGITS {
-        Encoded::Bcd(pack(v as u16) as u32)
+        Some(u32::from(pack(v as u16)))
     } else {
-        Encoded::OutOfRange
+        None
     }
 }
 
 // The digits of two registers: the low four in the low word.
-fn encode_pair(v: u32) -> Encoded
+fn encode_pair(v: u32) -> Option<u32>
     ensures { result ≡ encoded_digits (2 * digits_per_register) v }
 {
     if v < EIGHT_DIGITS {
         let low = pack((v % FOUR_DIGITS) as u16);
         let high = pack((v / FOUR_DIGITS) as u16);
-        Encoded::Bcd(low as u32 + WORDS * (high as u32))
+        Some(u32::from(low) + WORDS * u32::from(high))
     } else {
-        Encoded::OutOfRange
+        None
     }
 }
 
 // The value of one register's digits; what lies above the word is not looked at.
-fn decode_word(w: u32) -> Decoded
+fn decode_word(w: u32) -> Option<u32>
     ensures { result ≡ decoded_digits digits_per_register w }
 {
     let word = (w % WORDS) as u16;
     if is_decimal(word) {
-        Decoded::Binary(unpack(word) as u32)
+        Some(u32::from(unpack(word)))
     } else {
-        Decoded::NoNumber
+        None
     }
 }
 
 // The value of two registers' digits: the low four in the low word.
-fn decode_pair(w: u32) -> Decoded
+fn decode_pair(w: u32) -> Option<u32>
     ensures { result ≡ decoded_digits (2 * digits_per_register) w }
 {
     let low = (w % WORDS) as u16;
     let high = (w / WORDS) as u16;
-    if is_decimal(low) & is_decimal(high) {
-        Decoded::Binary(unpack(low) as u32 + FOUR_DIGITS * (unpack(high) as u32))
+    if is_decimal(low) && is_decimal(high) {
+        Some(u32::from(unpack(low)) + FOUR_DIGITS * u32::from(unpack(high)))
     } else {
-        Decoded::NoNumber
+        None
     }
 }
 
-// The value of a two's complement word in the range: a number of at most 999 is cast, and only then negated.
+// The value of a two's complement word in the range.
 fn value_of(v: u32) -> i16
     requires { in_range Kind.Signed16 v ≡ true }
     ensures { result ≡ to_z w16 v }
 {
-    if v < THREE_DIGITS {
-        v as i16
-    } else {
-        let size = (WORDS - v) as i16;
-        -size
-    }
-}
-
-// A value without its sign: a negative one is negated before its cast.
-fn size_of(value: i16) -> u32
-    requires { InThreeDigits value }
-    ensures { result ≡ nat_abs value }
-{
-    if value < 0 {
-        let size = -value;
-        size as u32
-    } else {
-        value as u32
-    }
+    (v as u16).cast_signed()
 }
 
 // The two's complement word of a value.
 fn word_of(value: i16) -> u32
-    requires { InThreeDigits value }
     ensures { result ≡ of_z w16 value }
 {
-    let size = size_of(value);
-    if value < 0 { WORDS - size } else { size }
+    u32::from(value.cast_unsigned())
 }
 
 // The sign's nibble of a value and its three digits.
@@ -182,7 +149,7 @@ fn digits_of(value: i16) -> u32
     requires { InThreeDigits value }
     ensures { result ≡ with_sign value }
 {
-    let digits = pack(size_of(value) as u16) as u32;
+    let digits = u32::from(pack(value.unsigned_abs()));
     if value < 0 {
         digits + MINUS * THREE_NIBBLES
     } else {
@@ -194,41 +161,39 @@ fn digits_of(value: i16) -> u32
 fn has_three_digits(v: u32) -> bool
     ensures { result ≡ in_range Kind.Signed16 v }
 {
-    (v < THREE_DIGITS) | (v < WORDS) & (WORDS - THREE_DIGITS < v)
+    v < THREE_DIGITS || (v < WORDS && WORDS - THREE_DIGITS < v)
 }
 
 // The sign and the digits of one register.
-fn encode_signed(v: u32) -> Encoded
+fn encode_signed(v: u32) -> Option<u32>
     ensures { result ≡ encoded_signed signed_digits v }
 {
     if has_three_digits(v) {
-        Encoded::Bcd(digits_of(value_of(v)))
+        Some(digits_of(value_of(v)))
     } else {
-        Encoded::OutOfRange
+        None
     }
 }
 
 // The value of one register's sign and digits, where minus 0 is no number; what lies above the word is not looked at.
-fn decode_signed(w: u32) -> Decoded
+fn decode_signed(w: u32) -> Option<u32>
     ensures { result ≡ decoded_signed signed_digits w }
 {
     let sign = w / THREE_NIBBLES % 16;
     let digits = (w % THREE_NIBBLES) as u16;
-    if is_decimal(digits) {
-        let size = unpack(digits);
-        if sign == 0 {
-            Decoded::Binary(word_of(size as i16))
-        } else if (sign == MINUS) & (size != 0) {
-            Decoded::Binary(word_of(-(size as i16)))
-        } else {
-            Decoded::NoNumber
-        }
-    } else {
-        Decoded::NoNumber
+    if !is_decimal(digits) {
+        return None;
+    }
+    let size = unpack(digits) as i16;
+    match sign {
+        0 => Some(word_of(size)),
+        MINUS if size != 0 => Some(word_of(-size)),
+        _ => None,
     }
 }
 
 // Whether a value is in the kind's range.
+#[tactic(auto, unfolding(crate::specs::Bcd::in_range))]
 pub fn is_in_range(kind: Kind, v: u32) -> bool
     ensures { result ≡ in_range kind v }
 {
@@ -239,8 +204,9 @@ pub fn is_in_range(kind: Kind, v: u32) -> bool
     }
 }
 
-// A value as BCD, by the kind.
-pub fn encode(kind: Kind, v: u32) -> Encoded
+// A value as BCD, by the kind; none where the value is outside its range.
+#[tactic(auto, unfolding(crate::specs::Bcd::encoded))]
+pub fn encode(kind: Kind, v: u32) -> Option<u32>
     ensures { result ≡ encoded kind v }
 {
     match kind {
@@ -250,8 +216,9 @@ pub fn encode(kind: Kind, v: u32) -> Encoded
     }
 }
 
-// The value of a BCD number, by the kind.
-pub fn decode(kind: Kind, w: u32) -> Decoded
+// The value of a BCD number, by the kind; none where it is no number of the kind: a nibble is above 9, or the sign is none, or it is minus 0.
+#[tactic(auto, unfolding(crate::specs::Bcd::decoded))]
+pub fn decode(kind: Kind, w: u32) -> Option<u32>
     ensures { result ≡ decoded kind w }
 {
     match kind {

@@ -14,7 +14,7 @@ use Rattle.laws.specs.Search.{best}
 use Rattle.laws.proofs.Choice.{true_or, eq_or, lt_or, and_left, and_right}
 use Rattle.laws.proofs.ListLaws.{get_d_repeat}
 use Rattle.laws.proofs.SearchLaws.{best-some, best_none, best_ext, best-first, best-nothing, first_found}
-use Rattle.pdu.specs.Replies.{What}
+use Rattle.pdu.specs.declared.What.{What}
 use Rattle.pdu.specs.Spoiling.{spoils}
 use Rattle.pdu.specs.Reads.{equal_reads}
 use Rattle.pdu.specs.declared.Table.{Table}

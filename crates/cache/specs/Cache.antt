@@ -4,7 +4,7 @@ use Rattle.std.specs.Prelude.{ℕ, ◌-◌, Bool, true, false, cond, not, ◌&&�
 use Rattle.std.proofs.Math.Option.{Option, some, none}
 use Rattle.numbers.specs.Numbers.{cache_places}
 use Rattle.laws.specs.Search.{best}
-use Rattle.pdu.specs.Replies.{What}
+use Rattle.pdu.specs.declared.What.{What}
 use Rattle.pdu.specs.Spoiling.{spoils}
 use Rattle.pdu.specs.Reads.{equal_reads}
 

@@ -5,7 +5,7 @@ use Rattle.std.proofs.Math.Option.{Option, some, none}
 use mathlib.Core.List.{List, Memᴰ}
 use Rattle.settings.specs.Grammar.{Tag}
 use Rattle.settings.specs.TagWords.{last_of}
-use Rattle.pdu.specs.Replies.{What}
+use Rattle.pdu.specs.declared.What.{What}
 use Rattle.pdu.specs.Reads.{equal_reads}
 use Rattle.cache.specs.Cache.{Cached, Cache, in_cache}
 use Rattle.cache.specs.Life.{ttl_of}

@@ -1,18 +1,18 @@
 -- Dropping what an issued request spoils, one place at a time, and emptying: what the cache is afterwards, and that the columns stay sound.
 -- Assumes nothing.
-use Prim.Native.Nat.{ℕ, ◌+◌, ◌≤◌, ◌<◌}
+use Prim.Native.Nat.{ℕ, ◌+◌, ◌-◌, ◌≤◌, ◌<◌}
 use mathlib.Core.Path.{◌≡◌, refl, ap, sym, ◌∙◌}
 use mathlib.Core.Logic.{⊎_elim}
 use mathlib.Core.Bool.{true, false}
 use mathlib.Core.Option.{none}
-use mathlib.Core.List.{List}
+use mathlib.Core.List.{List, ◌++◌}
 use native.Mathlib.Omega.{arith}
-use lib.ListN.{length, get_or, set, replicate, length-set, length-replicate}
-use lib.Seq.{get_or-set_same, get_or-set_other}
+use lib.ListN.{length, get_or, set, take, drop, replicate, length-set, length-replicate, length-append, length-drop, get_or-append}
+use lib.Seq.{length-take-le, get_or-take, get_or-drop, get_or-append_right, get_or-set_same, get_or-set_other}
 use lib.Dec.{eqb}
 use Rattle.laws.proofs.Choice.{true_or, eq_or, lt_or}
 use Rattle.laws.proofs.ListLaws.{tab_ext, map-tab, tab_repeat, get_d_repeat}
-use Rattle.pdu.specs.Replies.{What}
+use Rattle.pdu.specs.declared.What.{What}
 use Rattle.pdu.specs.Words.{what_of}
 use Rattle.pdu.specs.Spoiling.{spoils}
 use Rattle.pdu.specs.Reads.{is_read}
@@ -51,6 +51,22 @@ dropped_read k w cache e = record {
   done = λ p h l. rw (read_spoils_none w (what_of (get_or cache p 0)) e);
   rest = λ p l. refl;
 }
+
+-- the first numbers alone are dropped, and the others stand behind them as they stood
+pub dropped_front : (w : What) (cache₀ items : List ℕ) (b n : ℕ) → b ≤ length cache₀ → b ≤ n → DroppedTo n w (take b cache₀) items → DroppedTo b w cache₀ (items ++ drop b cache₀)
+dropped_front w cache₀ items b n h m d =
+    let size : length items ≡ b = d.long ∙ length-take-le b cache₀ h in
+    record {
+      long = length-append items (drop b cache₀) ∙ omega (arith, size, length-drop b cache₀);
+      done = λ p l q.
+          get_or-append items (drop b cache₀) 0 p (omega (arith, size))
+          ∙ d.done p (omega arith) (omega (arith, length-take-le b cache₀ h))
+          ∙ rw (get_or-take b cache₀ p 0 l);
+      rest = λ p l.
+          get_or-append_right items (drop b cache₀) p 0 (omega (arith, size))
+          ∙ get_or-drop b cache₀ (p - length items) 0
+          ∙ ap (λ i. get_or cache₀ i 0) (omega (arith, size));
+    }
 
 -- Once the places below the bound are dropped, the cache has what is spoiled dropped, and the columns are sound.
 module _ (w : What) (cache₀ cache : List ℕ) (d : DroppedTo (bound_in cache₀) w cache₀ cache) (shown : List ℕ) (s : SoundCache cache₀ shown) where

@@ -5,17 +5,17 @@ use mathlib.Core.Path.{◌≡◌, ap, sym, ◌∙◌}
 use mathlib.Core.Logic.{⊎_elim, ◌⊎◌, inl, inr}
 use mathlib.Core.Bool.{true, false, true≢false}
 use mathlib.Core.Option.{some}
-use mathlib.Core.List.{List, ◌∷◌, ◌++◌, append_assoc, append-nil}
+use mathlib.Core.List.{List, ◌∷◌, ◌++◌, append_assoc}
 use native.Mathlib.Omega.{arith}
-use lib.ListN.{length, get_or, set, take, drop, length-take, length-drop, length-set, drop_of_length-le}
+use lib.ListN.{length, get_or, set, take, drop, length-take, length-drop, length-set}
 use lib.Seq.{take_all, take_at, drop_at, drop-drop, drop-cons, length-take-le, get_or-take, get_or-drop, get_or-set_same, get_or-set_other, ext_get_or, sets-eq}
 use lib.Dec.{eqb}
 use borrow.Author.Tests.{ne_eqb, eqb-false}
-use Rattle.laws.specs.Bytes.{over, over_at}
+use Rattle.laws.specs.Bytes.{over_at}
 use Rattle.laws.proofs.Choice.{true_or, eq_or, lt_or}
 use Rattle.laws.proofs.ByteLaws.{length-over_at}
 use Rattle.laws.proofs.ListLaws.{tab-set}
-use Rattle.laws.proofs.StoreLaws.{sets_out}
+use Rattle.laws.proofs.StoreLaws.{sets_out, sets_in}
 use Rattle.wire.specs.Frame.{laid}
 use Rattle.wire.proofs.FrameLaws.{framed}
 use Rattle.pdu.specs.Words.{what_of}
@@ -27,11 +27,21 @@ use Rattle.caching.proofs.KeptLaws.{key_asks, key_reads, key_bytes, word_there}
 
 -- PARTS OF A BUFFER
 
--- Bytes written over the start of what stands from a byte on, and that put back.
-pub laid_part : (s d : List ℕ) (at : ℕ) → at + length s ≤ length d → take at d ++ (over s (take (length d - at) (drop at d)) ++ drop (length d - at) (drop at d)) ≡ over_at s at d
-laid_part s d at h =
-    let l : length (drop at d) ≤ length d - at = omega (arith, length-drop at d) in
-    rw (take_all (length d - at) (drop at d) l, drop_of_length-le (drop at d) l, append-nil (s ++ drop (length s) (drop at d)), drop-drop (length s) at d) (sym (append_assoc (take at d) s (drop (at + length s) d)))
+-- Bytes that take the place of as many from a byte on.
+pub laid_mid : (s d : List ℕ) (at n : ℕ) → n ≡ length s → take at d ++ (s ++ drop n (drop at d)) ≡ over_at s at d
+laid_mid s d at n e = rw (e, drop-drop (length s) at d) (sym (append_assoc (take at d) s (drop (at + length s) d)))
+
+-- Bytes laid over bytes are bytes.
+pub laid_low : (s d : List ℕ) (at : ℕ) → at + length s ≤ length d → ((k : ℕ) → get_or s k 0 < 256) → ((k : ℕ) → get_or d k 0 < 256) → (k : ℕ) → get_or (over_at s at d) k 0 < 256
+laid_low s d at h low below k =
+    rw (← sets-eq s d at h)
+    (⊎_elim
+    (λ (l : k < at). rw (sets_out s d at k 0 (inl l)) (below k))
+    (λ (l : at ≤ k). ⊎_elim
+    (λ (m : k < at + length s). let e : at + (k - at) ≡ k = omega arith in rw (← e, sets_in s d at (k - at) 0 (omega arith) h) (low (k - at)))
+    (λ (m : at + length s ≤ k). rw (sets_out s d at k 0 (inr m)) (below k))
+    (lt_or k (at + length s)))
+    (lt_or k at))
 
 -- All that is behind the first bytes.
 pub part_rest : (f : List ℕ) (n : ℕ) → take (length f - n) (drop n f) ≡ drop n f

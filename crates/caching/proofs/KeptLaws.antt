@@ -3,16 +3,21 @@
 use Prim.Native.Nat.{ℕ, ◌+◌, ◌*◌, ◌/◌, ◌%◌, ◌≤◌, ◌<◌}
 use mathlib.Core.Path.{◌≡◌, refl, ap, sym, ◌∙◌}
 use mathlib.Core.Logic.{⊎_elim, ◌⊎◌}
-use mathlib.Core.Bool.{true, false, cond, not, ◌&&◌}
+use mathlib.Core.Bool.{Bool, true, false, cond, not, ◌&&◌}
 use mathlib.Core.Option.{none}
 use mathlib.Core.List.{List}
 use native.Mathlib.Omega.{arith}
 use lib.Dec.{eqb, ltb}
+use lib.ListN.{length, get_or, take}
+use lib.Seq.{length-take-le, get_or-take}
+use Rattle.std.specs.List.{position, position_or_len}
+use Rattle.std.proofs.lemmas.List.Sums.{fails_before_first, passes_at_first}
+use Rattle.laws.specs.Options.{place_or}
 use borrow.Author.Tests.{eq-eqb, ne_eqb, eqb-true, eqb-false, lt-ltb, le-ltb}
 use Rattle.laws.specs.Search.{best}
 use Rattle.laws.proofs.Choice.{true_or, lt_or, or_left, same_test}
 use Rattle.laws.proofs.ListLaws.{get_d_tab}
-use Rattle.laws.proofs.SearchLaws.{best_wins, best_stays, best_ext, best-some, best_none, best-nothing, best_cut, first_cut}
+use Rattle.laws.proofs.SearchLaws.{best_wins, best_stays, best_ext, best-some, best_none, best-nothing, best_cut, first_found}
 use Rattle.pdu.specs.Reads.{equal_reads}
 use Rattle.pdu.specs.Words.{asked_from, word_of, what_of, Lawful}
 use Rattle.pdu.specs.declared.Table.TheVariants.{Registers}
@@ -21,7 +26,7 @@ use Rattle.pdu.proofs.RequestLaws.{class_read, known}
 use Rattle.pdu.proofs.ReadLaws.{equal_exact, equal_self}
 use Rattle.cache.specs.Cache.{in_cache, has_key, is_fresh, hit_place, own_place, spare_place, oldest_place, taken_place}
 use Rattle.cache.proofs.CacheLaws.{hit_is_own}
-use Rattle.caching.specs.Kept.{word_at, time_at, bound_in, bytes_of, cached_at, cache_of, Word, Key, Bounded, SoundCache, has_word, lasts, is_spare, is_earlier}
+use Rattle.caching.specs.Kept.{word_at, time_at, bound_in, bytes_of, cached_at, cache_of, Word, Key, SoundCache, has_word, lasts, is_spare, is_earlier}
 
 -- WHAT A KEY IS
 
@@ -138,12 +143,6 @@ module _ (cache shown : List ℕ) (s : SoundCache cache shown) where
     unfolding taken_place
     taken_oldest {own} {spare} e l f m g =
         rw (← own_found word w, ← e, le-ltb own 64 l, ← spare_found time, ← f, le-ltb spare 64 m) (g ∙ oldest_found time (rw (← f) m))
-
--- Where no place below the bound is empty or expired, the bound is the lowest that is empty, or there is none.
-pub spare_bound : (cache : List ℕ) (time : ℕ) → Bounded cache → ((k : ℕ) → k < bound_in cache → is_spare cache time k ≡ false) → bound_in cache ≡ best (is_spare cache time) (λ j k. false) 64 64
-spare_bound cache time b none_below =
-    sym (first_cut (is_spare cache time) (bound_in cache) 64 b.low (λ k m l. rw (b.above k m l))
-    ∙ best-nothing (is_spare cache time) (λ j k. false) (bound_in cache) (bound_in cache) none_below)
 
 -- A turn of the search for the oldest: a place that was filled earlier than what was found, or not.
 pub oldest_turn : (cache : List ℕ) (k found : ℕ) {r : ℕ} → k < 64 → found < k → found ≡ best (λ k. true) (is_earlier cache) 64 k

@@ -7,7 +7,8 @@ use Rattle.laws.specs.Bytes.{pair_of}
 use Rattle.laws.specs.Lists.{tab}
 use Rattle.wire.specs.Frame.{misframed}
 use Rattle.pdu.specs.Requests.{bytes_for}
-use Rattle.pdu.specs.Replies.{What, excepts, answering}
+use Rattle.pdu.specs.Replies.{excepts, answering}
+use Rattle.pdu.specs.declared.What.{What}
 use Rattle.pdu.specs.Spoiling.{spoils}
 use Rattle.pdu.specs.Words.{word_of, what_of, Proper}
 use Rattle.pdu.specs.declared.Asked.{Asked}

@@ -1,10 +1,11 @@
 // What was asked as one word, and from its word again.
+#![tactic(auto, unfolding(pdu::specs::Words::asked_bits, pdu::specs::Words::asked_from, pdu::specs::Words::word_of, pdu::specs::Words::what_of, pdu::specs::Words::closed_in, pdu::specs::Words::entry_of))]
+
 ghost use Rattle.std.specs.Prelude.{◌≡◌, ◌%◌, ◌<◌};
 ghost use Rattle.laws.specs.Bits.{with};
-ghost use Rattle.pdu.specs.Replies.{what};
 ghost use Rattle.pdu.specs.Words.{asked_bits, asked_from, word_of, what_of, closed_bit, closed_in, what_in, entry_of};
 
-use pdu::{Asked, Class, Entry, ProxyId};
+use pdu::{Asked, Class, Entry, ProxyId, What};
 
 // A word of what was asked: unit and function above 48 bits, in which a class keeps fields of 16 bits.
 const BYTES: u64 = 256;
@@ -25,20 +26,16 @@ fn asked_bits(asked: Asked) -> u64
 {
     match asked {
         Asked::Read {
-            table: _,
             start,
             quantity,
-        } => start as u64 * FIELDS + quantity as u64,
-        Asked::SingleWrite {
-            table: _,
-            address,
-            value,
-        } => address as u64 * FIELDS + value as u64,
-        Asked::MultipleWrite {
-            table: _,
+            ..
+        }
+        | Asked::MultipleWrite {
             start,
             quantity,
+            ..
         } => start as u64 * FIELDS + quantity as u64,
+        Asked::SingleWrite { address, value, .. } => address as u64 * FIELDS + value as u64,
         Asked::MaskWrite {
             address,
             and_mask,
@@ -58,31 +55,11 @@ fn asked_bits(asked: Asked) -> u64
 }
 
 // What was asked as one word.
-pub fn word_of(unit: u8, function: u8, asked: Asked) -> u64
-    ensures { result ≡ word_of (what unit function asked) }
+pub fn word_of(what: What) -> u64
+    ensures { result ≡ word_of what }
 {
-    let bits = asked_bits(asked);
-    (unit as u64 * BYTES + function as u64) * KEPT + bits
-}
-
-// The lowest 8 bits, and the lowest 16.
-fn low_byte(n: u64) -> u8
-    ensures { result ≡ n % 256 }
-{
-    (n % BYTES) as u8
-}
-
-fn low_field(n: u64) -> u16
-    ensures { result ≡ n % 65536 }
-{
-    (n % FIELDS) as u16
-}
-
-// The lowest 7 bits.
-fn low_quantity(n: u64) -> u16
-    ensures { result ≡ n % 128 }
-{
-    (n % QUANTITIES) as u16
+    let bits = asked_bits(what.asked);
+    (what.unit as u64 * BYTES + what.function as u64) * KEPT + bits
 }
 
 // What 23 asked, from what it kept: two starts, and a quantity below each.
@@ -92,10 +69,10 @@ fn read_write_from(bits: u64) -> Asked
     let write = bits / QUANTITIES;
     let read = write / FIELDS;
     Asked::ReadWrite {
-        start: low_field(read / QUANTITIES),
-        quantity: low_quantity(read),
-        write_start: low_field(write),
-        write_quantity: low_quantity(bits),
+        start: (read / QUANTITIES % FIELDS) as u16,
+        quantity: (read % QUANTITIES) as u16,
+        write_start: (write % FIELDS) as u16,
+        write_quantity: (bits % QUANTITIES) as u16,
     }
 }
 
@@ -103,8 +80,8 @@ fn read_write_from(bits: u64) -> Asked
 fn asked_from(class: Class, bits: u64) -> Asked
     ensures { result ≡ asked_from class bits }
 {
-    let first = low_field(bits / FIELDS);
-    let second = low_field(bits);
+    let first = (bits / FIELDS % FIELDS) as u16;
+    let second = (bits % FIELDS) as u16;
     match class {
         Class::Reads(table) => Asked::Read {
             table,
@@ -122,7 +99,7 @@ fn asked_from(class: Class, bits: u64) -> Asked
             quantity: second,
         },
         Class::Masks => Asked::MaskWrite {
-            address: low_field(bits / FIELDS / FIELDS),
+            address: (bits / FIELDS / FIELDS % FIELDS) as u16,
             and_mask: first,
             or_mask: second,
         },
@@ -131,30 +108,42 @@ fn asked_from(class: Class, bits: u64) -> Asked
     }
 }
 
-// The unit, the function and what was asked, from their word.
+// What was asked, from its word.
+pub fn what_of(word: u64) -> What
+    ensures { result ≡ what_of word }
+{
+    let function = function_in(word);
+    What {
+        unit: unit_in(word),
+        function,
+        asked: asked_from(pdu::class_of(function), word % KEPT),
+    }
+}
+
+// The unit, the function and what was asked, each by itself.
 pub fn unit_in(word: u64) -> u8
     ensures { result ≡ (what_of word).unit }
 {
-    low_byte(word / KEPT / BYTES)
+    (word / KEPT / BYTES % BYTES) as u8
 }
 
 pub fn function_in(word: u64) -> u8
     ensures { result ≡ (what_of word).function }
 {
-    low_byte(word / KEPT)
+    (word / KEPT % BYTES) as u8
 }
 
 pub fn asked_in(word: u64) -> Asked
     ensures { result ≡ (what_of word).asked }
 {
-    asked_from(pdu::class_of(function_in(word)), word % KEPT)
+    what_of(word).asked
 }
 
 // Whether a word is that of a read and has bit 32, and the word with it.
 pub fn is_closed(word: u64) -> bool
     ensures { result ≡ closed_in word }
 {
-    pdu::is_read(asked_in(word)) & (word / CLOSED % 2 == 1)
+    pdu::is_read(asked_in(word)) && word / CLOSED % 2 == 1
 }
 
 pub fn closed_word(word: u64) -> u64
@@ -167,12 +156,9 @@ pub fn closed_word(word: u64) -> u64
 pub fn entry_of(id: ProxyId, word: u64, deadline: u64) -> Entry
     ensures { result ≡ entry_of id word deadline }
 {
-    let asked = asked_in(word);
     Entry {
         id,
-        unit: unit_in(word),
-        function: function_in(word),
-        asked,
+        what: what_of(word),
         deadline,
     }
 }
@@ -180,6 +166,5 @@ pub fn entry_of(id: ProxyId, word: u64, deadline: u64) -> Entry
 pub fn word_of_entry(e: Entry) -> u64
     ensures { result ≡ word_of (what_in e) }
 {
-    let asked = e.asked;
-    word_of(e.unit, e.function, asked)
+    word_of(e.what)
 }

@@ -9,9 +9,10 @@ ghost use Rattle.state_by_value.specs.States.{MadeState};
 
 use parts::input::read_full;
 use parts::output::Output;
+use parts::saying::Saying;
 use parts::tally::Tally;
-use parts::{before, end_of, field, head, number, rest, tally};
-use running::{Ran, run};
+use parts::{before, field, head, number, rest, tally};
+use running::run;
 use state_by_value::State;
 use std::io;
 
@@ -33,23 +34,29 @@ fn start(tally: Tally) -> Session
     Session { state, tally }
 }
 
-// The calls of a row, the call of which "x62 " before it makes 62; of the last one alone it is said what came of it.
-fn repeat(state: State, right: &[u8], call: &[u8], output: &mut Output) -> Ran
+// A call of which nothing is said.
+fn unsaid(state: State, call: &[u8], output: &mut Output) -> State
     requires { MadeState state }
-    ensures { MadeState result.state }
+    ensures { MadeState result }
+{
+    let mut said = Saying::new(&[], output);
+    run(state, call, &mut said)
+}
+
+// The calls of a row, the call of which "x62 " before it makes 62; of the last one alone it is said what came of it.
+fn repeat(state: State, call: &[u8], said: &mut Saying) -> State
+    requires { MadeState state }
+    ensures { MadeState result }
 {
     if wire::byte_at(call, 0) != b'x' {
-        return run(state, right, call, output);
+        return run(state, call, said);
     }
-    let times = number(head(call, b' '), 1);
     let once = rest(call, b' ');
-    let mut ran = Ran { state, at: 0 };
-    let mut k: u64 = 1;
-    while k < times {
-        ran = run(ran.state, before(right, 0), once, output);
-        k += 1;
+    let mut made = state;
+    for _ in 1..number(head(call, b' '), 1) {
+        made = unsaid(made, once, said.output);
     }
-    run(ran.state, right, once, output)
+    run(made, once, said)
 }
 
 fn row(s: Session, row: &[u8], output: &mut Output) -> Session
@@ -60,11 +67,10 @@ fn row(s: Session, row: &[u8], output: &mut Output) -> Session
         return s;
     }
     let call = field(row, b'|', 1);
-    let right = field(row, b'|', 2);
     scripts::print_call(field(row, b'|', 0), call, output);
-    let ran = repeat(s.state, right, call, output);
-    let tally = tally::ended(s.tally, right, ran.at, output);
-    let state = ran.state;
+    let mut said = Saying::new(field(row, b'|', 2), output);
+    let state = repeat(s.state, call, &mut said);
+    let tally = s.tally.ended(said);
     Session { state, tally }
 }
 
@@ -74,11 +80,8 @@ fn play(s: Session, table: &[u8], output: &mut Output) -> Session
     ensures { MadeState result.state }
 {
     let mut session = s;
-    let mut at: usize = 0;
-    while at < table.len() {
-        let end = end_of(table, at, b'\n');
-        session = row(session, &table[at..end], output);
-        at = end + 1;
+    for line in table.split(|byte| *byte == b'\n') {
+        session = row(session, line, output);
     }
     session
 }
@@ -86,7 +89,7 @@ fn play(s: Session, table: &[u8], output: &mut Output) -> Session
 // Plays the table, and says how many rows there were and how many of them differ.
 fn main(rt: HostRuntime) -> io::Result<()> {
     let mut output = Output::new(rt.stdout());
-    parts::tally::print_line(
+    tally::print_line(
         b"",
         b"a call = its outcome, proxy id, tags raw for partial cover and for value: frame to client,id of each party",
         &mut output,
@@ -94,10 +97,10 @@ fn main(rt: HostRuntime) -> io::Result<()> {
     let mut buffer = [0u8; 65536];
     let size = read_full(&mut rt.stdin(), &mut buffer)?;
     let s = play(
-        start(tally::start(size, &buffer)),
+        start(Tally::start(size, &buffer)),
         before(&buffer, size),
         &mut output,
     );
-    tally::print(b"demo: ", s.tally, b" shown, ", &mut output);
+    s.tally.print(b"demo: ", b" shown, ", &mut output);
     output.end()
 }

@@ -2,23 +2,16 @@
 ghost use Rattle.state_by_value.specs.States.{MadeState};
 
 use parts::hex::parse;
-use parts::output::Output;
+use parts::saying::Saying;
 use parts::{before, behind, field, head, number, rest};
 use scripts::apart;
-use scripts::naming::{length_in, letter, value_in};
+use scripts::naming::{Call, length_in, value_in};
 use scripts::telling::{KEPT, KEPT_PLACE, tell};
 use state_by_value::State;
 use state_by_value::calls::Stepped;
 
 // How many places the list has of which a call is lent the start: some more than it needs.
 const LISTED: usize = numbers::LIST_BUFFER + 4;
-
-// The state afterwards, and how far what came of the call is what must come of it.
-#[derive(Drop)]
-pub struct Ran {
-    pub state: State,
-    pub at: usize,
-}
 
 // The number that is the k-th word of a call, counted from 0.
 fn number_in(call: &[u8], k: usize) -> u64 {
@@ -32,13 +25,13 @@ fn step(state: State, call: &[u8], frame: &[u8], out: &mut [u8], list: &mut [u16
 {
     let client = (number_in(call, 1) % 4294967296) as u32;
     let time = number_in(call, 2);
-    match letter(call) {
-        b'f' => state_by_value::calls::fresh(value_in(call)),
-        b'a' => state_by_value::calls::attach(state, client),
-        b'd' => state_by_value::calls::detach(state, client),
-        b'Q' => request_by_value::request(state, client, number_in(call, 3), frame, out),
-        b'P' => reply_by_value::reply(state, time, frame, out, list),
-        b't' => tick_by_value::tick(state, time, out, list),
+    match Call::named(call) {
+        Call::Fresh => state_by_value::calls::fresh(value_in(call)),
+        Call::Attach => state_by_value::calls::attach(state, client),
+        Call::Detach => state_by_value::calls::detach(state, client),
+        Call::Request => request_by_value::request(state, client, number_in(call, 3), frame, out),
+        Call::Reply => reply_by_value::reply(state, time, frame, out, list),
+        Call::Tick => tick_by_value::tick(state, time, out, list),
         _ => state_by_value::calls::link_lost(state),
     }
 }
@@ -60,9 +53,9 @@ fn lend(state: State, call: &[u8], frame: &[u8], out: &mut [u8], list: &mut [u16
 }
 
 // A call on the state, in buffers that are filled before it and looked at as a whole behind it.
-fn run_call(state: State, right: &[u8], call: &[u8], bytes: &[u8], output: &mut Output) -> Ran
+fn run_call(state: State, call: &[u8], bytes: &[u8], said: &mut Saying) -> State
     requires { MadeState state }
-    ensures { MadeState result.state }
+    ensures { MadeState result }
 {
     let mut frame = [0u8; 300];
     let parsed = parse(bytes, &mut frame);
@@ -70,31 +63,21 @@ fn run_call(state: State, right: &[u8], call: &[u8], bytes: &[u8], output: &mut 
     let mut out = [KEPT; 300];
     let mut list = [KEPT_PLACE; LISTED];
     let r = lend(state, call, before(&frame, size), &mut out, &mut list);
-    let state = r.state;
-    let answer = r.answer;
-    let at = tell(right, answer, &out, &list, output);
-    Ran { state, at }
+    tell(said, r.answer, &out, &list);
+    r.state
 }
 
 // A call, with what came of it said.
-pub fn run(state: State, right: &[u8], row: &[u8], output: &mut Output) -> Ran
+pub fn run(state: State, row: &[u8], said: &mut Saying) -> State
     requires { MadeState state }
-    ensures { MadeState result.state }
+    ensures { MadeState result }
 {
     let call = head(row, b':');
     let bytes = behind(rest(row, b':'), 1);
     if !apart::leaves(call) {
-        return run_call(state, right, call, bytes, output);
+        return run_call(state, call, bytes, said);
     }
     let cursor = state.cursor.0;
-    let at = apart::run(
-        right,
-        call,
-        bytes,
-        cursor,
-        state.clock,
-        state.attached,
-        output,
-    );
-    Ran { state, at }
+    apart::run(said, call, bytes, cursor, state.clock, state.attached);
+    state
 }

@@ -14,22 +14,22 @@ use Rattle.table.specs.inner.Changes.{Runs}
 use Rattle.table.specs.inner.Places.{is_taken}
 use Rattle.table.proofs.EntryLaws.{runs_of}
 use Rattle.table.proofs.FindLaws.{next_time, next_live}
-use Rattle.proxy.specs.State.{State, value_in, machine_of}
+use Rattle.proxy.specs.State.{State, state_of, value_in, machine_of}
+use Rattle.proxy.specs.declared.Device.{Device}
 use Rattle.proxy.proofs.MakingLaws.{zeros_sound}
-use Rattle.device.specs.declared.Device.{Device}
-use Rattle.device.specs.Fields.{device, state_of, zeros, state_size}
+use Rattle.device.specs.Fields.{device, zeros, state_size}
 use Rattle.device.specs.Device.{MadeDevice, Awaited}
-use Rattle.device.proofs.Device.TheLaws.{mir}
+use Rattle.proxy.proofs.Device.TheLaws.{mir}
 
-pub may_detach : (d : Device) → MadeDevice d → Runs d.counts d.clients d.originals × (d.top ≤ places)
+pub may_detach : (d : Device) → MadeDevice d → Runs d.table.counts d.table.clients d.table.originals × (d.table.top ≤ places)
 may_detach d made = (runs_of (state_of d).table made.table, made.table.within)
 
-pub may_await : (d : Device) → MadeDevice d → d.top ≤ places
+pub may_await : (d : Device) → MadeDevice d → d.table.top ≤ places
 may_await d made = made.table.within
 
 -- The least deadline of the live places, and how many they are, are when the host has to tick next.
 pub awaited : (d : Device) → MadeDevice d → {n : NextDeadline}
-    → (n.time ≡ least (is_taken d.ids) (λ k. get_or d.deadlines k 0) no_deadline d.top) × (n.live ≡ count (is_taken d.ids) d.top)
+    → (n.time ≡ least (is_taken d.table.ids) (λ k. get_or d.table.deadlines k 0) no_deadline d.table.top) × (n.live ≡ count (is_taken d.table.ids) d.table.top)
     → Awaited d n
 awaited d made found =
     let s = state_of d in

@@ -6,10 +6,9 @@ use Rattle.machine.specs.Calls.{Call}
 use Rattle.machine.specs.declared.Report.{Report}
 use Rattle.machine.specs.declared.NextDeadline.{NextDeadline}
 use Rattle.machine.specs.Waiting.{next_deadline}
-use Rattle.proxy.specs.State.{machine_of, SoundState}
+use Rattle.proxy.specs.State.{machine_of, state_of, SoundState}
 use Rattle.proxy.specs.Calls.{Told, FreshlyTold}
-use Rattle.device.specs.declared.Device.{Device}
-use Rattle.device.specs.Fields.{state_of}
+use Rattle.proxy.specs.declared.Device.{Device}
 
 -- every device that these calls made
 abbrev pub MadeDevice : Device → Type 0

@@ -13,7 +13,7 @@ use Rattle.numbers.specs.Numbers.{ids, places}
 use Rattle.laws.specs.Circle.{turn, gap}
 use Rattle.laws.proofs.Choice.{true_or, eq_or, or_second}
 use Rattle.laws.proofs.PigeonLaws.{crowd}
-use Rattle.laws.proofs.CircleLaws.{turn_inj, turn_gap, gap-low, turn_low, gap-none, gap-next}
+use Rattle.laws.proofs.CircleLaws.{turn_inj, turn_gap, gap-low, turn_low, gap-next}
 use Rattle.table.specs.inner.Places.{holds, live_id, free_id_from}
 use Rattle.laws.proofs.SearchLaws.{first_is}
 
@@ -55,10 +55,6 @@ module _ (is : List ℕ) (top cursor : ℕ) where
   crowded n h l b =
       crowd top n is (λ j. turn ids (cursor + j) + 1) (λ j z. live_place_lem is top _ (b j z))
       (λ i j p q e. turn_inj ids cursor i j h (omega arith) (omega arith) (omega arith))
-
-  -- The search starts at the cursor.
-  pub walk_starts : cursor < ids → Walk is top cursor cursor
-  walk_starts h = record { start = h; here = h; passed = λ j l. absurd (omega (arith, gap-none ids cursor h)) }
 
   module _ {id : ℕ} (small : top ≤ places) (w : Walk is top cursor id) where
     -- It has passed no more ids than there are places.

@@ -1,28 +1,22 @@
 -- What a scan of the places has found so far, turn by turn, and what it has found when it stops.
 -- Assumes nothing.
-use Prim.Native.Nat.{ℕ, ◌+◌, ◌-◌, ◌≤◌, ◌<◌}
+use Prim.Native.Nat.{ℕ, ◌+◌, ◌≤◌, ◌<◌}
 use mathlib.Core.Path.{◌≡◌, refl, sym, ◌∙◌}
 use mathlib.Core.Logic.{⊎_elim}
-use mathlib.Core.Bool.{Bool, true, false, ◌&&◌, ◌||◌, and-true, or-false}
-use mathlib.Core.List.{List}
+use mathlib.Core.Bool.{Bool, true, false, ◌&&◌, ◌||◌}
+use mathlib.Core.List.{List, [], ◌∷◌}
 use native.Mathlib.Omega.{arith}
-use lib.ListN.{get_or}
-use lib.Dec.{eqb, ltb, leb}
-use borrow.Author.Tests.{eq-eqb, ne_eqb, eqb-false, leb-true, not-true}
+use lib.ListN.{get_or, length}
+use lib.Dec.{eqb, ltb}
+use borrow.Author.Tests.{lt-ltb, le-ltb, eq-eqb, leb-true}
 use Rattle.numbers.specs.Numbers.{places}
-use Rattle.laws.specs.Search.{best}
-use Rattle.laws.proofs.Choice.{and_right}
-use Rattle.laws.proofs.SearchLaws.{best_in, best_wins, best_stays, first_cut}
-use Rattle.laws.proofs.SoonerLaws.{sooner_come, later-not, sooner-by, higher_not}
-use Rattle.table.specs.inner.Places.{is_free, is_taken, is_due, is_sooner, Topped}
-
--- A place beats nothing: that it passes is enough.
-pub beats_none : {t r : Bool} (b : Bool) {found none : ℕ} → r ≡ t → found ≡ none → r ≡ (t && (eqb found none || b))
-beats_none {t} b {found} {none} p e = p ∙ simp (eq-eqb found none e, and-true)
-
--- A place passes and beats what was found.
-pub beats_found : {t r : Bool} (b : Bool) {s : Bool} {found none : ℕ} → r ≡ t → s ≡ b → (found ≡ none → ⊥) → (r && s) ≡ (t && (eqb found none || b))
-beats_found {t} b {s} {found} {none} p q e = rw (p, q, ne_eqb found none e)
+use Rattle.std.specs.List.{position_or_len, position}
+use Rattle.laws.specs.Search.{best, first}
+use Rattle.laws.specs.Options.{place_or}
+use Rattle.laws.proofs.Choice.{and_left, and_right, true_or, lt_or}
+use Rattle.laws.proofs.SearchLaws.{best_wins, best_stays, best_on, best-nothing, first_found, first-before, first-here}
+use Rattle.laws.proofs.SoonerLaws.{sooner_come}
+use Rattle.table.specs.inner.Places.{is_taken, is_due, is_sooner}
 
 -- k of n places are passed, and `found` is the best of them
 pub record Scan (test : ℕ → Bool) (beats : ℕ → ℕ → Bool) (none n k found : ℕ) : Type 0 where
@@ -34,10 +28,6 @@ module _ {test : ℕ → Bool} {beats : ℕ → ℕ → Bool} {none n : ℕ} whe
   pub scan_starts : Scan test beats none n 0 none
   unfolding best
   scan_starts = record { within = omega arith; so_far = refl }
-
-  -- What is found is a place, or `none`.
-  pub scan_low : {k found : ℕ} → n ≤ none → Scan test beats none n k found → found ≤ none
-  scan_low {k} {found} l s = let w = s.within in rw s.so_far (⊎_elim (λ e. omega arith) (λ z. omega (arith, z.0)) (best_in test beats none k))
 
   -- A turn that takes the place.
   pub scan_takes : {k found r : ℕ} → Scan test beats none n k found → k < n → (test k && (eqb found none || beats k found)) ≡ true → r ≡ k → Scan test beats none n (k + 1) r
@@ -51,34 +41,60 @@ module _ {test : ℕ → Bool} {beats : ℕ → ℕ → Bool} {none n : ℕ} whe
   pub scan_ends : {k found : ℕ} → Scan test beats none n k found → n ≤ k → found ≡ best test beats none n
   scan_ends {k} {found} s h = let w = s.within in let e : k ≡ n = omega arith in rw e at s.so_far
 
-module _ {test : ℕ → Bool} {none n k found r : ℕ} (s : Scan test (λ i j. false) none n k found) (h : k < n) where
-  -- Where no place beats another: a turn that takes the place, as the first.
-  pub first-takes : (test k && eqb found none) ≡ true → r ≡ k → Scan test (λ i j. false) none n (k + 1) r
-  first-takes t = scan_takes s h (rw (or-false (eqb found none)) t)
+-- The first number of a list that passes is at the first place that passes.
+first_place : (p : ℕ → Bool) (xs : List ℕ) → position_or_len p xs ≡ first (λ k. p (get_or xs k 0)) (length xs)
+unfolding first
+first_place p [] = refl
+first_place p (x ∷ xs) = let i = first_place p xs in ⊎_elim (λ (t : p x ≡ true). rw t) (λ (t : p x ≡ false). rw t (omega arith)) (true_or (p x))
 
-  -- Where no place beats another: a turn that passes it by.
-  pub first_passes : (test k && eqb found none) ≡ false → r ≡ found → Scan test (λ i j. false) none n (k + 1) r
-  first_passes t = scan_passes s h (rw (or-false (eqb found none)) t)
-
--- The lowest free place below top, or top itself, is the lowest free place of all.
-pub free-below : (is : List ℕ) (top : ℕ) → Topped is top → best (is_free is) (λ j k. false) places places ≡ best (is_free is) (λ j k. false) top top
-free-below is top t = first_cut (is_free is) top places t.within (λ k h l. eq-eqb (get_or is k 0) 0 (t.above k h))
-
--- What makes a place sooner than the live place b, and what keeps it from that, on the columns.
-module _ (is ds : List ℕ) (b : ℕ) (t : is_taken is b ≡ true) where
-  pub live_id_lem : 0 < get_or is b 0
-  live_id_lem = let z = eqb-false (get_or is b 0) 0 (not-true _ t) in omega (arith, z)
-
-  pub place-later : (j : ℕ) → get_or ds b 0 < get_or ds j 0 → (is_taken is j && is_sooner is ds j b) ≡ false
-  place-later = later-not (is_taken is) (λ j. get_or ds j 0) (λ j. get_or is j 0) b
-
-  pub place_higher : (j : ℕ) → (ltb (get_or ds j 0) (get_or ds b 0) || (is_taken is j && leb (get_or is j 0) (get_or is b 0 - 1))) ≡ false → (is_taken is j && is_sooner is ds j b) ≡ false
-  place_higher j = higher_not (is_taken is) (λ j. get_or ds j 0) (λ j. get_or is j 0) b j live_id_lem
-
-  pub place-sooner : {r : Bool} (j : ℕ) → r ≡ (leb (get_or ds j 0) (get_or ds b 0) && (is_taken is j && (ltb (get_or ds j 0) (get_or ds b 0) || leb (get_or is j 0) (get_or is b 0 - 1))))
-      → (is_taken is j && is_sooner is ds j b) ≡ r
-  place-sooner j e = sooner-by (is_taken is) (λ j. get_or ds j 0) (λ j. get_or is j 0) b j live_id_lem ∙ sym e
+-- The place of the first number of a list that passes is the first of the places that pass.
+pub found_place : (p : ℕ → Bool) (xs : List ℕ) (test : ℕ → Bool) (none n : ℕ) → n ≤ none → length xs ≡ n → ((k : ℕ) → k < n → p (get_or xs k 0) ≡ test k)
+    → place_or none (position p xs) ≡ best test (λ i j. false) none n
+found_place p xs test none n l long same =
+    let t : ℕ → Bool = λ k. p (get_or xs k 0) in
+    let e : position_or_len p xs ≡ first t n = rw long at (first_place p xs) in
+    ⊎_elim
+    (λ (q : first t n < n).
+    let yes : ltb (first t n) n ≡ true = lt-ltb (first t n) n q in
+    rw (e, long, yes)
+    (sym (first_found test none n (first t n) l q (λ j h. sym (same j (omega arith)) ∙ first-before t n j h) (sym (same (first t n) q) ∙ first-here t n q))))
+    (λ (q : n ≤ first t n).
+    let no : ltb (first t n) n ≡ false = le-ltb (first t n) n q in
+    rw (e, long, no) (sym (best-nothing test (λ i j. false) none n (λ j h. sym (same j h) ∙ first-before t n j (omega arith)))))
+    (lt_or (first t n) n)
 
 -- Beside a place that is due a sooner one is due.
 pub place_due : (is ds : List ℕ) (time b : ℕ) → b < places → is_due is ds time b ≡ true → (j : ℕ) → (is_due is ds time j && (eqb b places || is_sooner is ds j b)) ≡ (is_taken is j && is_sooner is ds j b)
 place_due is ds time b h t j = sooner_come (is_taken is) (λ j. get_or ds j 0) (λ j. get_or is j 0) time places b j (λ z. omega arith) (leb-true _ _ (and_right (is_taken is b) _ t))
+
+-- `found` is a place that passes, and the best of those up to it
+pub record Stands (test : ℕ → Bool) (beats : ℕ → ℕ → Bool) (none n found : ℕ) : Type 0 where
+  pub within : found < n
+  pub passes : test found ≡ true
+  pub so_far : found ≡ best test beats none (found + 1)
+
+module _ (test : ℕ → Bool) (beats : ℕ → ℕ → Bool) (none n : ℕ) where
+  -- The first that passes stands.
+  pub stands_first : (found : ℕ) → found ≡ first test n → found < n → Stands test beats none n found
+  stands_first found e h =
+      let p : test found ≡ true = rw e (first-here test n (omega arith)) in
+      record {
+        within = h;
+        passes = p;
+        so_far = best_wins test beats none found none (sym (best-nothing test beats none found (λ k l. first-before test n k (omega arith)))) (rw (p, eq-eqb none none refl));
+      }
+
+  module _ {found : ℕ} (s : Stands test beats none n found) where
+    -- The next that beats it stands.
+    pub stands_next : (next : ℕ) → found < next → next < n → ((k : ℕ) → found < k → k < next → (test k && (eqb found none || beats k found)) ≡ false)
+        → (test next && (eqb found none || beats next found)) ≡ true → Stands test beats none n next
+    stands_next next l h f t =
+        record {
+          within = h;
+          passes = and_left (test next) _ t;
+          so_far = best_wins test beats none next found (best_on test beats none (found + 1) next found (omega arith) s.so_far (λ k a b. f k (omega arith) b)) t;
+        }
+
+    -- Where none beats it, it is the best.
+    pub stands_ends : ((k : ℕ) → found < k → k < n → (test k && (eqb found none || beats k found)) ≡ false) → found ≡ best test beats none n
+    stands_ends f = let h = s.within in best_on test beats none (found + 1) n found (omega arith) s.so_far (λ k a b. f k (omega arith) b)

@@ -4,3 +4,4 @@ pub mod Circle
 pub mod Digits
 pub mod Bits
 pub mod Bytes
+pub mod Options

@@ -1,11 +1,2 @@
-// Facts on lists, digits, bits, bytes and searches, each said once.
+// Facts on lists, digits, bits, bytes and searches, each said once: definitions and laws alone.
 #![tactic(auto)]
-
-ghost use Rattle.std.specs.Prelude.{◌≡◌, ◌<◌};
-
-// A byte as an index or a term of a sum: only its place is asked, and the bound comes back.
-pub fn wide(x: u8) -> usize
-    ensures { (result ≡ x) × (result < 256) }
-{
-    x as usize
-}

@@ -15,7 +15,8 @@ use Rattle.laws.specs.Bytes.{over}
 use Rattle.laws.proofs.Choice.{eq_or, lt_or}
 use Rattle.wire.specs.Frame.{misframed, id_of, laid, exception}
 use Rattle.settings.specs.Grammar.{Tag}
-use Rattle.pdu.specs.Replies.{What, answering, excepts}
+use Rattle.pdu.specs.Replies.{answering, excepts}
+use Rattle.pdu.specs.declared.What.{What}
 use Rattle.pdu.proofs.ReplyLaws.{answering-room}
 use Rattle.rewrite.specs.declared.Way.TheVariants.{ToBinary}
 use Rattle.rewrite.specs.Rewriting.{Rewritten}

@@ -18,11 +18,10 @@ use Rattle.wire.specs.Frame.{id_of, laid, exception}
 use Rattle.wire.proofs.FrameLaws.{framed, length-laid}
 use Rattle.settings.specs.Grammar.{Tag}
 use Rattle.pdu.specs.Requests.{asked_of}
-use Rattle.pdu.specs.Replies.{What}
+use Rattle.pdu.specs.declared.What.{What}
 use Rattle.pdu.specs.declared.Table.TheVariants.{Bits, Registers}
 use Rattle.pdu.specs.declared.Asked.{Asked}
 use Rattle.pdu.specs.declared.Asked.TheVariants.{Read, SingleWrite, MultipleWrite, MaskWrite, ReadWrite, Other}
-use Rattle.pdu.specs.declared.Checked.TheVariants as check
 use Rattle.pdu.specs.declared.ProxyId.{ProxyId}
 use Rattle.pdu.proofs.SpoilingLaws.{spoils_itself}
 use Rattle.pdu.proofs.RequestLaws.{RequestRoom, legal-room, known}
@@ -60,6 +59,8 @@ use Rattle.machine.proofs.RequestLaws.Comes.{faulty, hitting, joining, full, iss
 use Rattle.machine.proofs.RequestLaws.{Comes, comes, request_passes, fault_checked}
 use Rattle.machine.proofs.NumberLaws.{numbers_plainly}
 use Rattle.machine.proofs.CachedLaws.{Stocked}
+use Rattle.pdu.specs.declared.Fault.TheVariants as check
+use Rattle.std.specs.Prelude.{Err}
 
 -- what carries registers, and that 01, 02, 05 and 15 carry none
 carrying : Asked → Bool
@@ -235,7 +236,7 @@ module _ (m : Machine) (c t : ℕ) (f o : List ℕ) (g : Good rules m.book) (s :
         rule = refl;
       }
 
-  excepted_is : (n : ℕ) → ((n ≡ 4 → ⊥) → checked_under (settings m).tags f ≡ check.Excepted n) → Excepts m t f o (excepted (clocked m t) n f o)
+  excepted_is : (n : ℕ) → ((n ≡ 4 → ⊥) → checked_under (settings m).tags f ≡ Err (check.Excepted n)) → Excepts m t f o (excepted (clocked m t) n f o)
   unfolding excepted exception
   excepted_is n checked =
       let room = fits_in in

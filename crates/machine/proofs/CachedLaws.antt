@@ -18,7 +18,8 @@ use Rattle.wire.proofs.FrameLaws.{framed, length-laid, laid-framed}
 use Rattle.settings.specs.Grammar.{Tag}
 use Rattle.settings.specs.TagWords.{Ascending}
 use Rattle.pdu.specs.declared.Asked.{Asked}
-use Rattle.pdu.specs.Replies.{What, answering, excepts}
+use Rattle.pdu.specs.Replies.{answering, excepts}
+use Rattle.pdu.specs.declared.What.{What}
 use Rattle.pdu.specs.Reads.{equal_reads}
 use Rattle.pdu.specs.Spoiling.{spoils}
 use Rattle.pdu.specs.declared.ProxyId.{ProxyId}

@@ -28,11 +28,11 @@ use Rattle.settings.specs.Grammar.{Value, Tag, valid}
 use Rattle.settings.specs.TagWords.{kind_of}
 use Rattle.settings.proofs.TagLaws.{valid-ascends}
 use Rattle.pdu.specs.Requests.{class_of, bad_function, bad_length, asked_of, fault_of, checked_of}
-use Rattle.pdu.specs.Replies.{What, excepts}
+use Rattle.pdu.specs.Replies.{excepts}
+use Rattle.pdu.specs.declared.What.{What}
 use Rattle.pdu.specs.Spoiling.{spoils}
 use Rattle.pdu.specs.declared.ProxyId.{ProxyId}
 use Rattle.pdu.specs.declared.Asked.TheVariants.{ReadWrite}
-use Rattle.pdu.specs.declared.Checked.TheVariants as check
 use Rattle.rewrite.specs.Registers.{registers_at}
 use Rattle.rewrite.specs.Rewriting.{own_in, Rewritten}
 use Rattle.rewrite.specs.Plain.{Has, InRun, Whole, Brings, OfBits, Rewrites}
@@ -99,6 +99,8 @@ use Rattle.machine.proofs.ClosedLaws.{open_exactly, since, not_stale, not_stale_
 use Rattle.machine.proofs.MeetsLaws.{spoils_in_bytes}
 use Rattle.machine.proofs.Freshness.{hit_shows, then_hit, came-after, one_place, nothing_else, none_cut_cached}
 use Rattle.machine.proofs.StateLaws.{attached_exactly, clock_exactly, issue_origin}
+use Rattle.pdu.specs.declared.Fault.TheVariants as check
+use Rattle.std.specs.Prelude.{Ok, Err}
 
 -- Tender 3, the sum: accepted = answered by a reply + answered by timeout + dropped by a leaving + dropped by a lost link + held in the party places; each accepted
 -- request is in one group and there once; the held ones are, entry by entry and in order, the parties in the places; each answer's list is exactly those that it answers.
@@ -445,7 +447,7 @@ module _ (v : Value) (xs : List Call) where
   -- Request #108: "If a write covers a strict tag partly, or its value is outside the range, the client gets exception 03 and nothing is issued." A write 06, 16 or 23 that is not refused and whose
   -- bytes give neither exception 03 nor 02 gets exception 03 exactly if some strict tag has a register in the write and another outside it, or lies in it with a value outside its range, in
   -- plain numbers (`Violates`). That nothing is issued, closed or dropped then, and that the buffer has the nine bytes of the exception, is `an_exception_is_this`.
-  pub a_strict_tag_forbids_exactly : (c t : ℕ) (f o : List ℕ) → refusal (after_calls v xs) (request c t f o) ≡ 0 → ((k : ℕ) → get_or f k 0 < 256) → checked_of f ≡ check.Legal (asked_of f)
+  pub a_strict_tag_forbids_exactly : (c t : ℕ) (f o : List ℕ) → refusal (after_calls v xs) (request c t f o) ≡ 0 → ((k : ℕ) → get_or f k 0 < 256) → checked_of f ≡ Ok (asked_of f)
       → (base start quantity : ℕ) → Carries (asking f).asked base start quantity
       → ((outcome (after_calls v xs) (request c t f o)).says ≡ answer.Excepted 3) ↔ Violates v.tags f base start quantity
   a_strict_tag_forbids_exactly c t f o h bytes fine base start quantity carries =
@@ -455,8 +457,8 @@ module _ (v : Value) (xs : List Call) where
   -- registers that a strict tag forbids, or a 22 (#109) whose register a tag has. No read, no write of coils and no other function is forbidden, and bytes that give 02 do not get 03.
   pub only_a_tag_forbids : (c t : ℕ) (f o : List ℕ) → refusal (after_calls v xs) (request c t f o) ≡ 0 → ((k : ℕ) → get_or f k 0 < 256)
       → ((outcome (after_calls v xs) (request c t f o)).says ≡ answer.Excepted 3)
-      ↔ ((checked_of f ≡ check.Excepted 3)
-      ⊎ ((checked_of f ≡ check.Legal (asked_of f))
+      ↔ ((checked_of f ≡ Err (check.Excepted 3))
+      ⊎ ((checked_of f ≡ Ok (asked_of f))
       × (((base : ℕ) × (start : ℕ) × (quantity : ℕ) × Carries (asking f).asked base start quantity × Violates v.tags f base start quantity)
       ⊎ ((get_or f 7 0 ≡ 22) × ((tag : Tag) × Memᴰ tag v.tags × Has tag (number_at f 8))))))
   only_a_tag_forbids c t f o h bytes = only_forbids (after_calls v xs) v.tags tags_stay c t f o good (stocked v xs) h bytes

@@ -18,7 +18,7 @@ use Rattle.laws.proofs.Choice.{true_or, or_left}
 use Rattle.laws.proofs.ListLaws.{grown}
 use Rattle.laws.proofs.LastLaws.{last_yes, last_no, last_behind, last_of_exactly}
 use Rattle.settings.specs.Grammar.{Value}
-use Rattle.pdu.specs.Replies.{What}
+use Rattle.pdu.specs.declared.What.{What}
 use Rattle.pdu.specs.Spoiling.{spoils}
 use Rattle.pdu.specs.declared.ProxyId.{ProxyId}
 use Rattle.pdu.proofs.SpoilingLaws.{spoils_itself}

@@ -14,7 +14,8 @@ use Rattle.wire.proofs.FrameLaws.{length-laid}
 use Rattle.settings.specs.Grammar.{Tag}
 use Rattle.settings.specs.TagWords.{Ascending}
 use Rattle.pdu.specs.Requests.{class_of, start_of, and_mask_of, or_mask_of, asked_by, asked_of}
-use Rattle.pdu.specs.Replies.{What, what, excepts, answering}
+use Rattle.pdu.specs.Replies.{what, excepts, answering}
+use Rattle.pdu.specs.declared.What.{What}
 use Rattle.pdu.specs.declared.Table.TheVariants.{Registers}
 use Rattle.pdu.specs.declared.Asked.{Asked}
 use Rattle.pdu.specs.declared.Asked.TheVariants.{SingleWrite, MaskWrite}

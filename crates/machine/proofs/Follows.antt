@@ -16,7 +16,7 @@ use Rattle.laws.specs.Bytes.{over}
 use Rattle.laws.proofs.Choice.{true_or, eq_or}
 use Rattle.settings.specs.Grammar.{Value}
 use Rattle.wire.specs.Frame.{id_of}
-use Rattle.pdu.specs.Replies.{What}
+use Rattle.pdu.specs.declared.What.{What}
 use Rattle.rewrite.specs.Legal.{fault_under}
 use Rattle.cache.specs.Cache.{Cached, in_cache}
 use Rattle.book.specs.Book.{Party, Live, Move, Good, at}

@@ -16,7 +16,8 @@ use Rattle.settings.specs.Grammar.{Value}
 use Rattle.wire.specs.Frame.{function_of, id_of, misframed, laid, exception}
 use Rattle.wire.proofs.FrameLaws.{framed, exception-framed, length-laid, laid-framed}
 use Rattle.pdu.specs.Requests.{bad_function}
-use Rattle.pdu.specs.Replies.{What, answering}
+use Rattle.pdu.specs.Replies.{answering}
+use Rattle.pdu.specs.declared.What.{What}
 use Rattle.pdu.specs.Plain.{Known}
 use Rattle.pdu.proofs.RequestLaws.{known}
 use Rattle.pdu.proofs.ReplyLaws.{excepts_exact, answers_exact, exception-excepts}

@@ -19,7 +19,8 @@ use Rattle.wire.specs.Frame.{id_of}
 use Rattle.settings.specs.Grammar.{Value}
 use Rattle.settings.specs.TagWords.{Ascending}
 use Rattle.pdu.specs.Requests.{fault_of}
-use Rattle.pdu.specs.Replies.{What, excepts}
+use Rattle.pdu.specs.Replies.{excepts}
+use Rattle.pdu.specs.declared.What.{What}
 use Rattle.pdu.specs.Spoiling.{spoils}
 use Rattle.pdu.specs.declared.ProxyId.{ProxyId}
 use Rattle.pdu.specs.declared.Table.{Table}

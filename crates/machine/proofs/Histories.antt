@@ -3,7 +3,7 @@
 use mathlib.Core.Path.{◌≡◌, refl, ◌∙◌}
 use mathlib.Core.List.{List}
 use Rattle.settings.specs.Grammar.{Value}
-use Rattle.pdu.specs.Replies.{What}
+use Rattle.pdu.specs.declared.What.{What}
 use Rattle.book.specs.Follower.{Follower, Accounted}
 use Rattle.book.proofs.History.{always, always_sound}
 use Rattle.machine.specs.Machine.{Machine, Note, made, rules, settings}

@@ -11,7 +11,7 @@ use borrow.Author.Tests.{eq-eqb, eqb-true}
 use Rattle.laws.proofs.Choice.{true_or, and_left, and_right, never}
 use Rattle.laws.proofs.TestLaws.{holds_eq, holds_not, holds_and, holds_or}
 use Rattle.settings.specs.Grammar.{Value}
-use Rattle.pdu.specs.Replies.{What}
+use Rattle.pdu.specs.declared.What.{What}
 use Rattle.pdu.specs.Reads.{is_read, equal_reads}
 use Rattle.pdu.proofs.ReadLaws.{read_is, no_read, equal_exact, equal_self, equal_other}
 use Rattle.pdu.specs.declared.Table.{Table}

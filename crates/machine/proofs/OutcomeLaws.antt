@@ -12,7 +12,7 @@ use lib.Dec.{eqb, ltb}
 use borrow.Author.Tests.{eq-eqb, ltb-true, ltb-false}
 use Rattle.numbers.specs.Numbers.{latest_time, device_failure}
 use Rattle.laws.proofs.Choice.{true_or, eq_or, or_right}
-use Rattle.pdu.specs.Replies.{What}
+use Rattle.pdu.specs.declared.What.{What}
 use Rattle.rewrite.specs.Legal.{fault_under}
 use Rattle.cache.specs.Cache.{Cached}
 use Rattle.cache.proofs.CacheLaws.{hit_found}

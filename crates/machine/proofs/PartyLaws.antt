@@ -11,7 +11,7 @@ use lib.Seq.{get_or-set_same, get_or-set_other}
 use borrow.Author.Tests.{not-true, eq-eqb}
 use Rattle.laws.proofs.Choice.{eq_or}
 use Rattle.laws.proofs.FilterLaws.{filter_in}
-use Rattle.pdu.specs.Replies.{What}
+use Rattle.pdu.specs.declared.What.{What}
 use Rattle.book.specs.Book.{Party, Live, Good, at, struck, is_of, without, apply}
 use Rattle.book.specs.Book.Move.{pass, strike}
 use Rattle.book.specs.Desk.{due_place}

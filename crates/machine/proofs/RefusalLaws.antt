@@ -15,7 +15,8 @@ use Rattle.laws.specs.Bits.{has}
 use Rattle.laws.proofs.Choice.{true_or, lt_or}
 use Rattle.wire.specs.Frame.{misframed, function_of, id_of, protocol_of, length_of}
 use Rattle.pdu.specs.Requests.{class_of, bad_function, bad_length}
-use Rattle.pdu.specs.Replies.{What, answering}
+use Rattle.pdu.specs.Replies.{answering}
+use Rattle.pdu.specs.declared.What.{What}
 use Rattle.pdu.specs.Plain.{Sized}
 use Rattle.pdu.proofs.RequestLaws.{sized}
 use Rattle.pdu.proofs.ReplyLaws.{answers_exact}

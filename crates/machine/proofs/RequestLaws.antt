@@ -15,8 +15,7 @@ use Rattle.laws.proofs.Choice.{true_or, eq_or, lt_or, never}
 use Rattle.laws.proofs.SearchLaws.{best_all}
 use Rattle.wire.specs.Frame.{misframed, function_of}
 use Rattle.pdu.specs.Requests.{class_of, bad_function, bad_length}
-use Rattle.pdu.specs.Replies.{What}
-use Rattle.pdu.specs.declared.Checked.TheVariants as check
+use Rattle.pdu.specs.declared.What.{What}
 use Rattle.rewrite.specs.Legal.{fault_under, checked_under, legal}
 use Rattle.rewrite.proofs.LegalLaws.{fault_under_small, fault_excepted}
 use Rattle.cache.specs.Cache.{Cached, in_cache}
@@ -44,6 +43,8 @@ use Rattle.machine.proofs.LowestLaws.{none-applies}
 use Rattle.machine.proofs.OutcomeLaws.{granted_is, not-refused, reply_finds, clocked-at}
 use Rattle.machine.proofs.SpelledLaws.{wanted-spelled}
 use Rattle.machine.proofs.JoinLaws.{may_join}
+use Rattle.pdu.specs.declared.Fault.TheVariants as check
+use Rattle.std.specs.Prelude.{Err}
 
 -- a request that is not refused has passed the tests of the buffer, of the frame, of the function and of the size
 pub request_passes : (m : Machine) (c t : ℕ) (f o : List ℕ) → refusal m (request c t f o) ≡ 0
@@ -63,7 +64,7 @@ pub legal_faultless : (m : Machine) (c t : ℕ) (f o : List ℕ) → refusal m (
 unfolding legal
 legal_faultless m c t f o h = let p = request_passes m c t f o h in rw (p.1, p.2, p.3)
 
-pub fault_checked : (m : Machine) (c t : ℕ) (f o : List ℕ) → refusal m (request c t f o) ≡ 0 → legal (settings m) f ≡ false → checked_under (settings m).tags f ≡ check.Excepted (fault_under (settings m).tags f)
+pub fault_checked : (m : Machine) (c t : ℕ) (f o : List ℕ) → refusal m (request c t f o) ≡ 0 → legal (settings m) f ≡ false → checked_under (settings m).tags f ≡ Err (check.Excepted (fault_under (settings m).tags f))
 fault_checked m c t f o h z = let p = request_passes m c t f o h in fault_excepted (settings m).tags f p.2 p.3 (sym (legal_faultless m c t f o h) ∙ z)
 
 -- a request that is not hit finds no reply to what it asks that is younger than its life

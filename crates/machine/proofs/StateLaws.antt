@@ -16,7 +16,7 @@ use Rattle.laws.proofs.MemberLaws.{mem-cond}
 use Rattle.laws.proofs.BitLaws.{has-none, in_with, in_without}
 use Rattle.laws.proofs.LastLaws.{last_more, last_yes, last_no}
 use Rattle.settings.specs.Grammar.{Value}
-use Rattle.pdu.specs.Replies.{What}
+use Rattle.pdu.specs.declared.What.{What}
 use Rattle.rewrite.specs.Legal.{fault_under}
 use Rattle.book.specs.Book.{Party, Event, at}
 use Rattle.book.specs.Book.Event.{passed, issued}

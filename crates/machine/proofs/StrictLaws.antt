@@ -20,7 +20,6 @@ use Rattle.pdu.specs.declared.Class.{Class}
 use Rattle.pdu.specs.declared.Class.TheVariants.{Reads, WritesOne, WritesMany, Masks, ReadsWrites, Others}
 use Rattle.pdu.specs.declared.Asked.{Asked}
 use Rattle.pdu.specs.declared.Asked.TheVariants.{Read, SingleWrite, MultipleWrite, MaskWrite, ReadWrite, Other}
-use Rattle.pdu.specs.declared.Checked.TheVariants as check
 use Rattle.pdu.specs.Plain.{class_in}
 use Rattle.pdu.specs.Plain.Outcome.{fine as in_order}
 use Rattle.pdu.proofs.RequestLaws.{known, sized, class_mask, check_exact, legal-room}
@@ -46,9 +45,11 @@ use Rattle.machine.proofs.SpelledLaws.{asked_spelled, asking-says, masking_is}
 use Rattle.machine.proofs.RequestLaws.{exception_04, request_passes}
 use Rattle.machine.proofs.AskLaws.{request_comes_to, exception_is}
 use Rattle.machine.proofs.CachedLaws.{Stocked}
+use Rattle.pdu.specs.declared.Fault.TheVariants as check
+use Rattle.std.specs.Prelude.{Ok, Err}
 
 -- what is legal under tags is nothing that the check under them excepts
-legal_unexcepted : (s : Value) (f : List ℕ) (n : ℕ) → legal s f ≡ true → checked_under s.tags f ≡ check.Excepted n → ⊥
+legal_unexcepted : (s : Value) (f : List ℕ) (n : ℕ) → legal s f ≡ true → checked_under s.tags f ≡ Err (check.Excepted n) → ⊥
 legal_unexcepted s f n l e = let w = (legal_checked s f).0 l in never (cc ((checked_legal s.tags f (asked_of f)).1 (w.1, w.2)))
 
 -- what a frame carries by the machine's reading of it, and as its bytes are spelled
@@ -98,12 +99,12 @@ module _ (m : Machine) (tags : List Tag) (same : (settings m).tags ≡ tags) (c 
   under = ap (λ (ts : List Tag). checked_under ts f) same
 
   -- A request that is not refused gets an exception other than 04 exactly where the check of its bytes and of the tags gives that.
-  pub excepted_exactly : (n : ℕ) → (n ≡ 4 → ⊥) → ((outcome m (request c t f o)).says ≡ answer.Excepted n) ↔ (checked_under tags f ≡ check.Excepted n)
+  pub excepted_exactly : (n : ℕ) → (n ≡ 4 → ⊥) → ((outcome m (request c t f o)).says ≡ answer.Excepted n) ↔ (checked_under tags f ≡ Err (check.Excepted n))
   excepted_exactly n other = (
     λ e.
         let x = exception_is m c t f o g s n e in
         let code : x.code ≡ n = cc x.says in
-        sym under ∙ x.checked (λ z. other (sym code ∙ z)) ∙ ap check.Excepted code,
+        sym under ∙ x.checked (λ z. other (sym code ∙ z)) ∙ ap (λ (n : ℕ). Err (check.Excepted n)) code,
     λ e. ⊎_elim
         (λ (x : Hits m c t f o (outcome m (request c t f o))). absurd (legal_unexcepted (settings m) f n x.is_legal (under ∙ e)))
         (⊎_elim
@@ -136,35 +137,35 @@ masked_forbidden : (tags : List Tag) (f : List ℕ) → Masked tags f → forbid
 masked_forbidden tags f w = ap (λ (a : Asked). forbidden tags a f) (mask_asked f w.0) ∙ (mask_forbidden_exactly tags _ _ _ f).1 w.1
 
 -- the bytes of a 22 that is not refused are in order
-mask_fine : (m : Machine) (c t : ℕ) (f o : List ℕ) → refusal m (request c t f o) ≡ 0 → get_or f 7 0 ≡ 22 → checked_of f ≡ check.Legal (asked_of f)
+mask_fine : (m : Machine) (c t : ℕ) (f o : List ℕ) → refusal m (request c t f o) ≡ 0 → get_or f 7 0 ≡ 22 → checked_of f ≡ Ok (asked_of f)
 mask_fine m c t f o h seven =
     let p = request_passes m c t f o h in
     let k : class_in f ≡ Masks = ap class_of seven ∙ class_mask in
-    (check_exact f (check.Legal (asked_of f))).1 (in_order ((known (function_of f)).0 p.2) ((sized (class_in f) f).0 p.3) (rw k tt) (rw k tt))
+    (check_exact f (Ok (asked_of f))).1 (in_order ((known (function_of f)).0 p.2) ((sized (class_in f) f).0 p.3) (rw k tt) (rw k tt))
 
 module _ (m : Machine) (tags : List Tag) (same : (settings m).tags ≡ tags) (c t : ℕ) (f o : List ℕ) (g : Good rules m.book) (s : Stocked m.cache) (h : refusal m (request c t f o) ≡ 0)
     (bytes : (k : ℕ) → get_or f k 0 < 256) where
   -- Where its bytes are in order and it carries registers, exception 03 is said exactly where a strict tag forbids what it writes.
-  pub forbids_exactly : checked_of f ≡ check.Legal (asked_of f) → (base start quantity : ℕ) → Carries (asking f).asked base start quantity
+  pub forbids_exactly : checked_of f ≡ Ok (asked_of f) → (base start quantity : ℕ) → Carries (asking f).asked base start quantity
       → ((outcome m (request c t f o)).says ≡ answer.Excepted 3) ↔ Violates tags f base start quantity
   forbids_exactly fine base start quantity carries =
       let exactly = forbidden_exactly tags f bytes (asked_of f) (own f carries) (carries_some f fine (own f carries)) in
       Iff.trans (excepted_exactly m tags same c t f o g s h 3 (λ z. omega arith)) (Iff.trans (checked_excepted tags f 3) (
         λ w. ⊎_elim
-            (λ (z : checked_of f ≡ check.Excepted 3). never (cc))
-            (λ (z : (◌≡◌ {A = ℕ} 3 3) × (checked_of f ≡ check.Legal (asked_of f)) × (forbidden tags (asked_of f) f ≡ true)). exactly.0 z.2)
+            (λ (z : checked_of f ≡ Err (check.Excepted 3)). never (cc))
+            (λ (z : (◌≡◌ {A = ℕ} 3 3) × (checked_of f ≡ Ok (asked_of f)) × (forbidden tags (asked_of f) f ≡ true)). exactly.0 z.2)
             w,
         λ w. inr (refl, fine, exactly.1 w),
       ))
 
   -- It is said of nothing else but bytes that give it.
   pub only_forbids : ((outcome m (request c t f o)).says ≡ answer.Excepted 3)
-      ↔ ((checked_of f ≡ check.Excepted 3) ⊎ ((checked_of f ≡ check.Legal (asked_of f)) × (Forbidden tags f ⊎ Masked tags f)))
+      ↔ ((checked_of f ≡ Err (check.Excepted 3)) ⊎ ((checked_of f ≡ Ok (asked_of f)) × (Forbidden tags f ⊎ Masked tags f)))
   only_forbids =
       Iff.trans (excepted_exactly m tags same c t f o g s h 3 (λ z. omega arith)) (Iff.trans (checked_excepted tags f 3) (
         λ w. ⊎_elim
             inl
-            (λ (z : (◌≡◌ {A = ℕ} 3 3) × (checked_of f ≡ check.Legal (asked_of f)) × (forbidden tags (asked_of f) f ≡ true)).
+            (λ (z : (◌≡◌ {A = ℕ} 3 3) × (checked_of f ≡ Ok (asked_of f)) × (forbidden tags (asked_of f) f ≡ true)).
             inr (
               z.1,
               ⊎_map
@@ -176,7 +177,7 @@ module _ (m : Machine) (tags : List Tag) (same : (settings m).tags ≡ tags) (c 
             w,
         λ w. ⊎_elim
             inl
-            (λ (z : (checked_of f ≡ check.Legal (asked_of f)) × (Forbidden tags f ⊎ Masked tags f)).
+            (λ (z : (checked_of f ≡ Ok (asked_of f)) × (Forbidden tags f ⊎ Masked tags f)).
             inr (
               refl,
               z.0,
@@ -195,8 +196,8 @@ mask_excepted_exactly m tags same c t f o g s h seven =
     let fine = mask_fine m c t f o h seven in
     Iff.trans (excepted_exactly m tags same c t f o g s h 3 (λ z. omega arith)) (Iff.trans (checked_excepted tags f 3) (
       λ w. ⊎_elim
-          (λ (z : checked_of f ≡ check.Excepted 3). never (cc))
-          (λ (z : (◌≡◌ {A = ℕ} 3 3) × (checked_of f ≡ check.Legal (asked_of f)) × (forbidden tags (asked_of f) f ≡ true)). (masked_is tags f _ _ _ (mask_asked f seven) z.2).1)
+          (λ (z : checked_of f ≡ Err (check.Excepted 3)). never (cc))
+          (λ (z : (◌≡◌ {A = ℕ} 3 3) × (checked_of f ≡ Ok (asked_of f)) × (forbidden tags (asked_of f) f ≡ true)). (masked_is tags f _ _ _ (mask_asked f seven) z.2).1)
           w,
       λ w. inr (refl, fine, masked_forbidden tags f (seven, w)),
     ))
@@ -207,8 +208,8 @@ pub mask_never_02 : (m : Machine) (tags : List Tag) → (settings m).tags ≡ ta
 mask_never_02 m tags same c t f o g s h seven e =
     let fine = mask_fine m c t f o h seven in
     ⊎_elim
-    (λ (z : checked_of f ≡ check.Excepted 2). never (cc))
-    (λ (z : (◌≡◌ {A = ℕ} 2 3) × (checked_of f ≡ check.Legal (asked_of f)) × (forbidden tags (asked_of f) f ≡ true)). omega (arith, z.0))
+    (λ (z : checked_of f ≡ Err (check.Excepted 2)). never (cc))
+    (λ (z : (◌≡◌ {A = ℕ} 2 3) × (checked_of f ≡ Ok (asked_of f)) × (forbidden tags (asked_of f) f ≡ true)). omega (arith, z.0))
     ((checked_excepted tags f 2).0 ((excepted_exactly m tags same c t f o g s h 2 (λ z. omega arith)).0 e))
 
 masks_carry_none : {a x y base start quantity : ℕ} → Carries (MaskWrite a x y) base start quantity → ⊥

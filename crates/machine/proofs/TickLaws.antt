@@ -10,7 +10,7 @@ use lib.ListN.{length}
 use borrow.Author.Tests.{le-ltb}
 use Rattle.numbers.specs.Numbers.{places, latest_time, frame_buffer, list_buffer}
 use Rattle.settings.specs.Grammar.{Value}
-use Rattle.pdu.specs.Replies.{What}
+use Rattle.pdu.specs.declared.What.{What}
 use Rattle.book.specs.Book.{Live, Good, NothingDue, at, apply}
 use Rattle.book.specs.Book.Move.{pass}
 use Rattle.book.specs.Desk.{due_place, expire_at, choose, ticks}

@@ -15,7 +15,7 @@ use Rattle.laws.proofs.LeastLaws.{least-low, least_taken}
 use Rattle.laws.proofs.Choice.{or_left}
 use Rattle.laws.proofs.LastLaws.{last_of_exactly}
 use Rattle.settings.specs.Grammar.{Value}
-use Rattle.pdu.specs.Replies.{What}
+use Rattle.pdu.specs.declared.What.{What}
 use Rattle.pdu.specs.declared.ProxyId.{ProxyId}
 use Rattle.book.specs.Book.{Party, Live, Good, at}
 use Rattle.book.specs.Desk.{is_live}

@@ -5,7 +5,8 @@ use Rattle.std.proofs.Math.Option.{some, none, Option}
 use Rattle.numbers.specs.Numbers.{no_response, frame_buffer, list_buffer}
 use Rattle.laws.specs.Bytes.{over}
 use Rattle.wire.specs.Frame.{id_of, laid, exception}
-use Rattle.pdu.specs.Replies.{What, answering, excepts}
+use Rattle.pdu.specs.Replies.{answering, excepts}
+use Rattle.pdu.specs.declared.What.{What}
 use Rattle.rewrite.specs.Plain.{Brings, Rewrites}
 use Rattle.rewrite.specs.Frames.{returned}
 use Rattle.rewrite.specs.declared.Way.TheVariants.{ToBinary}

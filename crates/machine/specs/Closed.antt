@@ -4,7 +4,7 @@ use Rattle.std.specs.Prelude.{ℕ, ◌+◌, ◌*◌, ◌≤◌, ◌<◌, ◌≡�
 use Rattle.std.proofs.Math.Option.{some}
 use Rattle.numbers.specs.Numbers.{room}
 use Rattle.laws.specs.Lists.{last_of}
-use Rattle.pdu.specs.Replies.{What}
+use Rattle.pdu.specs.declared.What.{What}
 use Rattle.pdu.specs.Spoiling.{spoils}
 use Rattle.book.specs.Book.{Party, Live, Event, at}
 use Rattle.book.specs.Book.Event.{passed, joined, issued, replied, expired, left, lost}

@@ -3,7 +3,7 @@
 -- Assumes nothing.
 use Rattle.std.specs.Prelude.{ℕ, ◌+◌, ◌*◌, ◌≡◌, cond, List, [], ◌∷◌, ◌++◌, take, eqb}
 use Rattle.settings.specs.Grammar.{Value}
-use Rattle.pdu.specs.Replies.{What}
+use Rattle.pdu.specs.declared.What.{What}
 use Rattle.book.specs.Book.{Party, Event}
 use Rattle.book.specs.Book.Event.{passed, joined, issued, replied, expired, left, lost}
 use Rattle.book.specs.Ledger.{Ledger, empty, posts}

@@ -15,3 +15,4 @@ pub mod RefusalTable
 pub mod Requested
 pub mod Answered
 pub mod PartysFrames
+pub mod RefusalNumbers

@@ -4,7 +4,7 @@ use Rattle.std.specs.Prelude.{ℕ, Bool, false}
 use Rattle.std.proofs.Common.{lit<}
 use Rattle.numbers.specs.Numbers.{ids, places, room}
 use Rattle.settings.specs.Grammar.{Value}
-use Rattle.pdu.specs.Replies.{What}
+use Rattle.pdu.specs.declared.What.{What}
 use Rattle.cache.specs.Cache.{Cache, emptied}
 use Rattle.book.specs.Book.{Rules, Book, Move, fresh, apply}
 use Rattle.book.specs.Book.Move.{pass}

@@ -4,7 +4,8 @@ use Rattle.std.specs.Prelude.{ℕ, ◌+◌, ◌/◌, ◌%◌, ◌≡◌, ◌⊎�
 use mathlib.Core.List.{List, Memᴰ}
 use Rattle.laws.specs.Lists.{filter}
 use Rattle.wire.specs.Frame.{misframed, laid}
-use Rattle.pdu.specs.Replies.{What, answering}
+use Rattle.pdu.specs.Replies.{answering}
+use Rattle.pdu.specs.declared.What.{What}
 use Rattle.book.specs.Book.{Party}
 use Rattle.book.specs.Ledger.{Ticket, Ledger, under}
 use Rattle.machine.specs.Histories.{Seen}

@@ -6,7 +6,7 @@ use Rattle.numbers.specs.Numbers.{clients, latest_time, least_frame, most_frame,
 use Rattle.laws.specs.Bits.{has}
 use Rattle.wire.specs.Frame.{unit_of, function_of, id_of, protocol_of, length_of}
 use Rattle.pdu.specs.Requests.{class_of}
-use Rattle.pdu.specs.Replies.{What}
+use Rattle.pdu.specs.declared.What.{What}
 use Rattle.pdu.specs.Plain.{Sized, Exception, Shaped}
 use Rattle.book.specs.Book.{Live, at}
 use Rattle.machine.specs.Machine.{Machine, Note}

@@ -6,7 +6,8 @@ use Rattle.numbers.specs.Numbers.{clients, latest_time, frame_buffer, list_buffe
 use Rattle.laws.specs.Bits.{has}
 use Rattle.wire.specs.Frame.{misframed, function_of, id_of}
 use Rattle.pdu.specs.Requests.{class_of, bad_function, bad_length}
-use Rattle.pdu.specs.Replies.{What, answering}
+use Rattle.pdu.specs.Replies.{answering}
+use Rattle.pdu.specs.declared.What.{What}
 use Rattle.book.specs.Book.{Live, at}
 use Rattle.book.specs.Desk.{id_place}
 use Rattle.machine.specs.Machine.{Machine, Note, rules}

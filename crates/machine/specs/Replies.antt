@@ -7,7 +7,8 @@ use Rattle.numbers.specs.Numbers.{no_response}
 use Rattle.laws.specs.Bytes.{over}
 use Rattle.wire.specs.Frame.{id_of, laid, exception}
 use Rattle.settings.specs.Grammar.{Tag}
-use Rattle.pdu.specs.Replies.{What, excepts}
+use Rattle.pdu.specs.Replies.{excepts}
+use Rattle.pdu.specs.declared.What.{What}
 use Rattle.rewrite.specs.Frames.{returned}
 use Rattle.cache.specs.Cache.{Cached, Cache, filled_with}
 use Rattle.cache.specs.Life.{cacheable, life_of}

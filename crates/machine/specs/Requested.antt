@@ -1,14 +1,13 @@
 -- What a request that is not refused comes to, in plain numbers and bytes: what it may join, and that it is a hit, is issued, joins, or gets an exception; and where one that is accepted stands.
 -- Assumes nothing.
-use Rattle.std.specs.Prelude.{ℕ, ◌<◌, ◌+◌, ◌-◌, ◌/◌, ◌%◌, ◌≤◌, ◌≡◌, ◌⊎◌, ◌↔◌, false, true, List, [], ◌∷◌, ◌++◌, length, get_or, drop}
+use Rattle.std.specs.Prelude.{ℕ, ◌<◌, ◌+◌, ◌-◌, ◌/◌, ◌%◌, ◌≤◌, ◌≡◌, ◌⊎◌, ◌↔◌, false, true, List, [], ◌∷◌, ◌++◌, length, get_or, drop, Err}
 use Rattle.std.proofs.Math.Option.{some, none, map}
 use Rattle.numbers.specs.Numbers.{ids, room}
 use Rattle.laws.specs.Circle.{turn}
 use Rattle.laws.specs.Bytes.{over}
 use Rattle.wire.specs.Frame.{id_of, laid}
-use Rattle.pdu.specs.Replies.{What}
+use Rattle.pdu.specs.declared.What.{What}
 use Rattle.pdu.specs.Spoiling.{spoils}
-use Rattle.pdu.specs.declared.Checked.TheVariants as check
 use Rattle.rewrite.specs.Plain.{Rewrites}
 use Rattle.rewrite.specs.Strict.{Carries}
 use Rattle.rewrite.specs.Frames.{forwarded}
@@ -25,6 +24,7 @@ use Rattle.machine.specs.Cached.{NoHit}
 use Rattle.machine.specs.Answered.{showing}
 use Rattle.machine.specs.declared.Answer.TheVariants as answer
 use Rattle.machine.specs.declared.Answer.{Answer}
+use Rattle.pdu.specs.declared.Fault.TheVariants as check
 
 -- the entry may be joined by the request f at the time t: joining is on, f is a read (01 to 04), the entry is not closed, asks what f asks, has room for one more party, and is due
 -- later; when an entry is closed is said of the history in ClosedLaws
@@ -124,7 +124,7 @@ pub record Joins (m : Machine) (c t : ℕ) (f o : List ℕ) (d : Outcome) : Type
 pub record Excepts (m : Machine) (t : ℕ) (f o : List ℕ) (d : Outcome) : Type 0 where
   pub code : ℕ
   pub codes : (code ≡ 2) ⊎ ((code ≡ 3) ⊎ (code ≡ 4))
-  pub checked : (code ≡ 4 → ⊥) → checked_under (settings m).tags f ≡ check.Excepted code
+  pub checked : (code ≡ 4 → ⊥) → checked_under (settings m).tags f ≡ Err (check.Excepted code)
   pub says : d.says ≡ answer.Excepted code
   -- the buffer: nine bytes for the caller, under its own id, and behind them what was there
   pub frame : ((k : ℕ) → get_or f k 0 < 256) → d.written ≡ (get_or f 0 0 ∷ get_or f 1 0 ∷ 0 ∷ 0 ∷ 0 ∷ 3 ∷ get_or f 6 0 ∷ (get_or f 7 0 + 128) ∷ code ∷ drop 9 o)

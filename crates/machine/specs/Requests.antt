@@ -7,7 +7,8 @@ use Rattle.laws.specs.Bytes.{over}
 use Rattle.wire.specs.Frame.{id_of, unit_of, function_of, laid, exception}
 use Rattle.settings.specs.Grammar.{Value}
 use Rattle.pdu.specs.Requests.{asked_of}
-use Rattle.pdu.specs.Replies.{What, what}
+use Rattle.pdu.specs.Replies.{what}
+use Rattle.pdu.specs.declared.What.{What}
 use Rattle.pdu.specs.Spoiling.{spoils}
 use Rattle.pdu.specs.Reads.{equal_reads}
 use Rattle.rewrite.specs.Frames.{forwarded}

@@ -1,7 +1,8 @@
 -- Who asks what, spelled from the bytes of a request: nothing of the machine's own reading of a frame is used here, so that the ledger's lines say what a client sent.
 -- Assumes nothing.
 use Rattle.std.specs.Prelude.{ℕ, ◌+◌, ◌*◌, ◌≡◌, ◌⊎◌, cond, ◌||◌, List, get_or, eqb}
-use Rattle.pdu.specs.Replies.{What, what}
+use Rattle.pdu.specs.Replies.{what}
+use Rattle.pdu.specs.declared.What.{What}
 use Rattle.pdu.specs.declared.Table.TheVariants.{Bits, Registers}
 use Rattle.pdu.specs.declared.Asked.{Asked}
 use Rattle.pdu.specs.declared.Asked.TheVariants.{Read, SingleWrite, MultipleWrite, MaskWrite, ReadWrite, Other}

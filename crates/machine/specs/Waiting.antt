@@ -4,7 +4,7 @@ use Rattle.std.specs.Prelude.{ℕ, ◌-◌, ◌^◌, ◌≤◌, ◌≡◌, ◌�
 use Rattle.std.proofs.Math.Option.{Option, some, none}
 use Rattle.numbers.specs.Numbers.{places}
 use Rattle.laws.specs.Search.{least, count}
-use Rattle.pdu.specs.Replies.{What}
+use Rattle.pdu.specs.declared.What.{What}
 use Rattle.book.specs.Book.{Live, at}
 use Rattle.book.specs.Desk.{is_live}
 use Rattle.machine.specs.Machine.{Machine, Note}

@@ -1,7 +1,26 @@
 // What each call does, in document 01's words: definitions and the theorems on them. The only code is the types of what is answered.
 #![tactic(auto)]
 
+ghost use Rattle.std.specs.Prelude.{◌≡◌};
+ghost use Rattle.machine.specs.declared.Answer.TheVariants.{Refused};
+ghost use Rattle.machine.specs.RefusalNumbers.{number_of};
+
 use pdu::ProxyId;
+
+// The refusals, by document 01's numbers.
+#[derive(Clone, Copy, PartialEq, Eq)]
+pub enum Refusal {
+    Buffer = 1,
+    Client = 2,
+    Time = 3,
+    Frame = 4,
+    Function = 5,
+    Length = 6,
+    Unknown = 7,
+    Mismatch = 8,
+    Attached = 9,
+    Settings = 10,
+}
 
 // What a call answers. Each case's numbers for the C host are in specs/Numbers.antt.
 #[derive(Clone, Copy)]
@@ -44,9 +63,19 @@ pub enum Answer {
     },
 }
 
+impl From<Refusal> for Answer {
+    ghost from_gives = { λ refusal answer. answer ≡ Refused (number_of refusal) };
+
+    fn from(refusal: Refusal) -> Answer {
+        Answer::Refused {
+            number: refusal as u32,
+        }
+    }
+}
+
 // The C host's answer: a field that a call does not speak of is 0.
 #[repr(C)]
-#[derive(Clone, Copy)]
+#[derive(Clone, Copy, Default)]
 pub struct Report {
     pub refusal: u32,
     pub line: u32,

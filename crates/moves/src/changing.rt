@@ -1,34 +1,19 @@
 // Changes of the table, in place: an entry issued, a party joined, every place made free.
-ghost use Rattle.std.specs.Prelude.{◌≡◌, [], ◌∷◌, ◌+◌, ◌<◌, max, get_or, set};
+ghost use Rattle.std.specs.Prelude.{◌≡◌, [], ◌∷◌, ◌+◌, ◌<◌, get_or, set};
 ghost use Rattle.std.proofs.Math.Option.{some};
 ghost use Rattle.numbers.specs.Numbers.{places, room};
 ghost use Rattle.pdu.specs.Words.{word_of, what_of, Proper};
 ghost use Rattle.book.specs.Book.{entry};
 ghost use Rattle.machine.specs.Machine.{opened};
-ghost use Rattle.table.specs.Columns.{columns, table_of, party, SoundTable};
+ghost use Rattle.table.specs.Columns.{columns_of, table_of, party, SoundTable};
 ghost use Rattle.table.specs.inner.Changes.{Runs, Joined, blank};
 
 use pdu::{OriginalId, ProxyId};
-
-// One past the place, or top where that is more.
-fn raised(top: u32, place: usize) -> u32
-    requires { place < places }
-    ensures { result ≡ max top (place + 1) }
-{
-    let least = place as u32 + 1;
-    if top < least { least } else { top }
-}
+use table::LiveTable;
 
 // Stores a new entry with its first party at a free place.
-pub fn issue<'a>(
-    ids: &'a mut [u32; numbers::PLACES],
-    asked: &'a mut [u64; numbers::PLACES],
-    callers: &'a mut [u8; numbers::PLACES],
-    deadlines: &'a mut [u64; numbers::PLACES],
-    counts: &'a mut [u8; numbers::PLACES],
-    clients: &'a mut [u8; numbers::PARTY_PLACES],
-    originals: &'a mut [u16; numbers::PARTY_PLACES],
-    top: &'a mut u32,
+pub fn issue(
+    table: &mut LiveTable,
     place: usize,
     id: ProxyId,
     word: u64,
@@ -36,64 +21,50 @@ pub fn issue<'a>(
     client: u8,
     original: OriginalId,
 )
-    requires sound_table { SoundTable (columns ids.old asked.old callers.old deadlines.old counts.old clients.old originals.old top.old) }
-    requires place_lt_places { (place < places) × (get_or ids.old place 0 ≡ 0) }
+    requires sound_table { SoundTable (columns_of table.old) }
+    requires place_lt_places { (place < places) × (get_or table.old.ids place 0 ≡ 0) }
     requires proper { Proper (what_of word) × (word_of (what_of word) ≡ word) }
-    ensures top_after { table_of (columns ids.new asked.new callers.new deadlines.new counts.new clients.new originals.new top.new)
-        ≡ set (table_of (columns ids.old asked.old callers.old deadlines.old counts.old clients.old originals.old top.old))
-        place (some (entry id.0 (what_of word) client opened deadline (party client original.0 ∷ []))) }
-    ensures sound_table_2 { SoundTable (columns ids.new asked.new callers.new deadlines.new counts.new clients.new originals.new top.new) }
+    ensures top_after { table_of (columns_of table.new) ≡ set (table_of (columns_of table.old)) place (some (entry id.0 (what_of word) client opened deadline (party client original.0 ∷ []))) }
+    ensures sound_table_2 { SoundTable (columns_of table.new) }
+    ensures stays { table.new.cursor ≡ table.old.cursor }
 {
-    ids[place] = id.0 as u32 + 1;
-    asked[place] = word;
-    callers[place] = client;
-    deadlines[place] = deadline;
-    counts[place] = 1;
+    table.ids[place] = id.0 as u32 + 1;
+    table.asked[place] = word;
+    table.callers[place] = client;
+    table.deadlines[place] = deadline;
+    table.counts[place] = 1;
     let at = place * numbers::ROOM;
-    clients[at] = client;
-    originals[at] = original.0;
-    *top = raised(*top, place);
+    table.clients[at] = client;
+    table.originals[at] = original.0;
+    table.top = table.top.max(place as u32 + 1);
 }
 
 // One more party for the place.
-pub fn join<'a>(
-    counts: &'a mut [u8; numbers::PLACES],
-    clients: &'a mut [u8; numbers::PARTY_PLACES],
-    originals: &'a mut [u16; numbers::PARTY_PLACES],
-    place: usize,
-    client: u8,
-    original: OriginalId,
-)
-    requires runs { Runs counts.old clients.old originals.old }
-    requires place_lt_places { (place < places) × (get_or counts.old place 0 < room) }
-    ensures { Joined place (party client original.0) counts.old clients.old originals.old counts.new clients.new originals.new }
+pub fn join(table: &mut LiveTable, place: usize, client: u8, original: OriginalId)
+    requires runs { Runs table.old.counts table.old.clients table.old.originals }
+    requires place_lt_places { (place < places) × (get_or table.old.counts place 0 < room) }
+    ensures joined { Joined place (party client original.0) table.old.counts table.old.clients table.old.originals table.new.counts table.new.clients table.new.originals }
+    ensures stays { (table.new.ids ≡ table.old.ids) × (table.new.asked ≡ table.old.asked) × (table.new.callers ≡ table.old.callers)
+        × (table.new.deadlines ≡ table.old.deadlines) × (table.new.top ≡ table.old.top) × (table.new.cursor ≡ table.old.cursor) }
 {
-    let n = counts[place];
-    let at = place * numbers::ROOM + laws::wide(n);
-    clients[at] = client;
-    originals[at] = original.0;
-    counts[place] = n + 1;
+    let n = table.counts[place];
+    let at = place * numbers::ROOM + usize::from(n);
+    table.clients[at] = client;
+    table.originals[at] = original.0;
+    table.counts[place] = n + 1;
 }
 
 // Makes every place free.
-pub fn clear<'a>(
-    ids: &'a mut [u32; numbers::PLACES],
-    asked: &'a mut [u64; numbers::PLACES],
-    callers: &'a mut [u8; numbers::PLACES],
-    deadlines: &'a mut [u64; numbers::PLACES],
-    counts: &'a mut [u8; numbers::PLACES],
-    clients: &'a mut [u8; numbers::PARTY_PLACES],
-    originals: &'a mut [u16; numbers::PARTY_PLACES],
-    top: &'a mut u32,
-)
-    ensures { columns ids.new asked.new callers.new deadlines.new counts.new clients.new originals.new top.new ≡ blank }
+pub fn clear(table: &mut LiveTable)
+    ensures cleared { columns_of table.new ≡ blank }
+    ensures stays { table.new.cursor ≡ table.old.cursor }
 {
-    *ids = [0u32; numbers::PLACES];
-    *asked = [0u64; numbers::PLACES];
-    *callers = [0u8; numbers::PLACES];
-    *deadlines = [0u64; numbers::PLACES];
-    *counts = [0u8; numbers::PLACES];
-    *clients = [0u8; numbers::PARTY_PLACES];
-    *originals = [0u16; numbers::PARTY_PLACES];
-    *top = 0;
+    table.ids = [0u32; numbers::PLACES];
+    table.asked = [0u64; numbers::PLACES];
+    table.callers = [0u8; numbers::PLACES];
+    table.deadlines = [0u64; numbers::PLACES];
+    table.counts = [0u8; numbers::PLACES];
+    table.clients = [0u8; numbers::PARTY_PLACES];
+    table.originals = [0u16; numbers::PARTY_PLACES];
+    table.top = 0;
 }

@@ -3,10 +3,12 @@ ghost use Rattle.std.specs.Prelude.{◌≡◌, ◌+◌, ◌≤◌, length};
 ghost use Rattle.numbers.specs.Numbers.{places, party_places};
 ghost use Rattle.table.specs.inner.Changes.{Runs, StruckOut, Struck};
 
+use table::LiveTable;
+
 // Strikes the client out of a run of n parties that starts at base, and closes the gaps; how many stay.
-fn strike_run<'a>(
-    clients: &'a mut [u8; numbers::PARTY_PLACES],
-    originals: &'a mut [u16; numbers::PARTY_PLACES],
+fn strike_run(
+    clients: &mut [u8; numbers::PARTY_PLACES],
+    originals: &mut [u16; numbers::PARTY_PLACES],
     base: usize,
     n: usize,
     client: u8,
@@ -15,8 +17,7 @@ fn strike_run<'a>(
     ensures { StruckOut base n client result clients.old originals.old clients.new originals.new }
 {
     let mut kept: usize = 0;
-    let mut j: usize = 0;
-    while j < n {
+    for j in 0..n {
         let at = base + j;
         let owner = clients[at];
         if owner != client {
@@ -26,29 +27,27 @@ fn strike_run<'a>(
             originals[to] = original;
             kept += 1;
         }
-        j += 1;
     }
     kept
 }
 
 // Strikes the client out of every place below top: its room is free again, the order of the rest stays.
-pub fn strike<'a>(
-    counts: &'a mut [u8; numbers::PLACES],
-    clients: &'a mut [u8; numbers::PARTY_PLACES],
-    originals: &'a mut [u16; numbers::PARTY_PLACES],
-    top: u32,
-    client: u8,
-)
-    requires runs { Runs counts.old clients.old originals.old }
-    requires top_le_places { top ≤ places }
-    ensures { Struck top client counts.old clients.old originals.old counts.new clients.new originals.new }
+pub fn strike(table: &mut LiveTable, client: u8)
+    requires runs { Runs table.old.counts table.old.clients table.old.originals }
+    requires top_le_places { table.old.top ≤ places }
+    ensures struck { Struck table.old.top client table.old.counts table.old.clients table.old.originals table.new.counts table.new.clients table.new.originals }
+    ensures stays { (table.new.ids ≡ table.old.ids) × (table.new.asked ≡ table.old.asked) × (table.new.callers ≡ table.old.callers)
+        × (table.new.deadlines ≡ table.old.deadlines) × (table.new.top ≡ table.old.top) × (table.new.cursor ≡ table.old.cursor) }
 {
-    let end = top as usize;
-    let mut k: usize = 0;
-    while k < end {
-        let n = laws::wide(counts[k]);
-        let kept = strike_run(clients, originals, k * numbers::ROOM, n, client);
-        counts[k] = kept as u8;
-        k += 1;
+    for k in 0..table.top as usize {
+        let n = usize::from(table.counts[k]);
+        let kept = strike_run(
+            &mut table.clients,
+            &mut table.originals,
+            k * numbers::ROOM,
+            n,
+            client,
+        );
+        table.counts[k] = kept as u8;
     }
 }

@@ -8,6 +8,10 @@ use mathlib.Core.Path.{◌≡◌, sym, ap, subst, ◌∙◌}
 use mathlib.Core.List.{List}
 use lib.ListN.{length}
 use lib.Seq.{length-take-le}
+use Rattle.std.proofs.Common.{mul_comm, ⊎_elim, Option, Some, None, IsSome, IfSome, ◌↔◌, max}
+use Rattle.std.specs.Option.{unwrap_or}
+use mathlib.Core.Bool.{false≢true}
+use Rattle.laws.proofs.Choice.{lt_or}
 use Rattle.parts.specs.Digits.{IsPrefixLen, IsDigitCount}
 
 pub two-mul-div-le : (n b : ℕ) → 1 < b → 2 * (n / b) ≤ n
@@ -46,3 +50,16 @@ digit_count_le b width n k most h fewest within holds = le_of_suc-le-suc (lt_of_
 -- from a bound on a count to what `&buf[..n]` asks
 pub prefix_len_of_le : (n : ℕ) (xs : List ℕ) → n ≤ length xs → IsPrefixLen n xs
 prefix_len_of_le n xs h = (h, sym (length-take-le n xs h))
+
+-- a number has one digit more than its logarithm, 0 has one, and a wider field is filled
+pub count_log : (b width n : ℕ) (log : Option ℕ) → 1 < b → 0 < width → (IsSome log ↔ ((0 < n) × (2 ≤ b))) → IfSome log (λ k. b ^ k ≤ n) → IfSome log (λ k. n < b * b ^ k) → (count : ℕ) → count ≡ max (unwrap_or log 0 + 1) width → IsDigitCount b width n count
+count_log b width n None h w some low high count e =
+    let zero_one : n ≡ 0 = ⊎_elim (λ (l : 0 < n). absurd (false≢true (some.1 (l, h)))) (λ (l : n ≤ 0). omega arith) (lt_or 0 n) in
+    let room : 1 ≤ b ^ count = one-le-pow count b (omega arith) in
+    (omega arith, omega arith, λ s. omega arith)
+count_log b width n (Some k) h w some low high count e =
+    let next : b ^ (k + 1) ≡ b ^ k * b = rw (add-one k) (pow-suc b k) in
+    let more : b ^ (k + 1) ≤ b ^ count = pow-le-pow_right (omega arith) (omega arith) in
+    let below : n < b ^ (k + 1) = rw next (omega (arith, mul_comm b (b ^ k))) in
+    let last : width < count → count - 1 ≡ k = λ s. omega arith in
+    (omega arith, omega arith, λ s. rw (last s) low)

@@ -1,9 +1,11 @@
 -- What is said piece by piece is said as a whole; the fewest digits of a number; one mark more of a form.
 -- Assumes nothing.
-use Rattle.std.proofs.Common.{◌≡◌, ℕ, zero, suc, ◌+◌, ◌-◌, ◌^◌, ◌<◌, ◌≤◌, min, Bool, true, false, cond, ◌&&◌, eqb, leb, List, [], ◌∷◌, ◌++◌, length, get_or, take, drop, sym, refl, ◌∙◌, ⊎_elim, add-zero, add_assoc, add-one, arith, length-append, drop_of_length-le, drop-cons, drop-drop, le-ltb, lt-ltb, eq-eqb, ne_eqb, eqb-true}
-use mathlib.Core.Bool.{false≢true, and_assoc}
+use Rattle.std.proofs.Common.{◌≡◌, ℕ, zero, suc, ◌+◌, ◌-◌, ◌^◌, ◌<◌, ◌≤◌, min, Bool, true, false, cond, ◌&&◌, eqb, leb, List, [], ◌∷◌, ◌++◌, length, get_or, drop, sym, refl, ◌∙◌, ⊎_elim, add-zero, add_assoc, add-one, arith, length-append, drop_of_length-le, drop-cons, drop-drop, le-ltb, lt-ltb, eq-eqb, ne_eqb}
+use mathlib.Core.Bool.{and_assoc}
 use native.Mathlib.Nat.{pow-le-pow_left, pow-le-pow_right}
-use Rattle.laws.proofs.Choice.{true_or, eq_or, lt_or, and_left, and_right, same_test, never}
+use Rattle.laws.proofs.Choice.{true_or, eq_or, lt_or}
+use Rattle.std.proofs.Common.{nat_eq, ap}
+use Rattle.std.specs.List.{starts_with}
 use Rattle.parts.specs.Digits.{last_digits, IsDigitCount}
 use Rattle.parts.specs.Said.{begins, lost, said, fewest, numeral, marked, formed}
 
@@ -14,24 +16,12 @@ begins_append [] q t = refl
 begins_append (c ∷ p) q [] = refl
 begins_append (c ∷ p) q (b ∷ t) = rw (begins_append p q t) (sym (and_assoc (eqb c b) (begins p t) (begins q (drop (length p) t))))
 
--- it begins with a piece exactly where its front is that piece
-begins_front : (p t : List ℕ) → begins p t ≡ true → take (length p) t ≡ p
+-- it begins with a piece exactly where the library's test says so
+begins_starts : (p t : List ℕ) → begins p t ≡ starts_with nat_eq t p
 unfolding begins
-begins_front [] t e = refl
-begins_front (c ∷ p) [] e = absurd (false≢true e)
-begins_front (c ∷ p) (b ∷ t) e =
-    let same : c ≡ b = eqb-true c b (and_left (eqb c b) (begins p t) e) in
-    let rest : take (length p) t ≡ p = begins_front p t (and_right (eqb c b) (begins p t) e) in
-    cc
-
-front_begins : (p t : List ℕ) → take (length p) t ≡ p → begins p t ≡ true
-unfolding begins
-front_begins [] t e = refl
-front_begins (c ∷ p) [] e = never (cc)
-front_begins (c ∷ p) (b ∷ t) e =
-    let same : c ≡ b = cc in
-    let rest : take (length p) t ≡ p = cc in
-    rw (eq-eqb c b same) (front_begins p t rest)
+begins_starts [] t = refl
+begins_starts (c ∷ p) [] = refl
+begins_starts (c ∷ p) (b ∷ t) = ap (eqb c b &&◌) (begins_starts p t)
 
 -- what is said where all is lost, and elsewhere
 pub said-lost : (right : List ℕ) {at : ℕ} (piece : List ℕ) → at ≡ lost → said right at piece ≡ lost
@@ -42,14 +32,13 @@ said-found : (right : List ℕ) (at : ℕ) (piece : List ℕ) → (at ≡ lost �
 unfolding said
 said-found right at piece h = rw (ne_eqb at lost h)
 
--- what a test for the same bytes says of the front of what stands there
-pub said-held : (right : List ℕ) (at : ℕ) (piece : List ℕ) {behind front : List ℕ} {same : Bool} → (at ≡ lost → ⊥) → behind ≡ drop at right → front ≡ take (length piece) behind
-    → (same ≡ true → front ≡ piece) × (front ≡ piece → same ≡ true) → cond same (min (at + length piece) lost) lost ≡ said right at piece
-said-held right at piece {same = same} h b f w =
-    let e : begins piece (drop at right) ≡ same =
-    same_test _ _ (λ t. w.1 (f ∙ rw b (begins_front piece (drop at right) t))) (λ t. front_begins piece (drop at right) (rw b at (sym f ∙ w.0 t)))
-    in
-    sym (rw e at (said-found right at piece h))
+-- the place behind a piece that stands at the place, and none behind another
+module _ (right : List ℕ) (at : ℕ) (piece : List ℕ) {begun : Bool} (e : begun ≡ starts_with nat_eq (drop at right) piece) where
+  pub said-stands : begun ≡ true → said right at piece ≡ min (at + length piece) lost
+  said-stands t = ⊎_elim (λ z. said-lost right piece z ∙ omega arith) (λ h. said-found right at piece h ∙ rw (begins_starts piece (drop at right), ← e, t)) (eq_or at lost)
+
+  pub said-differs : begun ≡ false → said right at piece ≡ lost
+  said-differs f = ⊎_elim (said-lost right piece) (λ h. said-found right at piece h ∙ rw (begins_starts piece (drop at right), ← e, f)) (eq_or at lost)
 
 -- nothing said leaves the place
 pub said-nothing : (right : List ℕ) (at : ℕ) → at ≤ lost → said right at [] ≡ at
@@ -102,22 +91,6 @@ said-within right at piece = low (eqb at lost) (begins piece (drop at right))
     low true begun = omega arith
     low false true = omega arith
     low false false = omega arith
-
--- saying a text piece by piece: the place so far, and the rest
-pub record Saying (right : List ℕ) (at : ℕ) (text : List ℕ) (next : ℕ) (rest : List ℕ) : Type 0 where
-  pub within : next ≤ lost
-  pub all : said right next rest ≡ said right at text
-
-pub saying_none : (right : List ℕ) (at : ℕ) (text : List ℕ) → at ≤ lost → Saying right at text at text
-saying_none right at text l = record { within = l; all = refl }
-
-pub saying_more : {right : List ℕ} {at : ℕ} {text : List ℕ} {next : ℕ} {rest : List ℕ} {next' : ℕ} (piece rest' : List ℕ)
-    → rest ≡ piece ++ rest' → next' ≡ said right next piece → Saying right at text next rest → Saying right at text next' rest'
-saying_more {right} {at} {text} {next} {rest} {next'} piece rest' e f w =
-    record { within = rw f (said-within right next piece); all = rw (f, said-said right next piece rest', ← e) w.all }
-
-pub saying_all : {right : List ℕ} {at : ℕ} {text : List ℕ} {next : ℕ} {rest : List ℕ} → rest ≡ [] → Saying right at text next rest → next ≡ said right at text
-saying_all {right} {next = next} e w = sym (said-nothing right next w.within) ∙ rw e at w.all
 
 -- fewer digits do not hold the number
 fewest-below : (b least n k : ℕ) → 1 ≤ b → IsDigitCount b least n k → least < k → b ^ least ≤ n

@@ -22,7 +22,7 @@ pub fn hex(n: u64, width: usize, out: &mut [u8; 16]) -> usize
     ensures digits { take result out.new ≡ last_digits 16 result n }
     ensures rest { drop result out.new ≡ drop result out.old }
 {
-    let k = digit_count(n, 16, clamp_width(width));
+    let k = digit_count(n, 16, width.clamp(1, 16));
     write_digits(n, 16, k, out);
     k
 }
@@ -33,25 +33,8 @@ fn digit_count(n: u64, base: u64, width: usize) -> usize
     requires width_nonzero { 0 < width }
     ensures { IsDigitCount base width n result }
 {
-    let mut k = 1;
-    let mut rest = n / base;
-    while rest > 0 {
-        rest /= base;
-        k += 1;
-    }
-    if k < width { width } else { k }
-}
-
-fn clamp_width(width: usize) -> usize
-    ensures { result ≡ min (max width 1) 16 }
-{
-    if width < 1 {
-        1
-    } else if width > 16 {
-        16
-    } else {
-        width
-    }
+    let needed = n.checked_ilog(base).unwrap_or(0) as usize + 1;
+    needed.max(width)
 }
 
 // Puts the last k digits of n in base at the start of out.
@@ -62,10 +45,8 @@ fn write_digits(n: u64, base: u64, k: usize, out: &mut [u8])
     ensures digits { take k out.new ≡ last_digits base k n }
     ensures rest { drop k out.new ≡ drop k out.old }
 {
-    let mut i = k;
     let mut rest = n;
-    while i > 0 {
-        i -= 1;
+    for i in (0..k).rev() {
         out[i] = digit_to_ascii(rest % base);
         rest /= base;
     }

@@ -1,11 +1,9 @@
 // Bytes to and from hexadecimal text.
-ghost use Rattle.std.specs.Prelude.{◌≡◌, ◌%◌, ◌≤◌, length, drop};
+ghost use Rattle.std.specs.Prelude.{◌≡◌, ◌%◌, ◌≤◌, length};
 ghost use Rattle.laws.specs.Bytes.{over};
-ghost use Rattle.parts.specs.Texts.{nibble as nibbleOf, bytes_of, digit as digitOf, hex_of};
-ghost use Rattle.parts.specs.Said.{said};
+ghost use Rattle.parts.specs.Texts.{nibble as nibbleOf, bytes_of, digit as digitOf};
 
-use crate::output::Output;
-use crate::saying::say;
+use crate::behind;
 
 // The number that a hexadecimal digit is: 0 to 9, A to F.
 fn nibble(digit: u8) -> u8
@@ -15,32 +13,23 @@ fn nibble(digit: u8) -> u8
     (digit % 16 + more) % 16
 }
 
-// The place three bytes on; the end where it lies beyond it.
-fn third(s: &[u8], at: usize) -> usize
-    requires { at ≤ length s.now }
-    ensures { (result ≤ length s.now) × (drop result s.now ≡ drop 3 (drop at s.now)) }
-{
-    if s.len() - at < 3 { s.len() } else { at + 3 }
-}
-
 // The bytes that a text of digits and single spaces is.
 pub fn parse(s: &[u8], bytes: &mut [u8]) -> usize
     ensures { (result ≡ length (bytes_of (length bytes.old) s.now)) × (bytes.new ≡ over (bytes_of (length bytes.old) s.now) bytes.old) }
 {
-    let mut k: usize = 0;
-    let mut at: usize = 0;
-    while k < bytes.len() {
-        if s.len() - at < 2 {
+    let mut left = s;
+    for k in 0..bytes.len() {
+        let [high, low, ..] = *left else {
             return k;
-        }
-        bytes[k] = nibble(s[at]) * 16 + nibble(s[at + 1]);
-        at = third(s, at);
-        k += 1;
+        };
+        bytes[k] = nibble(high) * 16 + nibble(low);
+        left = behind(left, 3);
     }
-    k
+    bytes.len()
 }
 
-fn digit(n: u8) -> u8
+// The digit of a byte's low half.
+pub(crate) fn digit(n: u8) -> u8
     ensures { result ≡ digitOf (n % 16) }
 {
     let low = n % 16;
@@ -49,18 +38,4 @@ fn digit(n: u8) -> u8
     } else {
         b'A' + (low - 10)
     }
-}
-
-// Says a blank and the digits of each byte.
-pub fn say_hex(right: &[u8], at: usize, bytes: &[u8], output: &mut Output) -> usize
-    ensures { result ≡ said right.now at (hex_of bytes.now) }
-{
-    let mut next = at;
-    let mut k: usize = 0;
-    while k < bytes.len() {
-        let byte = bytes[k];
-        next = say(right, next, &[b' ', digit(byte / 16), digit(byte)], output);
-        k += 1;
-    }
-    next
 }

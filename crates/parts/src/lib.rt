@@ -21,31 +21,21 @@ pub fn end_of(s: &[u8], at: usize, byte: u8) -> usize
     requires { at ≤ length s.now }
     ensures { (at ≤ result) × (result ≤ length s.now) × (result ≡ at + end_of byte (drop at s.now)) }
 {
-    let mut end = at;
-    while end < s.len() {
-        if s[end] == byte {
-            return end;
-        }
-        end += 1;
-    }
-    end
+    let left = behind(s, at);
+    at + left.iter().position(|x| *x == byte).unwrap_or(left.len())
 }
 
 // The bytes before a place, and those from it on; a place past the end counts as the end.
 pub fn before(s: &[u8], place: usize) -> &[u8]
     ensures { result.now ≡ take place s.now }
 {
-    if place <= s.len() { &s[0..place] } else { s }
+    s.get(..place).unwrap_or(s)
 }
 
 pub fn behind(s: &[u8], place: usize) -> &[u8]
     ensures { result.now ≡ drop place s.now }
 {
-    if place <= s.len() {
-        &s[place..]
-    } else {
-        &s[0..0]
-    }
+    s.get(place..).unwrap_or(&[])
 }
 
 // What stands before the first such byte, and what behind it.
@@ -61,34 +51,19 @@ pub fn rest(s: &[u8], byte: u8) -> &[u8]
     behind(behind(s, end_of(s, 0, byte)), 1)
 }
 
-// The place behind where this byte next stands; the end where it does not.
-fn behind_next(s: &[u8], at: usize, byte: u8) -> usize
-    requires { at ≤ length s.now }
-    ensures { (result ≤ length s.now) × (drop result s.now ≡ rest_of byte (drop at s.now)) }
-{
-    let end = end_of(s, at, byte);
-    if end < s.len() { end + 1 } else { end }
-}
-
 // The k-th part of a text, counted from 0: each is ended by this byte.
 pub fn field(s: &[u8], byte: u8, k: usize) -> &[u8]
     ensures { result.now ≡ field_of byte k s.now }
 {
-    let mut at: usize = 0;
-    let mut passed: usize = 0;
-    while passed < k {
-        at = behind_next(s, at, byte);
-        passed += 1;
-    }
-    head(behind(s, at), byte)
+    s.split(|x| *x == byte).nth(k).unwrap_or(&[])
 }
 
 // A number with one digit more; a byte that is no digit leaves it.
 fn longer(value: u64, byte: u8) -> u64
     ensures { result ≡ longerOf value byte }
 {
-    if (b'0' <= byte) & (byte <= b'9') {
-        wrapping_add_u64(value % TENTH * 10, (byte - b'0') as u64)
+    if byte.is_ascii_digit() {
+        wrapping_add_u64(value % TENTH * 10, u64::from(byte - b'0'))
     } else {
         value
     }
@@ -98,14 +73,8 @@ fn longer(value: u64, byte: u8) -> u64
 pub fn number(word: &[u8], other: u64) -> u64
     ensures { result ≡ number_of word.now other }
 {
-    if word.len() == 0 {
+    if word.is_empty() {
         return other;
     }
-    let mut value: u64 = 0;
-    let mut at: usize = 0;
-    while at < word.len() {
-        value = longer(value, word[at]);
-        at += 1;
-    }
-    value
+    word.iter().fold(0, |value, byte| longer(value, *byte))
 }

@@ -17,6 +17,7 @@ use Rattle.rewrite.specs.Frames.{forwarded}
 use Rattle.rewrite.specs.Legal.{some_forbids, some_has, forbidden}
 use Rattle.rewrite.specs.inner.Lent as lent
 use Rattle.rewrite.proofs.StrictLaws.{lenient-allowed}
+use Rattle.payloads.specs.declared.carrying.Run as run
 use Rattle.payloads.specs.declared.carrying.Carried.{Carried}
 use Rattle.payloads.specs.declared.carrying.Carried.TheVariants.{Nothing, Mask, Run}
 use Rattle.payloads.specs.inner.Carrying.{carried_by}
@@ -26,17 +27,17 @@ module _ (tags : List Tag) (f : List ℕ) where
   abbrev pub RunIn : Carried → Type 0
   RunIn Nothing = Unit {0}
   RunIn (Mask a) = Unit {0}
-  RunIn (Run base start quantity) = lent.Run base start quantity f
+  RunIn (Run r) = lent.Run r.base r.start r.quantity f
 
   abbrev pub sent_as : Carried → Rewritten
   sent_as Nothing = with_counts 0 0 f
   sent_as (Mask a) = with_counts 0 0 f
-  sent_as (Run base start quantity) = rewriting ToBcd base start quantity tags f
+  sent_as (Run r) = rewriting ToBcd r.base r.start r.quantity tags f
 
   abbrev pub forbids_as : Carried → Bool
   forbids_as Nothing = false
   forbids_as (Mask a) = some_has a tags
-  forbids_as (Run base start quantity) = some_forbids start (registers_at base quantity f) tags
+  forbids_as (Run r) = some_forbids r.start (registers_at r.base r.quantity f) tags
 
   pub record Carrying (a : Asked) (x : Carried) : Type 0 where
     pub room : lent.Sent a f → RunIn x
@@ -60,5 +61,5 @@ module _ (tags : List Tag) (f : List ℕ) where
     carrying = rw e (by_carried a)
 
     -- Where no tag is strict, none forbids a run.
-    pub run-lenient : (base start quantity : ℕ) → x ≡ Run base start quantity → some_strict tags ≡ false → forbidden tags a f ≡ false
-    run-lenient base start quantity r s = lenient-allowed tags s a f (λ at v w m. never (cc (ap carried_by m)))
+    pub run-lenient : (r : run.Run) → x ≡ Run r → some_strict tags ≡ false → forbidden tags a f ≡ false
+    run-lenient r q s = lenient-allowed tags s a f (λ at v w m. never (cc (ap carried_by m)))

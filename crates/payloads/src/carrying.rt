@@ -1,5 +1,5 @@
 // Which registers a request carries or masks: what its rewriting and its check by the tags both go by.
-ghost use Rattle.std.specs.Prelude.{◌≡◌};
+ghost use Rattle.std.specs.Prelude.{◌≡◌, ◌+◌};
 ghost use Rattle.payloads.specs.inner.Carrying.{run_of, carried_by};
 
 use pdu::{Asked, Table};
@@ -11,16 +11,29 @@ const MULTIPLE_BASE: usize = 13;
 
 const READ_WRITE_BASE: usize = 17;
 
-// What a request has for registers: nothing, masks for the one at an address, or a run of them from byte base on, of the addresses from start on.
+// A run of registers in a buffer: from byte base on, of the addresses from start on.
+#[derive(Clone, Copy)]
+pub struct Run {
+    pub base: usize,
+    pub start: u16,
+    pub quantity: u16,
+}
+
+impl Run {
+    // The address behind the last.
+    pub fn end(self) -> usize
+        ensures { result ≡ self.start + self.quantity }
+    {
+        self.start as usize + self.quantity as usize
+    }
+}
+
+// What a request has for registers: nothing, masks for the one at an address, or a run of them.
 #[derive(Clone, Copy)]
 pub enum Carried {
     Nothing,
     Mask(u16),
-    Run {
-        base: usize,
-        start: u16,
-        quantity: u16,
-    },
+    Run(Run),
 }
 
 // A write of registers carries them; one of bits has nothing for registers.
@@ -29,11 +42,11 @@ fn run_of(table: Table, base: usize, start: u16, quantity: u16) -> Carried
 {
     match table {
         Table::Bits => Carried::Nothing,
-        Table::Registers => Carried::Run {
+        Table::Registers => Carried::Run(Run {
             base,
             start,
             quantity,
-        },
+        }),
     }
 }
 
@@ -53,12 +66,11 @@ pub fn carried_by(asked: Asked) -> Carried
             write_start,
             write_quantity,
             ..
-        } => Carried::Run {
+        } => Carried::Run(Run {
             base: READ_WRITE_BASE,
             start: write_start,
             quantity: write_quantity,
-        },
-        Asked::Read { .. } => Carried::Nothing,
-        Asked::Other => Carried::Nothing,
+        }),
+        Asked::Read { .. } | Asked::Other => Carried::Nothing,
     }
 }

@@ -13,7 +13,8 @@ use Rattle.laws.proofs.Choice.{eq_or}
 use Rattle.wire.specs.Frame.{unit_of, function_of, misframed}
 use Rattle.wire.proofs.FrameLaws.{framed}
 use Rattle.pdu.specs.Requests.{start_of, and_mask_of, or_mask_of}
-use Rattle.pdu.specs.Replies.{What, what, excepts, answering}
+use Rattle.pdu.specs.Replies.{what, excepts, answering}
+use Rattle.pdu.specs.declared.What.{What}
 use Rattle.pdu.specs.declared.Asked.TheVariants.{MaskWrite}
 use Rattle.pdu.specs.Plain.{Exception, Shaped}
 use Rattle.pdu.proofs.ReplyLaws.{excepts_exact, answers_exact}

@@ -12,7 +12,8 @@ use Rattle.laws.proofs.Choice.{and_left, and_right, never}
 use Rattle.laws.proofs.TestLaws.{holds_eq, holds_and}
 use Rattle.wire.specs.Frame.{function_of}
 use Rattle.pdu.specs.Requests.{class_of, start_of, quantity_of, bad_value, bad_address, asked_by, asked_of, fault_by, fault_of}
-use Rattle.pdu.specs.Replies.{What, what}
+use Rattle.pdu.specs.Replies.{what}
+use Rattle.pdu.specs.declared.What.{What}
 use Rattle.pdu.specs.Spoiling.{same_table}
 use Rattle.pdu.specs.Reads.{is_read, same_read, equal_reads}
 use Rattle.pdu.specs.Words.{asked_from, what_of}

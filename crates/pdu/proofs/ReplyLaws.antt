@@ -12,7 +12,8 @@ use Rattle.numbers.specs.Numbers.{last_function, short_pdu, mask_pdu}
 use Rattle.wire.specs.Frame.{unit_of, function_of, pdu_size, exception}
 use Rattle.wire.proofs.FrameLaws.{exception_function}
 use Rattle.pdu.specs.Requests.{start_of, quantity_of, and_mask_of, or_mask_of, bytes_for}
-use Rattle.pdu.specs.Replies.{What, reply_count_of, shaped, excepts, answering}
+use Rattle.pdu.specs.Replies.{reply_count_of, shaped, excepts, answering}
+use Rattle.pdu.specs.declared.What.{What}
 use Rattle.pdu.specs.Words.{Proper}
 use Rattle.pdu.specs.declared.Table.TheVariants.{Bits, Registers}
 use Rattle.pdu.specs.declared.Asked.{Asked}

@@ -15,7 +15,7 @@ use Rattle.numbers.specs.Numbers.{last_function, most_read, most_read_written, c
 use Rattle.laws.specs.Bytes.{pair_at}
 use Rattle.laws.proofs.Choice.{true_or, eq_or, lt_or, or_either, never}
 use Rattle.wire.specs.Frame.{unit_of, function_of, pdu_size}
-use Rattle.pdu.specs.Requests.{class_of, start_of, quantity_of, value_of, byte_count_of, write_start_of, write_quantity_of, write_count_of, bytes_for, most_read_of, most_written_of, bad_function, bad_length, bad_value, bad_address, asked_by, asked_of, fault_of, checked_by, checked_of}
+use Rattle.pdu.specs.Requests.{class_of, start_of, quantity_of, value_of, byte_count_of, write_start_of, write_quantity_of, write_count_of, bytes_for, most_read_of, most_written_of, bad_function, bad_length, bad_value, bad_address, asked_by, asked_of, fault_of, checked_by, checked_of, Checked}
 use Rattle.pdu.specs.Replies.{what}
 use Rattle.pdu.specs.Words.{asked_bits, asked_from, Lawful, Proper}
 use Rattle.pdu.specs.declared.Table.TheVariants.{Bits, Registers}
@@ -23,11 +23,11 @@ use Rattle.pdu.specs.declared.Class.{Class}
 use Rattle.pdu.specs.declared.Class.TheVariants.{Reads, WritesOne, WritesMany, Masks, ReadsWrites, Others}
 use Rattle.pdu.specs.declared.Asked.{Asked}
 use Rattle.pdu.specs.declared.Asked.TheVariants.{Read, SingleWrite, MultipleWrite, MaskWrite, ReadWrite, Other}
-use Rattle.pdu.specs.declared.Checked.{Checked}
-use Rattle.pdu.specs.declared.Checked.TheVariants.{BadFunction, BadLength, Excepted, Legal}
 use Rattle.laws.proofs.TestLaws.{holds_eq, holds_or, fails_not, fails_ne, fails_lt, fails_zero, fails_or, fails_never, fails_holds, either}
 use Rattle.pdu.specs.Plain.{Known, Sized, Valued, Ranged, class_in, Outcome}
 use Rattle.pdu.specs.Plain.Outcome.{unknown, missized, misvalued, misranged, fine}
+use Rattle.pdu.specs.declared.Fault.TheVariants.{BadFunction, BadLength, Excepted}
+use Rattle.std.specs.Prelude.{Ok, Err}
 
 -- Refusal 5 fails exactly for 1 to 127.
 pub known : (n : ℕ) → (bad_function n ≡ false) ↔ Known n
@@ -104,28 +104,28 @@ ranged ReadsWrites f =
 ranged Others f = fails_never
 
 -- Refusal 6 comes before the exceptions.
-pub checked_missized : (c : Class) (f : List ℕ) → bad_length c f ≡ true → checked_by c f ≡ BadLength
+pub checked_missized : (c : Class) (f : List ℕ) → bad_length c f ≡ true → checked_by c f ≡ Err BadLength
 unfolding checked_by
 checked_missized c f e = rw e
 
 -- the code of a fault as an outcome
-flat : (v a : Bool) (x : Asked) → cond (eqb (cond v illegal_value (cond a illegal_address 0)) 0) (Legal x) (Excepted (cond v illegal_value (cond a illegal_address 0))) ≡ cond v (Excepted illegal_value) (cond a (Excepted illegal_address) (Legal x))
+flat : (v a : Bool) (x : Asked) → cond (eqb (cond v illegal_value (cond a illegal_address 0)) 0) (Ok x) (Err (Excepted (cond v illegal_value (cond a illegal_address 0)))) ≡ cond v (Err (Excepted illegal_value)) (cond a (Err (Excepted illegal_address)) (Ok x))
 flat true a x = refl
 flat false true x = refl
 flat false false x = refl
 
 -- Behind refusal 6 exception 03 comes before exception 02, and a request that has neither is legal.
-pub checked_sized : (c : Class) (f : List ℕ) → bad_length c f ≡ false → checked_by c f ≡ cond (bad_value c f) (Excepted illegal_value) (cond (bad_address c f) (Excepted illegal_address) (Legal (asked_by c f)))
+pub checked_sized : (c : Class) (f : List ℕ) → bad_length c f ≡ false → checked_by c f ≡ cond (bad_value c f) (Err (Excepted illegal_value)) (cond (bad_address c f) (Err (Excepted illegal_address)) (Ok (asked_by c f)))
 unfolding checked_by
 checked_sized c f e = rw e (flat (bad_value c f) (bad_address c f) (asked_by c f))
 
 -- A request of any other function is legal, whatever it holds.
-pub checked_other : (f : List ℕ) → checked_by Others f ≡ Legal Other
+pub checked_other : (f : List ℕ) → checked_by Others f ≡ Ok Other
 unfolding checked_by bad_length bad_value bad_address asked_by
 checked_other f = refl
 
 -- Refusal 5 comes before all else.
-pub checked_unknown : {n : ℕ} (f : List ℕ) → n ≡ function_of f → (eqb n 0 || ltb last_function n) ≡ true → checked_of f ≡ BadFunction
+pub checked_unknown : {n : ℕ} (f : List ℕ) → n ≡ function_of f → (eqb n 0 || ltb last_function n) ≡ true → checked_of f ≡ Err BadFunction
 unfolding checked_of bad_function
 checked_unknown f e t = rw (rw e at t)
 
@@ -195,12 +195,12 @@ some-outcome f =
     ⊎_elim
     (λ k. ⊎_elim
     (λ s. ⊎_elim
-    (λ v. ⊎_elim (λ r. (Legal (asked_of f), fine k s v r)) (λ r. (Excepted 2, misranged k s v r)) (either (ranged (class_in f) f)))
-    (λ v. (Excepted 3, misvalued k s v))
+    (λ v. ⊎_elim (λ r. (Ok (asked_of f), fine k s v r)) (λ r. (Err (Excepted 2), misranged k s v r)) (either (ranged (class_in f) f)))
+    (λ v. (Err (Excepted 3), misvalued k s v))
     (either (valued (class_in f) f)))
-    (λ s. (BadLength, missized k s))
+    (λ s. (Err BadLength, missized k s))
     (either (sized (class_in f) f)))
-    (λ k. (BadFunction, unknown k))
+    (λ k. (Err BadFunction, unknown k))
     (either (known (function_of f)))
 
 -- and it is the one that the check comes to
@@ -222,26 +222,26 @@ pub check_exact : (f : List ℕ) (x : Checked) → (checked_of f ≡ x) ↔ Outc
 check_exact f x = (λ e. rw (sym e ∙ the_outcome f (some-outcome f).0 (some-outcome f).1) (some-outcome f).1, the_outcome f x)
 
 -- Refusal 5 is given for function 0 and for 128 to 255, and for no other.
-pub bad_function_exact : (f : List ℕ) → function_of f < 256 → (checked_of f ≡ BadFunction) ↔ ((function_of f ≡ 0) ⊎ ((128 ≤ function_of f) × (function_of f ≤ 255)))
-bad_function_exact f b = (λ e. out ((check_exact f BadFunction).0 e), λ w. (check_exact f BadFunction).1 (unknown (λ k. ⊎_elim (λ z. omega arith) (λ z. omega (arith, z)) w)))
+pub bad_function_exact : (f : List ℕ) → function_of f < 256 → (checked_of f ≡ Err BadFunction) ↔ ((function_of f ≡ 0) ⊎ ((128 ≤ function_of f) × (function_of f ≤ 255)))
+bad_function_exact f b = (λ e. out ((check_exact f (Err BadFunction)).0 e), λ w. (check_exact f (Err BadFunction)).1 (unknown (λ k. ⊎_elim (λ z. omega arith) (λ z. omega (arith, z)) w)))
   where
-    out : Outcome f BadFunction → (function_of f ≡ 0) ⊎ ((128 ≤ function_of f) × (function_of f ≤ 255))
+    out : Outcome f (Err BadFunction) → (function_of f ≡ 0) ⊎ ((128 ≤ function_of f) × (function_of f ≤ 255))
     out (unknown k) = ⊎_elim (λ z. inl z) (λ z. inr (⊎_elim (λ l. absurd (k (omega (arith, z), omega arith))) (λ l. (l, omega arith)) (lt_or (function_of f) 128))) (eq_or (function_of f) 0)
 
 -- The exceptions are 03 and 02, and no other.
-pub excepted_codes : (f : List ℕ) (code : ℕ) → checked_of f ≡ Excepted code → (code ≡ 3) ⊎ (code ≡ 2)
-excepted_codes f code e = codes ((check_exact f (Excepted code)).0 e)
+pub excepted_codes : (f : List ℕ) (code : ℕ) → checked_of f ≡ Err (Excepted code) → (code ≡ 3) ⊎ (code ≡ 2)
+excepted_codes f code e = codes ((check_exact f (Err (Excepted code))).0 e)
   where
-    codes : {n : ℕ} → Outcome f (Excepted n) → (n ≡ 3) ⊎ (n ≡ 2)
+    codes : {n : ℕ} → Outcome f (Err (Excepted n)) → (n ≡ 3) ⊎ (n ≡ 2)
     codes (misvalued k s v) = inl refl
     codes (misranged k s v r) = inr refl
 
 -- what each outcome tells of the definition's tests
 abbrev pub Tested : List ℕ → Checked → Type 0
-Tested f BadFunction = bad_function (function_of f) ≡ true
-Tested f BadLength = (bad_function (function_of f) ≡ false) × (bad_length (class_in f) f ≡ true)
-Tested f (Excepted code) = (bad_function (function_of f) ≡ false) × (bad_length (class_in f) f ≡ false) × (fault_of f ≡ code) × (eqb (fault_of f) 0 ≡ false)
-Tested f (Legal a) = (bad_function (function_of f) ≡ false) × (bad_length (class_in f) f ≡ false) × (fault_of f ≡ 0) × (a ≡ asked_of f)
+Tested f (Err BadFunction) = bad_function (function_of f) ≡ true
+Tested f (Err BadLength) = (bad_function (function_of f) ≡ false) × (bad_length (class_in f) f ≡ true)
+Tested f (Err (Excepted code)) = (bad_function (function_of f) ≡ false) × (bad_length (class_in f) f ≡ false) × (fault_of f ≡ code) × (eqb (fault_of f) 0 ≡ false)
+Tested f (Ok a) = (bad_function (function_of f) ≡ false) × (bad_length (class_in f) f ≡ false) × (fault_of f ≡ 0) × (a ≡ asked_of f)
 
 tests_of : (f : List ℕ) {x : Checked} → Outcome f x → Tested f x
 unfolding fault_of
@@ -270,10 +270,10 @@ pub record Passed (f : List ℕ) (a : Asked) : Type 0 where
   pub asks : a ≡ asked_of f
 
 -- A legal request passed every check, and asks what its frame says.
-pub legal-passed : (f : List ℕ) (a : Asked) → checked_of f ≡ Legal a → Passed f a
-legal-passed f a e = facts ((check_exact f (Legal a)).0 e)
+pub legal-passed : (f : List ℕ) (a : Asked) → checked_of f ≡ Ok a → Passed f a
+legal-passed f a e = facts ((check_exact f (Ok a)).0 e)
   where
-    facts : {x : Asked} → Outcome f (Legal x) → Passed f x
+    facts : {x : Asked} → Outcome f (Ok x) → Passed f x
     facts (fine k s v r) = record { function = k; size = s; value = v; range = r; asks = refl }
 
 -- the bytes that a legal request has
@@ -295,7 +295,7 @@ room_by ReadsWrites f h v = omega (arith, h, v)
 room_by Others f h v = tt
 
 -- A legal request has exactly the bytes that what it asks calls for.
-pub legal-room : (f : List ℕ) (a : Asked) → checked_of f ≡ Legal a → RequestRoom a f
+pub legal-room : (f : List ℕ) (a : Asked) → checked_of f ≡ Ok a → RequestRoom a f
 legal-room f a e = let p = legal-passed f a e in rw p.asks (room_by (class_in f) f p.size p.value)
 
 -- numbers of 16 bits, of bytes
@@ -346,7 +346,7 @@ lawful_by ReadsWrites f b v r = ((v.0, v.1.0, r.0), (v.1.1.0, v.1.1.1.0, r.1))
 lawful_by Others f b v r = tt
 
 -- What a legal request of bytes asks may stand in a live entry.
-pub legal_proper : (f : List ℕ) (a : Asked) → ((k : ℕ) → get_or f k 0 < 256) → checked_of f ≡ Legal a → Proper (what (unit_of f) (function_of f) a)
+pub legal_proper : (f : List ℕ) (a : Asked) → ((k : ℕ) → get_or f k 0 < 256) → checked_of f ≡ Ok a → Proper (what (unit_of f) (function_of f) a)
 legal_proper f a b e =
     let p = legal-passed f a e in
     rw p.asks (record {

@@ -13,7 +13,8 @@ use Rattle.laws.proofs.Choice.{eq_or, and_left, and_right, never}
 use Rattle.laws.proofs.TestLaws.{holds_eq, holds_and}
 use Rattle.wire.specs.Frame.{unit_of, function_of}
 use Rattle.pdu.specs.Requests.{class_of, asked_by, checked_of}
-use Rattle.pdu.specs.Replies.{What, what}
+use Rattle.pdu.specs.Replies.{what}
+use Rattle.pdu.specs.declared.What.{What}
 use Rattle.pdu.specs.Words.{asked_bits, asked_from, Lawful, Proper}
 use Rattle.pdu.specs.Spoiling.{same_table, overlap, meets, spoils}
 use Rattle.pdu.specs.Reads.{is_read}
@@ -23,9 +24,9 @@ use Rattle.pdu.specs.declared.Class.{Class}
 use Rattle.pdu.specs.declared.Class.TheVariants.{Reads, WritesOne, WritesMany, Masks, ReadsWrites, Others}
 use Rattle.pdu.specs.declared.Asked.{Asked}
 use Rattle.pdu.specs.declared.Asked.TheVariants.{Read, SingleWrite, MultipleWrite, MaskWrite, ReadWrite, Other}
-use Rattle.pdu.specs.declared.Checked.TheVariants.{Legal}
 use Rattle.pdu.specs.Plain.{Valued, class_in, Reading, Writing, Neither, Common, Meeting, sort_of, NotEmpty, Ranging}
 use Rattle.pdu.proofs.RequestLaws.{legal-passed, class_read_bits, class_read, class_single, class_multiple, class_mask, class_read_write, class_other}
+use Rattle.std.specs.Prelude.{Ok}
 
 -- Two tables are the same exactly where they are equal.
 pub same-table : (t r : Table) → (same_table t r ≡ true) ↔ (t ≡ r)
@@ -118,7 +119,7 @@ pub proper_ranges : (w : What) → Proper w → Ranging w
 proper_ranges w p = record { class = sym (sort_asked_from (class_of w.function) (asked_bits w.asked)) ∙ ap sort_of p.class; some = lawful_some w.asked p.lawful }
 
 -- so is what a legal request asks, whatever numbers its frame has for bytes.
-pub legal_ranges : (f : List ℕ) (a : Asked) → checked_of f ≡ Legal a → Ranging (what (unit_of f) (function_of f) a)
+pub legal_ranges : (f : List ℕ) (a : Asked) → checked_of f ≡ Ok a → Ranging (what (unit_of f) (function_of f) a)
 legal_ranges f a e = let p = legal-passed f a e in rw p.asks (record { class = sym (sort_asked (class_in f) f); some = valued_some (class_in f) f p.value })
 
 -- two ranges that are not empty overlap exactly where they have an address in common

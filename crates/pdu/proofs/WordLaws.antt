@@ -12,7 +12,7 @@ use Rattle.laws.specs.Bits.{has, with}
 use Rattle.laws.proofs.Choice.{true_or}
 use Rattle.laws.proofs.TestLaws.{holds_eq, holds_and}
 use Rattle.pdu.specs.Requests.{class_of, most_read_of, most_written_of}
-use Rattle.pdu.specs.Replies.{What}
+use Rattle.pdu.specs.declared.What.{What}
 use Rattle.pdu.specs.Reads.{is_read}
 use Rattle.pdu.specs.Words.{asked_bits, asked_from, word_of, what_of, closed_bit, closed_in, what_in, entry_of, Lawful, Proper}
 use Rattle.pdu.specs.declared.Table.{Table}

@@ -1,19 +1,18 @@
 -- Requests, replies and what spoils a read, in plain words: which function, size, quantity, value and range is right, which reply answers, and which requests meet.
 -- Assumes nothing.
-use Rattle.std.specs.Prelude.{ℕ, ◌+◌, ◌≤◌, ◌<◌, ◌≡◌, ◌⊎◌, List, get_or}
+use Rattle.std.specs.Prelude.{ℕ, ◌+◌, ◌≤◌, ◌<◌, ◌≡◌, ◌⊎◌, List, get_or, Ok, Err}
 use Rattle.numbers.specs.Numbers.{last_function, coil_off, coil_on, short_pdu, multiple_pdu, mask_pdu, read_write_pdu, most_read, most_read_written, addresses}
 use Rattle.laws.specs.Bytes.{pair_at}
 use Rattle.wire.specs.Frame.{function_of, pdu_size}
-use Rattle.pdu.specs.Requests.{class_of, bytes_for, most_read_of, most_written_of, asked_of}
-use Rattle.pdu.specs.Replies.{What}
+use Rattle.pdu.specs.Requests.{class_of, bytes_for, most_read_of, most_written_of, asked_of, Checked}
+use Rattle.pdu.specs.declared.What.{What}
 use Rattle.pdu.specs.declared.Table.TheVariants.{Bits, Registers}
 use Rattle.pdu.specs.declared.Class.{Class}
 use Rattle.pdu.specs.declared.Class.TheVariants.{Reads, WritesOne, WritesMany, Masks, ReadsWrites, Others}
-use Rattle.pdu.specs.declared.Checked.{Checked}
-use Rattle.pdu.specs.declared.Checked.TheVariants.{BadFunction, BadLength, Excepted, Legal}
 use Rattle.pdu.specs.declared.Asked.{Asked}
 use Rattle.pdu.specs.declared.Asked.TheVariants.{Read, SingleWrite, MultipleWrite, MaskWrite, ReadWrite, Other}
 use Rattle.pdu.specs.declared.Table.{Table}
+use Rattle.pdu.specs.declared.Fault.TheVariants.{BadFunction, BadLength, Excepted}
 
 -- a function that is not refused is 1 to 127
 abbrev pub Known : ℕ → Type 0
@@ -53,11 +52,11 @@ abbrev pub class_in : List ℕ → Class
 class_in f = class_of (function_of f)
 
 pub data Outcome (f : List ℕ) : Checked → Type 0 where
-  unknown : (Known (function_of f) → ⊥) → Outcome f BadFunction
-  missized : Known (function_of f) → (Sized (class_in f) f → ⊥) → Outcome f BadLength
-  misvalued : Known (function_of f) → Sized (class_in f) f → (Valued (class_in f) f → ⊥) → Outcome f (Excepted 3)
-  misranged : Known (function_of f) → Sized (class_in f) f → Valued (class_in f) f → (Ranged (class_in f) f → ⊥) → Outcome f (Excepted 2)
-  fine : Known (function_of f) → Sized (class_in f) f → Valued (class_in f) f → Ranged (class_in f) f → Outcome f (Legal (asked_of f))
+  unknown : (Known (function_of f) → ⊥) → Outcome f (Err BadFunction)
+  missized : Known (function_of f) → (Sized (class_in f) f → ⊥) → Outcome f (Err BadLength)
+  misvalued : Known (function_of f) → Sized (class_in f) f → (Valued (class_in f) f → ⊥) → Outcome f (Err (Excepted 3))
+  misranged : Known (function_of f) → Sized (class_in f) f → Valued (class_in f) f → (Ranged (class_in f) f → ⊥) → Outcome f (Err (Excepted 2))
+  fine : Known (function_of f) → Sized (class_in f) f → Valued (class_in f) f → Ranged (class_in f) f → Outcome f (Ok (asked_of f))
 
 -- an exception reply: function + 128, and a PDU of 2 bytes
 abbrev pub Exception : ℕ → List ℕ → Type 0

@@ -7,13 +7,9 @@ use Rattle.pdu.specs.Requests.{start_of, quantity_of, value_of, and_mask_of, or_
 use Rattle.pdu.specs.declared.Table.TheVariants.{Bits, Registers}
 use Rattle.pdu.specs.declared.Asked.{Asked}
 use Rattle.pdu.specs.declared.Asked.TheVariants.{Read, SingleWrite, MultipleWrite, MaskWrite, ReadWrite, Other}
+use Rattle.pdu.specs.declared.What.{What}
 
--- what a live entry keeps of its request
-pub record What : Type 0 where
-  pub unit : ℕ
-  pub function : ℕ
-  pub asked : Asked
-
+-- what a live entry keeps of its request: a unit, a function and what was asked
 abbrev pub what : ℕ → ℕ → Asked → What
 what u f a = record { unit = u; function = f; asked = a }
 

@@ -2,7 +2,7 @@
 -- 6.3 Read Holding Registers (03), 6.4 Read Input Registers (04), 6.5 Write Single Coil (05), 6.6 Write Single Register (06), 6.11 Write Multiple Coils (15), 6.12 Write Multiple
 -- Registers (16), 6.16 Mask Write Register (22) and 6.17 Read/Write Multiple Registers (23).
 -- Assumes nothing.
-use Rattle.std.specs.Prelude.{ℕ, ◌+◌, ◌*◌, ◌/◌, Bool, false, cond, not, ◌||◌, List, get_or, eqb, ltb}
+use Rattle.std.specs.Prelude.{ℕ, ◌+◌, ◌*◌, ◌/◌, Bool, false, cond, not, ◌||◌, List, get_or, eqb, ltb, Result, Ok, Err}
 use Rattle.numbers.specs.Numbers.{read_coils, read_discrete, read_holding, read_input, write_coil, write_single, write_coils, write_multiple, mask_write, read_write, last_function, most_read, most_written, most_read_written, most_bits_read, most_bits_written, coil_off, coil_on, short_pdu, multiple_pdu, mask_pdu, read_write_pdu, addresses, illegal_address, illegal_value}
 use Rattle.laws.specs.Bytes.{pair_at}
 use Rattle.wire.specs.Frame.{function_of, pdu_size}
@@ -12,8 +12,8 @@ use Rattle.pdu.specs.declared.Class.{Class}
 use Rattle.pdu.specs.declared.Class.TheVariants.{Reads, WritesOne, WritesMany, Masks, ReadsWrites, Others}
 use Rattle.pdu.specs.declared.Asked.{Asked}
 use Rattle.pdu.specs.declared.Asked.TheVariants.{Read, SingleWrite, MultipleWrite, MaskWrite, ReadWrite, Other}
-use Rattle.pdu.specs.declared.Checked.{Checked}
-use Rattle.pdu.specs.declared.Checked.TheVariants.{BadFunction, BadLength, Excepted, Legal}
+use Rattle.pdu.specs.declared.Fault.{Fault}
+use Rattle.pdu.specs.declared.Fault.TheVariants.{BadFunction, BadLength, Excepted}
 
 -- the class of a function: 01 and 02, 03 and 04, 05, 06, 15, 16, 22, 23, and every other
 unfoldable pub class_of : ℕ → Class
@@ -126,10 +126,14 @@ fault_by c f = cond (bad_value c f) illegal_value (cond (bad_address c f) illega
 unfoldable pub fault_of : List ℕ → ℕ
 fault_of f = fault_by (class_of (function_of f)) f
 
+-- what the check of a request comes to: what it asks, or why it is not forwarded
+abbrev pub Checked : Type 0
+Checked = Result Asked Fault
+
 -- a request of a function that is not refused: refusal 6, exception 03, exception 02, legal
 unfoldable pub checked_by : Class → List ℕ → Checked
-checked_by c f = cond (bad_length c f) BadLength (cond (eqb (fault_by c f) 0) (Legal (asked_by c f)) (Excepted (fault_by c f)))
+checked_by c f = cond (bad_length c f) (Err BadLength) (cond (eqb (fault_by c f) 0) (Ok (asked_by c f)) (Err (Excepted (fault_by c f))))
 
 -- a request of any bytes: refusal 5 before these
 unfoldable pub checked_of : List ℕ → Checked
-checked_of f = cond (bad_function (function_of f)) BadFunction (checked_by (class_of (function_of f)) f)
+checked_of f = cond (bad_function (function_of f)) (Err BadFunction) (checked_by (class_of (function_of f)) f)

@@ -9,7 +9,8 @@ use Rattle.pdu.specs.Requests.{class_of, most_read_of, most_written_of, bad_func
 use Rattle.pdu.specs.declared.Table.TheVariants.{Bits, Registers}
 use Rattle.pdu.specs.declared.Class.{Class}
 use Rattle.pdu.specs.declared.Class.TheVariants.{Reads, WritesOne, WritesMany, Masks, ReadsWrites, Others}
-use Rattle.pdu.specs.Replies.{What, what}
+use Rattle.pdu.specs.Replies.{what}
+use Rattle.pdu.specs.declared.What.{What}
 use Rattle.pdu.specs.Reads.{is_read}
 use Rattle.pdu.specs.declared.Asked.{Asked}
 use Rattle.pdu.specs.declared.Asked.TheVariants.{Read, SingleWrite, MultipleWrite, MaskWrite, ReadWrite, Other}
@@ -50,10 +51,10 @@ closed_in n = is_read (what_of n).asked && has n closed_bit
 
 -- what an entry keeps of its request, and the entry that a word makes with an id and a deadline
 abbrev pub what_in : Entry → What
-what_in e = what e.unit e.function e.asked
+what_in e = e.what
 
 unfoldable pub entry_of : ProxyId → ℕ → ℕ → Entry
-entry_of id n d = record { id = id; unit = (what_of n).unit; function = (what_of n).function; asked = (what_of n).asked; deadline = d }
+entry_of id n d = record { id = id; what = what_of n; deadline = d }
 
 -- what a legal request asks: quantities, values and ranges within the bounds
 unfoldable pub Lawful : Asked → Type 0

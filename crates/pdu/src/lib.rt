@@ -27,14 +27,14 @@ pub struct ProxyId(pub u16);
 pub struct OriginalId(pub u16);
 
 // What a function reads or writes: coils and discrete inputs are single bits, holding and input registers words of 16 bits.
-#[derive(Clone, Copy)]
+#[derive(Clone, Copy, PartialEq, Eq)]
 pub enum Table {
     Bits,
     Registers,
 }
 
 // The classes of functions: 01 to 04, 05 and 06, 15 and 16, 22, 23, and every other.
-#[derive(Clone, Copy)]
+#[derive(Clone, Copy, PartialEq, Eq)]
 pub enum Class {
     Reads(Table),
     WritesOne(Table),
@@ -45,7 +45,7 @@ pub enum Class {
 }
 
 // What was asked, kept with the live entry; of a single write also the value, as the client wrote it; of 22 both masks, of 23 both ranges.
-#[derive(Clone, Copy)]
+#[derive(Clone, Copy, PartialEq, Eq)]
 pub enum Asked {
     Read {
         table: Table,
@@ -76,22 +76,27 @@ pub enum Asked {
     Other,
 }
 
-// What the check of a request comes to: refusal 5, refusal 6, an exception's code, or what it asks.
-#[derive(Clone, Copy)]
-pub enum Checked {
+// Why a request is not forwarded: refusal 5, refusal 6, or an exception with its code.
+#[derive(Clone, Copy, PartialEq, Eq)]
+pub enum Fault {
     BadFunction,
     BadLength,
     Excepted(u8),
-    Legal(Asked),
+}
+
+// What a live entry keeps of its request: to which unit, of which function, and what it asks.
+#[derive(Clone, Copy, PartialEq, Eq)]
+pub struct What {
+    pub unit: u8,
+    pub function: u8,
+    pub asked: Asked,
 }
 
 // A live entry, without its parties.
 #[derive(Clone, Copy)]
 pub struct Entry {
     pub id: ProxyId,
-    pub unit: u8,
-    pub function: u8,
-    pub asked: Asked,
+    pub what: What,
     pub deadline: u64,
 }
 
@@ -122,96 +127,58 @@ pub fn proxy_of(frame: &[u8]) -> ProxyId
 }
 
 // The class that a function belongs to.
+#[tactic(auto, unfolding(crate::specs::Requests::class_of))]
 pub fn class_of(function: u8) -> Class
     ensures { result ≡ class_of function }
 {
-    if (function == numbers::READ_COILS) | (function == numbers::READ_DISCRETE) {
-        return Class::Reads(Table::Bits);
+    match function {
+        numbers::READ_COILS | numbers::READ_DISCRETE => Class::Reads(Table::Bits),
+        numbers::READ_HOLDING | numbers::READ_INPUT => Class::Reads(Table::Registers),
+        numbers::WRITE_COIL => Class::WritesOne(Table::Bits),
+        numbers::WRITE_SINGLE => Class::WritesOne(Table::Registers),
+        numbers::WRITE_COILS => Class::WritesMany(Table::Bits),
+        numbers::WRITE_MULTIPLE => Class::WritesMany(Table::Registers),
+        numbers::MASK_WRITE => Class::Masks,
+        numbers::READ_WRITE => Class::ReadsWrites,
+        _ => Class::Others,
     }
-    if (function == numbers::READ_HOLDING) | (function == numbers::READ_INPUT) {
-        return Class::Reads(Table::Registers);
-    }
-    if function == numbers::WRITE_COIL {
-        return Class::WritesOne(Table::Bits);
-    }
-    if function == numbers::WRITE_SINGLE {
-        return Class::WritesOne(Table::Registers);
-    }
-    if function == numbers::WRITE_COILS {
-        return Class::WritesMany(Table::Bits);
-    }
-    if function == numbers::WRITE_MULTIPLE {
-        return Class::WritesMany(Table::Registers);
-    }
-    if function == numbers::MASK_WRITE {
-        return Class::Masks;
-    }
-    if function == numbers::READ_WRITE {
-        return Class::ReadsWrites;
-    }
-    Class::Others
 }
 
 // Whether a read is asked.
+#[tactic(auto, unfolding(crate::specs::Reads::is_read))]
 pub fn is_read(asked: Asked) -> bool
     ensures { result ≡ is_read asked }
 {
-    match asked {
-        Asked::Read {
-            table: _,
-            start: _,
-            quantity: _,
-        } => true,
-        Asked::SingleWrite {
-            table: _,
-            address: _,
-            value: _,
-        } => false,
-        Asked::MultipleWrite {
-            table: _,
-            start: _,
-            quantity: _,
-        } => false,
-        Asked::MaskWrite {
-            address: _,
-            and_mask: _,
-            or_mask: _,
-        } => false,
-        Asked::ReadWrite {
-            start: _,
-            quantity: _,
-            write_start: _,
-            write_quantity: _,
-        } => false,
-        Asked::Other => false,
-    }
+    matches!(asked, Asked::Read { .. })
 }
 
-// The bytes that so many bits or registers take.
-pub fn bytes_for(table: Table, quantity: u16) -> usize
-    ensures { (result ≡ bytes_for table quantity) × (result < 131072) }
-{
-    match table {
-        Table::Bits => (quantity as usize + 7) / 8,
-        Table::Registers => 2 * quantity as usize,
+impl Table {
+    // The bytes that so many bits or registers take.
+    pub fn bytes_for(self, quantity: u16) -> usize
+        ensures { (result ≡ bytes_for self quantity) × (result < 131072) }
+    {
+        match self {
+            Table::Bits => (quantity as usize + 7) / 8,
+            Table::Registers => 2 * quantity as usize,
+        }
     }
-}
 
-// The most that one request may read, and the most that one may write.
-pub fn most_read_of(table: Table) -> u16
-    ensures { result ≡ most_read_of table }
-{
-    match table {
-        Table::Bits => numbers::MOST_BITS_READ,
-        Table::Registers => numbers::MOST_READ,
+    // The most that one request may read, and the most that one may write.
+    pub fn most_read(self) -> u16
+        ensures { result ≡ most_read_of self }
+    {
+        match self {
+            Table::Bits => numbers::MOST_BITS_READ,
+            Table::Registers => numbers::MOST_READ,
+        }
     }
-}
 
-pub fn most_written_of(table: Table) -> u16
-    ensures { result ≡ most_written_of table }
-{
-    match table {
-        Table::Bits => numbers::MOST_BITS_WRITTEN,
-        Table::Registers => numbers::MOST_WRITTEN,
+    pub fn most_written(self) -> u16
+        ensures { result ≡ most_written_of self }
+    {
+        match self {
+            Table::Bits => numbers::MOST_BITS_WRITTEN,
+            Table::Registers => numbers::MOST_WRITTEN,
+        }
     }
 }

@@ -14,16 +14,16 @@ use Rattle.settings.specs.TagWords.{kind_of, width_of, sign_of, kind_number, kin
 use Rattle.pdu.specs.Requests.{checked_of}
 use Rattle.pdu.specs.Replies.{what, excepts, answering}
 use Rattle.pdu.specs.declared.Asked.{Asked}
-use Rattle.pdu.specs.declared.Checked.TheVariants.{Legal}
 use Rattle.pdu.proofs.RequestLaws.{legal_proper}
 use Rattle.rewrite.specs.inner.Lent.{Sent, Brought, Framed}
 use Rattle.rewrite.proofs.RoomLaws.{legal_sent, answer_brought}
+use Rattle.std.specs.Prelude.{Ok}
 
 -- A frame that is not refused fits a buffer of the stated length.
 pub fits : (f o : List ℕ) → misframed f ≡ false → most_frame ≤ length o → Framed f o
 fits f o e l = let w = framed f e in record { least = w.least; fits = omega (arith, w.most) }
 
-module _ (f : List ℕ) {a : Asked} (bytes : (k : ℕ) → get_or f k 0 < 256) (legal : checked_of f ≡ Legal a) where
+module _ (f : List ℕ) {a : Asked} (bytes : (k : ℕ) → get_or f k 0 < 256) (legal : checked_of f ≡ Ok a) where
   pub sends : Sent a f
   sends = legal_sent f legal (legal_proper f a bytes legal).lawful
 

@@ -6,14 +6,15 @@ mod showing;
 
 use parts::input::read_full;
 use parts::output::Output;
+use parts::tally::Tally;
 use std::io;
 
 fn main(rt: HostRuntime) -> io::Result<()> {
     let mut output = Output::new(rt.stdout());
     let mut buffer = [0u8; 65536];
     let size = read_full(&mut rt.stdin(), &mut buffer)?;
-    let t = parts::tally::start(size, &buffer);
+    let t = Tally::start(size, &buffer);
     let t = showing::examples(t, parts::before(&buffer, size), &mut output);
-    parts::tally::print(b"pdus: ", t, b" shown, ", &mut output);
+    t.print(b"pdus: ", b" shown, ", &mut output);
     output.end()
 }

@@ -2,33 +2,27 @@
 // shown) and what comes of it, each ended by '|', and the row by LF. What comes of it is a refusal; or the tags raw for partial cover, those raw for value,
 // and the frame. A line with nothing in it and one that begins with '#' are passed over.
 use crate::driving::{Given, bring, send};
-use parts::hex::{parse, say_hex};
+use machine::Refusal;
+use parts::hex::parse;
 use parts::output::Output;
-use parts::saying::say_form;
-use parts::tally::{Tally, ended, is_row, print_line};
-use parts::{before, end_of, field};
+use parts::saying::Saying;
+use parts::tally::{Tally, is_row, print_line};
+use parts::{before, field};
 
 // Says what a call gave.
-fn tell(right: &[u8], given: Given, out: &[u8], output: &mut Output) -> usize {
+fn tell(said: &mut Saying, given: Result<Given, Refusal>, out: &[u8]) {
     match given {
-        Given::Refused(number) => say_form(right, 0, b"refusal D", number as u64, 0, 0, output),
-        Given::Frame(size, raw) => {
-            let at = say_form(
-                right,
-                0,
-                b"D,D:",
-                raw.partial as u64,
-                raw.value as u64,
-                0,
-                output,
-            );
-            say_hex(right, at, before(out, size), output)
+        Err(refusal) => said.say_form(b"refusal D", refusal as u64, 0, 0),
+        Ok(given) => {
+            let raw = given.raw;
+            said.say_form(b"D,D:", u64::from(raw.partial), u64::from(raw.value), 0);
+            said.say_hex(before(out, given.size));
         }
     }
 }
 
 // What a request gives, or the reply to it if there is one.
-fn give(request: &[u8], reply: &[u8], out: &mut [u8]) -> Given {
+fn give(request: &[u8], reply: &[u8], out: &mut [u8]) -> Result<Given, Refusal> {
     let mut answer = [0u8; numbers::MOST_FRAME];
     let size = parse(reply, &mut answer);
     if size == 0 {
@@ -38,12 +32,12 @@ fn give(request: &[u8], reply: &[u8], out: &mut [u8]) -> Given {
 }
 
 // Runs an example, and says what comes of it.
-fn run(right: &[u8], request: &[u8], reply: &[u8], output: &mut Output) -> usize {
+fn run(said: &mut Saying, request: &[u8], reply: &[u8]) {
     let mut asked = [0u8; numbers::MOST_FRAME];
     let mut out = [0u8; numbers::MOST_FRAME];
     let size = parse(request, &mut asked);
     let given = give(before(&asked, size), reply, &mut out);
-    tell(right, given, &out, output)
+    tell(said, given, &out);
 }
 
 // Prints an example up to where what comes of it is said.
@@ -51,7 +45,7 @@ fn print_example(name: &[u8], request: &[u8], reply: &[u8], output: &mut Output)
     let labels = b"|  request      |  reply        |  gives   |";
     print_line(field(labels, b'|', 0), name, output);
     print_line(field(labels, b'|', 1), request, output);
-    if 0 < reply.len() {
+    if !reply.is_empty() {
         print_line(field(labels, b'|', 2), reply, output);
     }
     output.print(field(labels, b'|', 3));
@@ -63,19 +57,17 @@ fn example(t: Tally, row: &[u8], output: &mut Output) -> Tally {
     }
     let request = field(row, b'|', 1);
     let reply = field(row, b'|', 2);
-    let right = field(row, b'|', 3);
     print_example(field(row, b'|', 0), request, reply, output);
-    ended(t, right, run(right, request, reply, output), output)
+    let mut said = Saying::new(field(row, b'|', 3), output);
+    run(&mut said, request, reply);
+    t.ended(said)
 }
 
 // Every row of a table.
 pub fn examples(t: Tally, table: &[u8], output: &mut Output) -> Tally {
     let mut tally = t;
-    let mut at: usize = 0;
-    while at < table.len() {
-        let end = end_of(table, at, b'\n');
-        tally = example(tally, &table[at..end], output);
-        at = end + 1;
+    for line in table.split(|byte| *byte == b'\n') {
+        tally = example(tally, line, output);
     }
     tally
 }

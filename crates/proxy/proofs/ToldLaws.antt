@@ -1,7 +1,7 @@
--- What a call does is told a C host in the numbers of its answer.
+-- What a call does is told a C host in the numbers of its answer; and what it does to a state that another one is it does to that.
 -- Assumes nothing.
 use Prim.Native.Nat.{ℕ}
-use mathlib.Core.Path.{◌≡◌, ap, ◌∙◌}
+use mathlib.Core.Path.{◌≡◌, ap, sym, subst, ◌∙◌}
 use mathlib.Core.List.{List}
 use Rattle.settings.specs.declared.Settings.{Settings}
 use Rattle.machine.specs.Calls.{Call}
@@ -18,3 +18,7 @@ as_told s x r s' w l answer e does = (rw e (ap numbered does.0), does.1, λ h. d
 -- So do those of a fresh state's.
 pub fresh-told : (from : Settings) (r : Report) (s : State) (answer : Answer) → r ≡ numbers answer → Freshened from answer s → FreshlyTold from r s
 fresh-told from r s answer e made = (e ∙ ap numbers made.0, made.1, made.2)
+
+-- What a call comes to is what it comes to where that state is another's.
+pub stays_does : (s s' d : State) (x : Call) (a : Answer) (w l : List ℕ) → d ≡ s' → Does s x a s' w l → Does s x a d w l
+stays_does s s' d x a w l e does = subst (λ t. Does s x a t w l) (sym e) does

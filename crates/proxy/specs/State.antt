@@ -6,15 +6,11 @@ use Rattle.settings.specs.Grammar.{Value}
 use Rattle.settings.specs.TagWords.{tag_of, Ascending, strict_mark, some_strict}
 use Rattle.machine.specs.Machine.{Machine, machine}
 use Rattle.caching.specs.Kept.{cache_of, SoundCache}
-use Rattle.table.specs.Columns.{Columns, columns, book_of, SoundTable}
+use Rattle.table.specs.Columns.{Columns, columns, columns_of, book_of, SoundTable}
+use Rattle.proxy.specs.declared.Device.{Device}
+pub use Rattle.proxy.specs.declared.KeptSettings.{KeptSettings}
 
--- the settings inside the state: timeout, join, how many tags, and their words
-pub record KeptSettings : Type 0 where
-  pub timeout : ℕ
-  pub join : ℕ
-  pub tag_count : ℕ
-  pub tag_words : List ℕ
-
+-- the settings inside the state, of their parts
 abbrev pub kept_settings : ℕ → ℕ → ℕ → List ℕ → KeptSettings
 kept_settings w j n g = record { timeout = w; join = j; tag_count = n; tag_words = g }
 
@@ -34,10 +30,9 @@ pub record State : Type 0 where
 abbrev pub state : Columns → (cursor attached clock : ℕ) → KeptSettings → (cache shown : List ℕ) → State
 state c x s t k h b = record { table = c; cursor = x; attached = s; clock = t; settings = k; cache = h; shown = b }
 
--- the state that lent fields are
-abbrev pub lent : (ids asked callers deadlines counts clients originals : List ℕ) (top cursor attached clock timeout join tag_count : ℕ) (tag_words cache shown : List ℕ) → State
-lent ids asked callers deadlines counts clients originals top cursor attached clock timeout join tag_count tag_words cache shown =
-    state (columns ids asked callers deadlines counts clients originals top) cursor attached clock (kept_settings timeout join tag_count tag_words) cache shown
+-- the state that a device is
+abbrev pub state_of : Device → State
+state_of d = state (columns_of d.table) d.table.cursor d.attached d.clock d.settings d.cache.numbers d.cache.shown
 
 -- the state s with another table, another set of attached clients and another clock
 abbrev pub seated : State → Columns → (attached clock : ℕ) → State

@@ -5,10 +5,11 @@ ghost use Rattle.laws.specs.Bits.{has};
 ghost use Rattle.machine.specs.Calls.Call.{attach as attaches, detach as detaches, link_lost};
 ghost use Rattle.machine.specs.Refusals.{is_strange_to};
 ghost use Rattle.table.specs.inner.Changes.{Runs};
-ghost use Rattle.proxy.specs.State.{State, lent_set, lent_parties, lent_ids, SoundState};
+ghost use Rattle.proxy.specs.State.{State, lent_set, lent_parties, lent_ids, state_of, SoundState};
 ghost use Rattle.proxy.specs.Calls.{Does};
 
-use machine::Answer;
+use crate::Device;
+use machine::{Answer, Refusal};
 
 // Whether a client is in a set.
 pub fn is_member(set: u32, client: u32) -> bool
@@ -30,53 +31,44 @@ pub fn is_stranger(attached: u32, client: u32) -> bool
 }
 
 // Attaches a client: refusal 2 above 31, refusal 9 where it is attached. Whatever the rest of the state is, it stays.
-pub fn attach(attached: &mut u32, client: u32) -> Answer
-    ensures { (s : State) → SoundState (lent_set s attached.old) → Does (lent_set s attached.old) (attaches client) result (lent_set s attached.new) [] [] }
+pub fn attach(device: &mut Device, client: u32) -> Answer
+    ensures does { (s : State) → SoundState (lent_set s device.old.attached) → Does (lent_set s device.old.attached) (attaches client) result (lent_set s device.new.attached) [] [] }
+    ensures stays { state_of device.new ≡ lent_set (state_of device.old) device.new.attached }
 {
     if numbers::CLIENTS <= client {
-        return Answer::Refused { number: 2 };
+        return Answer::from(Refusal::Client);
     }
-    if is_member(*attached, client) {
-        return Answer::Refused { number: 9 };
+    if is_member(device.attached, client) {
+        return Answer::from(Refusal::Attached);
     }
-    *attached = *attached | (1 << client);
+    device.attached |= 1 << client;
     Answer::Done
 }
 
 // Detaches a client and strikes its parties out of every entry: refusal 2 for a stranger. Whatever the rest of the state is, it stays.
-pub fn detach<'a>(
-    counts: &'a mut [u8; numbers::PLACES],
-    clients: &'a mut [u8; numbers::PARTY_PLACES],
-    originals: &'a mut [u16; numbers::PARTY_PLACES],
-    top: &'a mut u32,
-    attached: &'a mut u32,
-    client: u32,
-) -> Answer
-    requires { Runs counts.old clients.old originals.old × (top.old ≤ places) }
-    ensures { (s : State) → SoundState (lent_parties s counts.old clients.old originals.old top.old attached.old)
-        → Does (lent_parties s counts.old clients.old originals.old top.old attached.old) (detaches client) result (lent_parties s counts.new clients.new originals.new top.new attached.new) [] [] }
+pub fn detach(device: &mut Device, client: u32) -> Answer
+    requires { Runs device.old.table.counts device.old.table.clients device.old.table.originals × (device.old.table.top ≤ places) }
+    ensures does { (s : State) → SoundState (lent_parties s device.old.table.counts device.old.table.clients device.old.table.originals device.old.table.top device.old.attached)
+        → Does (lent_parties s device.old.table.counts device.old.table.clients device.old.table.originals device.old.table.top device.old.attached) (detaches client) result (lent_parties s device.new.table.counts device.new.table.clients device.new.table.originals device.new.table.top device.new.attached) [] [] }
+    ensures stays { state_of device.new ≡ lent_parties (state_of device.old) device.new.table.counts device.new.table.clients device.new.table.originals device.new.table.top device.new.attached }
 {
-    if is_stranger(*attached, client) {
-        return Answer::Refused { number: 2 };
+    if is_stranger(device.attached, client) {
+        return Answer::from(Refusal::Client);
     }
-    moves::striking::strike(counts, clients, originals, *top, client as u8);
-    *attached = *attached & !(1 << client);
+    moves::striking::strike(&mut device.table, client as u8);
+    device.attached &= !(1 << client);
     Answer::Done
 }
 
 // The link is lost: nothing is live, nobody is attached, nothing is cached; the former set is told. Whatever the rest of the state is, it stays.
-pub fn link_lost<'a>(
-    ids: &'a mut [u32; numbers::PLACES],
-    top: &'a mut u32,
-    attached: &'a mut u32,
-    cache: &'a mut [u64; numbers::CACHE_NUMBERS],
-) -> Answer
-    ensures { (s : State) → SoundState (lent_ids s ids.old top.old attached.old cache.old) → Does (lent_ids s ids.old top.old attached.old cache.old) link_lost result (lent_ids s ids.new top.new attached.new cache.new) [] [] }
+pub fn link_lost(device: &mut Device) -> Answer
+    ensures does { (s : State) → SoundState (lent_ids s device.old.table.ids device.old.table.top device.old.attached device.old.cache.numbers) → Does (lent_ids s device.old.table.ids device.old.table.top device.old.attached device.old.cache.numbers) link_lost result (lent_ids s device.new.table.ids device.new.table.top device.new.attached device.new.cache.numbers) [] [] }
+    ensures stays { state_of device.new ≡ lent_ids (state_of device.old) device.new.table.ids device.new.table.top device.new.attached device.new.cache.numbers }
 {
-    let former = *attached;
-    *ids = [0u32; numbers::PLACES];
-    *top = 0;
-    *attached = 0;
-    caching::empty(cache);
+    let former = device.attached;
+    device.table.ids = [0u32; numbers::PLACES];
+    device.table.top = 0;
+    device.attached = 0;
+    device.cache.empty();
     Answer::Lost { set: former }
 }

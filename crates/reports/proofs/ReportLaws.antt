@@ -1,6 +1,7 @@
 -- What the calls without a device report is what the crates below come to, and every number of it fits.
 -- Assumes nothing.
 use prog.Memory.{size}
+use Rattle.std.specs.Prelude.{Result, Ok, Err}
 use Prim.Native.Nat.{ℕ, ◌≤◌}
 use mathlib.Core.Path.{◌≡◌, refl, ap, sym, ◌∙◌}
 use mathlib.Core.Bool.{Bool, true, false, cond, not}
@@ -12,15 +13,15 @@ use borrow.Author.Tests.{ne_eqb}
 use Rattle.numbers.specs.Numbers.{most_text, most_frame}
 use Rattle.laws.specs.Bytes.{over}
 use Rattle.wire.specs.Splitting.{standing_of, first_frame}
-use Rattle.wire.specs.declared.splitting.Split.{Split}
-use Rattle.wire.specs.declared.splitting.Split.TheVariants.{Frame}
+use Rattle.wire.specs.Splitting.{Standing}
+use Rattle.wire.specs.Splitting.Standing.{Frame}
 use Rattle.wire.proofs.SplittingLaws.{starts, first-size}
 use Rattle.settings.specs.Grammar.{Value, Read, newest, text_in, valid, read_text}
 use Rattle.settings.specs.Grammar.Read.{got, wrong}
 use Rattle.settings.proofs.GrammarLaws.{wrong_most, longest_4}
 use Rattle.settingstext.specs.declared.reading.ReadText.{ReadText}
-use Rattle.settingstext.specs.declared.writing.Wrote.{Wrote}
-use Rattle.settingstext.specs.declared.writing.Wrote.TheVariants.{Text, TooShort, Invalid}
+use Rattle.settingstext.specs.declared.writing.WriteError.{WriteError}
+use Rattle.settingstext.specs.declared.writing.WriteError.TheVariants.{TooShort, Invalid}
 use Rattle.settingstext.specs.TextRead.{reported}
 use Rattle.settingstext.specs.TextWritten.{Writing, writing, written_to}
 use Rattle.machine.specs.declared.Report.{Report}
@@ -41,21 +42,21 @@ pub read_told : (t : List ℕ) {x : ReadText} {r : Report} → x ≡ reported (r
 read_told t e q = rw (q, e) (told_of (read_text t) (λ k w. (wrong_most t k w).0))
 
 -- A case of what stands at the start of a run is told by its numbers.
-pub split_is : (n : ℕ) {s t u : Split} → s ≡ t → s ≡ u → split_told u n ≡ split_told t n
+pub split_is : (n : ℕ) {s t u : Standing} → s ≡ t → s ≡ u → split_told u n ≡ split_told t n
 split_is n e q = ap (λ x. split_told x n) (sym q ∙ e)
 
 -- A case of what writing comes to is told by its numbers, beside the buffer.
-pub write_is : (a : List ℕ) {r : Report} {w u : Wrote} {x : Writing} → r ≡ wrote_told u → w ≡ u → writing w a ≡ x → text_seen r a ≡ write_told x
+pub write_is : (a : List ℕ) {r : Report} {w u : Result ℕ WriteError} {x : Writing} → r ≡ wrote_told u → w ≡ u → writing w a ≡ x → text_seen r a ≡ write_told x
 write_is a e q p = ap (λ r. text_seen r a) (e ∙ ap wrote_told (sym q)) ∙ ap write_told p
 
-text_of : (t u : Bool) (m n : ℕ) (a b d : List ℕ) (w : Wrote) → writing w a ≡ cond (not t) (writing Invalid b) (cond u (writing TooShort b) (writing (Text m) d))
-    → w ≡ Text n → (t ≡ true) × (n ≡ m)
+text_of : (t u : Bool) (m n : ℕ) (a b d : List ℕ) (w : Result ℕ WriteError) → writing w a ≡ cond (not t) (writing (Err Invalid) b) (cond u (writing (Err TooShort) b) (writing (Ok m) d))
+    → w ≡ Ok n → (t ≡ true) × (n ≡ m)
 text_of false u m n a b d w e s = let said = ap (λ (x : Writing). x.says) e in let z : ◌≡◌ {A = ℕ} 0 1 = cc in absurd (omega arith)
 text_of true true m n a b d w e s = let said = ap (λ (x : Writing). x.says) e in let z : ◌≡◌ {A = ℕ} 0 1 = cc in absurd (omega arith)
 text_of true false m n a b d w e s = let said = ap (λ (x : Writing). x.says) e in (refl, cc)
 
 -- The length of a written text is no more than the longest text's.
-pub written_low : (v : Value) (b a : List ℕ) (w : Wrote) (n : ℕ) → writing w a ≡ written_to v b → w ≡ Text n → n ≤ most_text
+pub written_low : (v : Value) (b a : List ℕ) (w : Result ℕ WriteError) (n : ℕ) → writing w a ≡ written_to v b → w ≡ Ok n → n ≤ most_text
 unfolding written_to
 written_low v b a w n e s =
     let x = text_of (valid v) (ltb (length b) (length (text_in newest v))) (length (text_in newest v)) n a b (over (text_in newest v) b) w e s in

@@ -17,8 +17,8 @@ use Rattle.laws.proofs.Choice.{true_or, never}
 use Rattle.laws.proofs.TestLaws.{holds_not, holds_or}
 use Rattle.wire.specs.Frame.{protocol_of, length_of}
 use Rattle.wire.specs.Splitting.{bad_header, standing_of, first_frame}
-use Rattle.wire.specs.declared.splitting.Split.{Split}
-use Rattle.wire.specs.declared.splitting.Split.TheVariants.{Frame, MoreNeeded, Refused}
+use Rattle.wire.specs.Splitting.{Standing}
+use Rattle.wire.specs.Splitting.Standing.{Frame, MoreNeeded, Refused}
 use Rattle.wire.proofs.SplittingLaws.{starts, stands, six_decide, first-size, refused}
 use Rattle.settings.specs.Grammar.{Value, Read, valid, read_text}
 use Rattle.settings.specs.Grammar.Read.{got, wrong}
@@ -52,12 +52,12 @@ pub neither : {P Q : Type 0} → (P → ⊥) → (Q → ⊥) → P ↔ Q
 neither m n = (λ x. absurd (m x), λ y. absurd (n y))
 
 -- what splitting reports, by what stands first in the run
-record Splits (s : Split) (n : ℕ) (r : Report) : Type 0 where
+record Splits (s : Standing) (n : ℕ) (r : Report) : Type 0 where
   pub refused : (r ≡ ten 4 0 0 0 0 0 0 0 0 0) ↔ (s ≡ Refused)
   pub frame : (m : ℕ) → (r ≡ ten 0 0 8 m 0 0 0 0 0 0) ↔ ((s ≡ Frame) × (m ≡ n))
   pub more : (r ≡ ten 0 0 9 0 0 0 0 0 0 0) ↔ ((s ≡ Refused → ⊥) × (s ≡ Frame → ⊥))
 
-splits : (s : Split) (n : ℕ) {r : Report} → r ≡ split_told s n → Splits s n r
+splits : (s : Standing) (n : ℕ) {r : Report} → r ≡ split_told s n → Splits s n r
 unfolding split_told
 splits Frame n e =
     record {

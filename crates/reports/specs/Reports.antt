@@ -1,15 +1,15 @@
 -- What is reported of splitting, and of settings read and written; what the exported calls promise of it.
 -- Assumes nothing.
-use Rattle.std.specs.Prelude.{ℕ, ◌≡◌, cond, List, length, eqb}
+use Rattle.std.specs.Prelude.{ℕ, ◌≡◌, cond, List, length, eqb, Result, Ok, Err}
 use Rattle.wire.specs.Splitting.{standing_of, first_frame}
-use Rattle.wire.specs.declared.splitting.Split.{Split}
-use Rattle.wire.specs.declared.splitting.Split.TheVariants.{Frame, MoreNeeded, Refused}
+use Rattle.wire.specs.Splitting.{Standing}
+use Rattle.wire.specs.Splitting.Standing.{Frame, MoreNeeded, Refused}
 use Rattle.settings.specs.Grammar.{Value, Read, read_text}
 use Rattle.settings.specs.Grammar.Read.{got, wrong}
 use Rattle.settings.specs.Values.{value_of, settings_of, usual}
 use Rattle.settings.specs.declared.Settings.{Settings}
-use Rattle.settingstext.specs.declared.writing.Wrote.{Wrote}
-use Rattle.settingstext.specs.declared.writing.Wrote.TheVariants.{Text, TooShort, Invalid}
+use Rattle.settingstext.specs.declared.writing.WriteError.{WriteError}
+use Rattle.settingstext.specs.declared.writing.WriteError.TheVariants.{TooShort, Invalid}
 use Rattle.settingstext.specs.TextWritten.{Writing, written_to}
 use Rattle.machine.specs.Numbers.{is_done}
 use Rattle.machine.specs.declared.Report.{Report}
@@ -27,7 +27,7 @@ abbrev pub short_report : (refusal line outcome length : ℕ) → Report
 short_report r k o n = record { refusal = r; line = k; outcome = o; length = n; parties = 0; partial = 0; value = 0; set = 0; id = 0; code = 0 }
 
 -- splitting, with the first frame's length
-unfoldable pub split_told : Split → ℕ → Report
+unfoldable pub split_told : Standing → ℕ → Report
 split_told Frame n = short_report 0 0 is_frame n
 split_told MoreNeeded n = short_report 0 0 is_more 0
 split_told Refused n = short_report 4 0 0 0
@@ -52,10 +52,10 @@ pub record TextSeen : Type 0 where
 abbrev pub text_seen : Report → List ℕ → TextSeen
 text_seen r b = record { says = r; buffer = b }
 
-unfoldable pub wrote_told : Wrote → Report
-wrote_told (Text n) = short_report 0 0 is_done n
-wrote_told TooShort = short_report 1 0 0 0
-wrote_told Invalid = short_report 10 0 0 0
+unfoldable pub wrote_told : Result ℕ WriteError → Report
+wrote_told (Ok n) = short_report 0 0 is_done n
+wrote_told (Err TooShort) = short_report 1 0 0 0
+wrote_told (Err Invalid) = short_report 10 0 0 0
 
 abbrev pub write_told : Writing → TextSeen
 write_told w = text_seen (wrote_told w.says) w.buffer

@@ -2,129 +2,112 @@
 #![tactic(auto)]
 
 ghost use Rattle.std.specs.Prelude.{◌≡◌};
-ghost use Rattle.settings.specs.Values.{settings};
-ghost use Rattle.machine.specs.Numbers.{report, is_hit, numbers};
+ghost use Rattle.machine.specs.Numbers.{numbers};
 ghost use Rattle.reports.specs.Reports.{short_report, line_told, SplitPromised, ReadPromised, WritePromised};
 
-use machine::{Answer, Report};
-use pdu::ProxyId;
+use machine::{Answer, Refusal, Report};
 use settings::Settings;
-use settingstext::writing::Wrote;
+use settingstext::writing::WriteError;
 use wire::splitting::Split;
 
-// The outcomes' numbers: ZB_DONE to ZB_HIT. Reading and writing settings are done too.
-const DONE: u32 = 1;
-
-const ISSUED: u32 = 2;
-
-const JOINED: u32 = 3;
-
-pub const EXCEPTION: u32 = 4;
-
-const ANSWERED: u32 = 5;
-
-const TIMED_OUT: u32 = 6;
-
-const NOTHING_DUE: u32 = 7;
-
-const FRAME: u32 = 8;
-
-const MORE: u32 = 9;
-
-const HIT: u32 = 10;
-
-// A report of an answer that names no entry.
-fn plain(refusal: u32, outcome: u32, length: u32, set: u32, code: u32) -> Report
-    ensures { result ≡ report refusal outcome length 0 0 0 set 0 code }
-{
-    Report {
-        refusal,
-        line: 0,
-        outcome,
-        length,
-        parties: 0,
-        partial: 0,
-        value: 0,
-        set,
-        id: 0,
-        code,
-    }
+// What came of a call, in C's numbers: ZB_DONE to ZB_HIT. Reading and writing settings are done too.
+#[derive(Clone, Copy)]
+pub enum Outcome {
+    Done = 1,
+    Issued = 2,
+    Joined = 3,
+    Exception = 4,
+    Answered = 5,
+    TimedOut = 6,
+    NothingDue = 7,
+    Frame = 8,
+    More = 9,
+    Hit = 10,
 }
 
-// A report of an answer that names its entry.
-fn of_entry(
-    outcome: u32,
-    id: ProxyId,
-    length: u32,
-    parties: u32,
-    partial: u32,
-    value: u32,
-) -> Report
-    ensures { result ≡ report 0 outcome length parties partial value 0 id.0 0 }
-{
-    Report {
-        refusal: 0,
-        line: 0,
-        outcome,
-        length,
-        parties,
-        partial,
-        value,
-        set: 0,
-        id: id.0 as u32,
-        code: 0,
-    }
-}
-
-// A report of a hit, which names no entry.
-fn of_hit(length: u32, partial: u32, value: u32) -> Report
-    ensures { result ≡ report 0 is_hit length 0 partial value 0 0 0 }
-{
-    Report {
-        refusal: 0,
-        line: 0,
-        outcome: HIT,
-        length,
-        parties: 0,
-        partial,
-        value,
-        set: 0,
-        id: 0,
-        code: 0,
-    }
-}
+pub const EXCEPTION: u32 = Outcome::Exception as u32;
 
 // The numbers of an answer.
+#[tactic(auto, unfolding(machine::specs::Numbers::numbers))]
 pub fn report_of(a: Answer) -> Report
     ensures { result ≡ numbers a }
 {
     let exception = numbers::EXCEPTION_FRAME as u32;
     match a {
-        Answer::Refused { number } => plain(number, 0, 0, 0, 0),
-        Answer::Done => plain(0, DONE, 0, 0, 0),
+        Answer::Refused { number } => Report {
+            refusal: number,
+            ..Report::default()
+        },
+        Answer::Done => Report {
+            outcome: Outcome::Done as u32,
+            ..Report::default()
+        },
         Answer::Issued {
             id,
             length,
             partial,
             value,
-        } => of_entry(ISSUED, id, length, 0, partial, value),
-        Answer::Joined { id } => of_entry(JOINED, id, 0, 0, 0, 0),
-        Answer::Excepted { code } => plain(0, EXCEPTION, exception, 0, code as u32),
+        } => Report {
+            outcome: Outcome::Issued as u32,
+            id: u32::from(id.0),
+            length,
+            partial,
+            value,
+            ..Report::default()
+        },
+        Answer::Joined { id } => Report {
+            outcome: Outcome::Joined as u32,
+            id: u32::from(id.0),
+            ..Report::default()
+        },
+        Answer::Excepted { code } => Report {
+            outcome: Outcome::Exception as u32,
+            length: exception,
+            code: u32::from(code),
+            ..Report::default()
+        },
         Answer::Answered {
             id,
             length,
             parties,
             partial,
             value,
-        } => of_entry(ANSWERED, id, length, parties, partial, value),
-        Answer::TimedOut { id, parties } => of_entry(TIMED_OUT, id, exception, parties, 0, 0),
-        Answer::NothingDue => plain(0, NOTHING_DUE, 0, 0, 0),
-        Answer::Lost { set } => plain(0, DONE, 0, set, 0),
+        } => Report {
+            outcome: Outcome::Answered as u32,
+            id: u32::from(id.0),
+            length,
+            parties,
+            partial,
+            value,
+            ..Report::default()
+        },
+        Answer::TimedOut { id, parties } => Report {
+            outcome: Outcome::TimedOut as u32,
+            id: u32::from(id.0),
+            length: exception,
+            parties,
+            ..Report::default()
+        },
+        Answer::NothingDue => Report {
+            outcome: Outcome::NothingDue as u32,
+            ..Report::default()
+        },
+        Answer::Lost { set } => Report {
+            outcome: Outcome::Done as u32,
+            set,
+            ..Report::default()
+        },
         Answer::Hit {
             length,
             partial,
             value,
-        } => of_hit(length, partial, value),
+        } => Report {
+            outcome: Outcome::Hit as u32,
+            length,
+            partial,
+            value,
+            ..Report::default()
+        },
     }
 }
 
@@ -137,12 +120,7 @@ fn said(refusal: u32, line: u32, outcome: u32, length: u32) -> Report
         line,
         outcome,
         length,
-        parties: 0,
-        partial: 0,
-        value: 0,
-        set: 0,
-        id: 0,
-        code: 0,
+        ..Report::default()
     }
 }
 
@@ -159,12 +137,9 @@ pub fn split(run: &[u8]) -> Report
     ensures { SplitPromised run.now result }
 {
     match wire::splitting::standing(run) {
-        Split::Frame => {
-            let size = wire::splitting::first_frame(run).len();
-            said(0, 0, FRAME, size as u32)
-        }
-        Split::MoreNeeded => said(0, 0, MORE, 0),
-        Split::Refused => said(4, 0, 0, 0),
+        Split::Frame(frame) => said(0, 0, Outcome::Frame as u32, frame.len() as u32),
+        Split::MoreNeeded => said(0, 0, Outcome::More as u32, 0),
+        Split::Refused => said(Refusal::Frame as u32, 0, 0, 0),
     }
 }
 
@@ -173,9 +148,9 @@ fn read_as(line: u32) -> Report
     ensures { result ≡ line_told line }
 {
     if line == 0 {
-        said(0, 0, DONE, 0)
+        said(0, 0, Outcome::Done as u32, 0)
     } else {
-        said(10, line, 0, 0)
+        said(Refusal::Settings as u32, line, 0, 0)
     }
 }
 
@@ -189,25 +164,13 @@ pub fn read(text: &[u8]) -> SettingsRead
     SettingsRead { answer, settings }
 }
 
-// Writes the text of a settings value whose fields are lent: its length, refusal 10 for an invalid value, or refusal 1 for a short buffer.
-pub fn write<'a>(
-    timeout: &'a u32,
-    join: &'a u32,
-    tags: &'a u32,
-    addr: &'a [u16; numbers::MOST_TAGS],
-    width: &'a [u16; numbers::MOST_TAGS],
-    sign: &'a [u16; numbers::MOST_TAGS],
-    ttl: &'a [u16; numbers::MOST_TAGS],
-    strict: &'a [u16; numbers::MOST_TAGS],
-    text: &mut [u8],
-) -> Report
-    ensures { WritePromised (settings timeout.now join.now tags.now addr.now width.now sign.now ttl.now strict.now) text.old result text.new }
+// Writes the text of a settings value that is lent: its length, refusal 10 for an invalid value, or refusal 1 for a short buffer.
+pub fn write(from: &Settings, text: &mut [u8]) -> Report
+    ensures { WritePromised from.now text.old result text.new }
 {
-    match settingstext::writing::write_text(
-        *timeout, *join, *tags, addr, width, sign, ttl, strict, text,
-    ) {
-        Wrote::Text(size) => said(0, 0, DONE, size as u32),
-        Wrote::TooShort => said(1, 0, 0, 0),
-        Wrote::Invalid => said(10, 0, 0, 0),
+    match settingstext::writing::write_text(from, text) {
+        Ok(size) => said(0, 0, Outcome::Done as u32, size as u32),
+        Err(WriteError::TooShort) => said(Refusal::Buffer as u32, 0, 0, 0),
+        Err(WriteError::Invalid) => said(Refusal::Settings as u32, 0, 0, 0),
     }
 }

@@ -1,11 +1,12 @@
 -- The refusals of a request: from the gate's tests and the outcome of the check to the refusal of the call, and what is known of a request that has none.
 -- Assumes nothing.
-use Prim.Native.Nat.{ℕ, ◌≤◌, ◌<◌}
-use mathlib.Core.Path.{◌≡◌, sym, ◌∙◌}
+use Prim.Native.Nat.{ℕ, zero, suc, ◌≤◌, ◌<◌}
+use mathlib.Core.Path.{◌≡◌, refl, sym, ◌∙◌}
 use mathlib.Core.Bool.{true, false, not}
 use mathlib.Core.List.{List, [], ◌∷◌}
 use native.Mathlib.Omega.{arith}
-use lib.ListN.{length}
+use lib.ListN.{length, get_or, take}
+use lib.Seq.{get_or-take}
 use lib.Dec.{ltb, leb}
 use borrow.Author.Tests.{ne_eqb, leb-false, ltb-false, lt-ltb, le-ltb}
 use Rattle.numbers.specs.Numbers.{clients, latest_time, least_frame, most_frame, frame_buffer}
@@ -13,17 +14,23 @@ use Rattle.laws.specs.Bits.{has}
 use Rattle.laws.proofs.Choice.{or_left, or_right}
 use Rattle.wire.specs.Frame.{misframed, function_of}
 use Rattle.settings.specs.Grammar.{Tag}
+use Rattle.settings.specs.TagWords.{strict_mark, some_strict}
 use Rattle.pdu.specs.Requests.{class_of, bad_function, bad_length}
 use Rattle.pdu.specs.declared.Asked.{Asked}
-use Rattle.pdu.specs.declared.Checked.TheVariants.{BadFunction, BadLength, Legal}
 use Rattle.rewrite.specs.Legal.{checked_under}
+use Rattle.rewrite.specs.inner.Lent.{tags_of}
 use Rattle.rewrite.proofs.CheckLaws.{under_tests}
+use Rattle.machine.specs.declared.Refusal.{Refusal}
+use Rattle.machine.specs.declared.Refusal.TheVariants.{Buffer, Client, Time, Frame, Function, Length, Unknown, Mismatch, Attached, Settings}
+use Rattle.machine.specs.RefusalNumbers.{number_of}
 use Rattle.machine.specs.Machine.{Machine}
 use Rattle.machine.specs.Calls.Call.{request}
 use Rattle.machine.specs.Refusals.{row, rows, lowest, refusal, short_frame, is_strange_to, is_stranger, is_untimely_at, is_untimely}
 use Rattle.machine.proofs.LowestLaws.{applies, passes, none_left, none-applies, split-none, split_more}
 use Rattle.proxy.specs.Gates.{request_gate}
 use Rattle.requesting.specs.inner.Parts.{Admitted}
+use Rattle.pdu.specs.declared.Fault.TheVariants.{BadFunction, BadLength}
+use Rattle.std.specs.Prelude.{Ok, Err}
 
 module _ (out client attached time clock : ℕ) (f : List ℕ) where
   -- The gate's tests in their order, each behind those before it.
@@ -50,6 +57,19 @@ module _ (out client attached time clock : ℕ) (f : List ℕ) where
 
         pub gate_open : misframed f ≡ false → 0 ≡ request_gate out client attached time clock f
         gate_open h = past_client (passes 3 _ timely (passes 4 [] h none_left))
+
+-- The number of what refuses is not 0.
+pub number_not_0 : (r : Refusal) → number_of r ≡ 0 → ⊥
+number_not_0 Buffer h = cc
+number_not_0 Client h = cc
+number_not_0 Time h = cc
+number_not_0 Frame h = cc
+number_not_0 Function h = cc
+number_not_0 Length h = cc
+number_not_0 Unknown h = cc
+number_not_0 Mismatch h = cc
+number_not_0 Attached h = cc
+number_not_0 Settings h = cc
 
 -- no refusal from 1 to 4 applies
 pub record Open (m : Machine) (c t : ℕ) (f o : List ℕ) : Type 0 where
@@ -83,10 +103,10 @@ module _ {m : Machine} {c t : ℕ} {f o : List ℕ} (p : Open m c t f o) where
   behind n e = sym (passes 1 _ p.roomy (passes 2 _ p.known (passes 3 _ p.timely (passes 4 _ p.framed e))))
 
   -- Behind the gate the check decides, under whatever tags: 5, 6, or no refusal.
-  pub check_function : (tags : List Tag) → checked_under tags f ≡ BadFunction → refusal m (request c t f o) ≡ 5
+  pub check_function : (tags : List Tag) → checked_under tags f ≡ Err BadFunction → refusal m (request c t f o) ≡ 5
   check_function tags e = behind 5 (applies 5 _ (under_tests tags f e))
 
-  pub check_length : (tags : List Tag) → checked_under tags f ≡ BadLength → refusal m (request c t f o) ≡ 6
+  pub check_length : (tags : List Tag) → checked_under tags f ≡ Err BadLength → refusal m (request c t f o) ≡ 6
   check_length tags e = let w = under_tests tags f e in behind 6 (passes 5 _ w.0 (applies 6 _ w.1))
 
   pub check_passes : bad_function (function_of f) ≡ false → bad_length (class_of (function_of f)) f ≡ false → refusal m (request c t f o) ≡ 0
@@ -101,7 +121,7 @@ module _ {m : Machine} {c t : ℕ} {f o : List ℕ} (p : Open m c t f o) where
   not-before = ltb-false t m.book.clock (or_right (ltb latest_time t) (ltb t m.book.clock) p.timely)
 
   -- What the gate and the check have shown of a legal request.
-  pub admits : (tags : List Tag) {a : Asked} → checked_under tags f ≡ Legal a → Admitted c t f o a
+  pub admits : (tags : List Tag) {a : Asked} → checked_under tags f ≡ Ok a → Admitted c t f o a
   unfolding misframed
   admits tags e =
       let w = p.framed in
@@ -113,3 +133,9 @@ module _ {m : Machine} {c t : ℕ} {f o : List ℕ} (p : Open m c t f o) where
         most = ltb-false most_frame (length f) (or_left (ltb most_frame (length f)) _ (or_right (ltb (length f) least_frame) _ w));
         legal = (under_tests tags f e).3;
       }
+
+-- Where no tag of the words that a state keeps is strict unless their first has the mark, so it is of those that count.
+pub unmarked_front : (n : ℕ) (words : List ℕ) → (get_or words 0 0 < strict_mark → some_strict (tags_of n words) ≡ false) → get_or (take n words) 0 0 < strict_mark → some_strict (tags_of n words) ≡ false
+unfolding some_strict
+unmarked_front zero words h l = refl
+unmarked_front (suc n) words h l = h (rw (get_or-take (suc n) words 0 0 (omega arith)) at l)

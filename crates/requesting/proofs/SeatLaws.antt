@@ -4,7 +4,7 @@ use Prim.Native.Nat.{ℕ, ◌+◌, ◌-◌, ◌≤◌, ◌<◌}
 use mathlib.Core.Path.{◌≡◌, refl, ap, sym, ◌∙◌}
 use mathlib.Core.Logic.{⊎_elim}
 use mathlib.Core.Bool.{Bool, true, false, cond, not, ◌&&◌}
-use mathlib.Core.Option
+use mathlib.Core.Option as entries
 use mathlib.Core.Option.{some}
 use mathlib.Core.List.{List, [], ◌∷◌, map}
 use native.Mathlib.Omega.{arith}
@@ -17,14 +17,13 @@ use Rattle.laws.specs.Circle.{turn}
 use Rattle.laws.proofs.Choice.{and_left, and_right}
 use Rattle.laws.proofs.SearchLaws.{best_in, best-some}
 use Rattle.laws.proofs.CircleLaws.{turn_low}
-use Rattle.wire.specs.Frame.{id_of, unit_of}
+use Rattle.wire.specs.Frame.{id_of}
 use Rattle.settings.specs.Grammar.{Value}
 use Rattle.pdu.specs.Requests.{checked_of}
-use Rattle.pdu.specs.Replies.{What}
+use Rattle.pdu.specs.declared.What.{What}
 use Rattle.pdu.specs.Words.{word_of, what_of, Proper}
 use Rattle.pdu.specs.declared.Asked.{Asked}
 use Rattle.pdu.specs.declared.ProxyId.{ProxyId}
-use Rattle.pdu.specs.declared.Checked.TheVariants.{Legal}
 use Rattle.pdu.proofs.RequestLaws.{legal-passed}
 use Rattle.pdu.proofs.WordLaws.{word_back}
 use Rattle.rewrite.specs.Rewriting.{with_counts}
@@ -46,39 +45,46 @@ use Rattle.table.specs.inner.Places.{is_free, is_open, is_lower, free_id_from}
 use Rattle.table.proofs.FindLaws.{join_seat, free-place, free_id_lem}
 use Rattle.table.proofs.EntryLaws.{held, live_at, with_parties}
 use Rattle.table.proofs.ChangeLaws.{issue_is, join_is, join_sound}
-use Rattle.proxy.specs.State.{KeptSettings, state, value_in, machine_of}
+use Rattle.proxy.specs.State.{state, value_in, machine_of}
+use Rattle.proxy.specs.declared.KeptSettings.{KeptSettings}
 use Rattle.requesting.specs.inner.Parts.{Asks, Came}
 use Rattle.requesting.proofs.StepLaws.{was_hit, was_missed, was_joined, was_issued, was_full, issue_made}
+use Rattle.laws.specs.Options.{place_or}
+use Rattle.std.specs.Prelude.{Ok, Option, Some, None}
 
 -- What a legal request asks may stand in a live entry, and comes back from its word,
-asked_back : {f : List ℕ} {n : ℕ} → Asks f n → what_of n ≡ wanted f
+pub asked_back : {f : List ℕ} {n : ℕ} → Asks f n → what_of n ≡ wanted f
 asked_back {f} h = ap what_of h.same ∙ word_back (wanted f) h.proper
 
 pub word_stands : {f : List ℕ} {n : ℕ} → Asks f n → Proper (what_of n) × (word_of (what_of n) ≡ n)
 word_stands h = rw (asked_back h) (h.proper, sym h.same)
 
--- which is one that a search of the cache takes,
+-- which is one that a search of the cache takes; and the word of what was asked is such.
 pub word_sought : {f : List ℕ} {n : ℕ} → Asks f n → Word n
 word_sought h = record { proper = (word_stands h).0; back = (word_stands h).1 }
 
--- with the frame's unit and what the check found.
-pub asked_so : {f : List ℕ} {n unit : ℕ} {a : Asked} → Asks f n → checked_of f ≡ Legal a → unit ≡ unit_of f → ((what_of n).unit ≡ unit) × ((what_of n).asked ≡ a)
-asked_so {f} {n} {unit} {a} h legal e = (ap (λ (w : What). w.unit) (asked_back h) ∙ sym e, ap (λ (w : What). w.asked) (asked_back h) ∙ sym (legal-passed f a legal).asks)
+pub asks_lem : {f : List ℕ} {n : ℕ} {w : What} → n ≡ word_of w → (w ≡ wanted f) × Proper (wanted f) → Asks f n
+asks_lem e h = record { same = e ∙ ap word_of h.0; proper = h.1 }
 
 -- A request may join its like by its own settings and what it asks.
-pub may_join_own : (k : KeptSettings) (f : List ℕ) {a : Asked} {joining : Bool} → checked_of f ≡ Legal a
+pub may_join_own : (k : KeptSettings) (f : List ℕ) {a : Asked} {joining : Bool} → checked_of f ≡ Ok a
     → ((v : Value) (w : What) → v.join ≡ k.join → w.asked ≡ a → joining ≡ alike v w w) → joining ≡ alike (value_in k) (wanted f) (wanted f)
 unfolding value_in
 may_join_own k f {a} legal h = h (value_in k) (wanted f) refl (sym (legal-passed f a legal).asks)
 
 -- The registers that a legal request carries are in its frame.
-pub carries : (f : List ℕ) {a : Asked} → checked_of f ≡ Legal a → Proper (wanted f) → Sent a f
+pub carries : (f : List ℕ) {a : Asked} → checked_of f ≡ Ok a → Proper (wanted f) → Sent a f
 carries f {a} legal p = legal_sent f legal (rw (legal-passed f a legal).asks p.lawful)
 
 -- A place that the scan for an open one found passes its test.
 found : (joining : Bool) (test : ℕ → Bool) (beats : ℕ → ℕ → Bool) (none n r : ℕ) → r ≡ cond joining (best test beats none n) none → r < none → test r ≡ true
 found true test beats none n r e l = ⊎_elim (λ z. absurd (omega arith)) (λ w. rw e w.1) (best_in test beats none n)
 found false test beats none n r e l = absurd (omega arith)
+
+-- Where a search found no place, what stands for none is not below that.
+pub none_found : (n : ℕ) (r : Option ℕ) → ((k : ℕ) → r ≡ Some k → ⊥) → n ≤ place_or n r
+none_found n None h = omega arith
+none_found n (Some k) h = absurd (h k refl)
 
 -- The lowest free place is free.
 pub free-here : (is : List ℕ) {place : ℕ} → place ≡ best (is_free is) (λ j k. false) places places → place < places → get_or is place 0 ≡ 0
@@ -154,9 +160,9 @@ module _ {k : KeptSettings} {c : Columns} {t : ℕ} {f : List ℕ} {joining : Bo
 
 -- A new entry at the lowest free place, what it spoils closed and dropped, the cursor behind its id, and the frame sent on are the issue.
 pub issued_there : (k : KeptSettings) (c : Columns) (client : ℕ) (o : List ℕ) (id : ProxyId) {x t word place original x' p v : ℕ} {f o' n n' b : List ℕ} {c' : Columns} {what : Asked}
-    → SoundTable c → Asks f word → checked_of f ≡ Legal what → SoundTable c'
+    → SoundTable c → Asks f word → checked_of f ≡ Ok what → SoundTable c'
     → id.0 ≡ free_id_from c.ids c.top x → id.0 < ids → x' ≡ turn ids (id.0 + 1) → original ≡ id_of f → place ≡ best (is_free c.ids) (λ i j. false) places places
-    → table_of c' ≡ map (Option.map (marked (closing (what_of word)))) (set (table_of c) place (some (entry id.0 (what_of word) client opened (t + k.timeout) (party client original ∷ []))))
+    → table_of c' ≡ map (entries.map (marked (closing (what_of word)))) (set (table_of c) place (some (entry id.0 (what_of word) client opened (t + k.timeout) (party client original ∷ []))))
     → with_counts p v o' ≡ under id.0 o (forwarded (tags_of k.tag_count k.tag_words) what f)
     → SoundCache n b → Drops (what_of word) n n'
     → Came (Issued id (length f) p v) k t b c' x' n' o' (λ m. issued_to m client f o) c x n

@@ -12,9 +12,8 @@ use Rattle.laws.specs.Bytes.{over}
 use Rattle.wire.specs.Frame.{id_of, unit_of, function_of, laid, exception}
 use Rattle.settings.specs.Grammar.{Tag}
 use Rattle.pdu.specs.Requests.{asked_of}
-use Rattle.pdu.specs.Replies.{What}
+use Rattle.pdu.specs.declared.What.{What}
 use Rattle.pdu.specs.declared.Asked.{Asked}
-use Rattle.pdu.specs.declared.Checked.TheVariants.{Excepted as Faulty, Legal}
 use Rattle.rewrite.specs.Rewriting.{Rewritten, with_counts}
 use Rattle.rewrite.specs.Frames.{forwarded, under}
 use Rattle.rewrite.specs.Legal.{fault_under, checked_under}
@@ -30,20 +29,29 @@ use Rattle.machine.specs.Machine.{Machine, Note, opened, Live_book, machine, rul
 use Rattle.machine.specs.Calls.{Outcome, done, out_of, list_of}
 use Rattle.machine.specs.Calls.Call.{request}
 use Rattle.machine.specs.Refusals.{refusal}
+use Rattle.machine.specs.RefusalNumbers.{number_of}
+use Rattle.machine.specs.declared.Refusal.{Refusal}
 use Rattle.machine.specs.Requests.{wanted, party_of, closing, hitting_place, hit_on, joining_place, can_join, exhausted, excepted, joined_to, issued_to, missed, served, admitted}
 use Rattle.machine.specs.Numbers.{numbers}
 use Rattle.machine.specs.Outcomes.{granted, outcome}
 use Rattle.machine.specs.declared.Answer.{Answer}
 use Rattle.machine.specs.declared.Answer.TheVariants.{Refused, Joined, Excepted, Issued, Hit}
 use Rattle.machine.proofs.OutcomeLaws.{granted_is, refused_is, served_cases}
-use Rattle.proxy.specs.State.{State, value_in, machine_of}
+use Rattle.proxy.specs.Calls.{Does}
+use Rattle.proxy.specs.State.{State, value_in, machine_of, SoundState}
 use Rattle.proxy.proofs.StateLaws.{timed, clock_is}
-use Rattle.requesting.proofs.GateLaws.{Open, check_passes, not-before}
+use Rattle.requesting.proofs.GateLaws.{Open, number_not_0, check_passes, not-before}
+use Rattle.pdu.specs.declared.Fault.TheVariants.{Excepted as Faulty}
+use Rattle.std.specs.Prelude.{Ok, Err}
 
 -- A refused request changes nothing.
 pub was_refused : (m : Machine) (c t : ℕ) (f o : List ℕ) (n : ℕ) → (n ≡ 0 → ⊥) → refusal m (request c t f o) ≡ n → done (Refused n) m o [] ≡ outcome m (request c t f o)
 unfolding out_of list_of
 was_refused m c t f o n h e = refused_is m (request c t f o) n e h
+
+-- So what refuses is all that the call does.
+pub does_refuse : (s : State) → SoundState s → (c t : ℕ) (f o : List ℕ) (r : Refusal) → refusal (machine_of s) (request c t f o) ≡ number_of r → Does s (request c t f o) (Refused (number_of r)) s o []
+does_refuse s sounds c t f o r e = (was_refused (machine_of s) c t f o (number_of r) (number_not_0 r) e, sounds, λ h. refl)
 
 -- An exception written with the caller's id, unit and function is the caller's.
 pub exception-made : (m : Machine) (f o : List ℕ) (id unit function code : ℕ) (o' : List ℕ) → id ≡ id_of f → unit ≡ unit_of f → function ≡ function_of f
@@ -57,14 +65,14 @@ module _ (s : State) {c t : ℕ} {f o : List ℕ} (p : Open (machine_of s) c t f
   tags = tags_of s.settings.tag_count s.settings.tag_words
 
   -- A request with a fault sets the clock and gets the exception.
-  pub was_excepted : {code : ℕ} {d : Outcome} → checked_under tags f ≡ Faulty code → d ≡ excepted (machine_of (timed s t)) code f o → d ≡ outcome (machine_of s) (request c t f o)
+  pub was_excepted : {code : ℕ} {d : Outcome} → checked_under tags f ≡ Err (Faulty code) → d ≡ excepted (machine_of (timed s t)) code f o → d ≡ outcome (machine_of s) (request c t f o)
   unfolding granted admitted value_in
   was_excepted e q =
       let w = under_tests tags f e in
       q ∙ sym (granted_is (machine_of s) (request c t f o) (check_passes p w.0 w.1) ∙ rw w.3 (rw (w.2, clock_is s t (not-before p)) refl))
 
   -- A legal request sets the clock and is served.
-  pub was_served : {a : Asked} {d : Outcome} → checked_under tags f ≡ Legal a → d ≡ served (machine_of (timed s t)) c f o → d ≡ outcome (machine_of s) (request c t f o)
+  pub was_served : {a : Asked} {d : Outcome} → checked_under tags f ≡ Ok a → d ≡ served (machine_of (timed s t)) c f o → d ≡ outcome (machine_of s) (request c t f o)
   unfolding granted admitted value_in
   was_served e q =
       let w = under_tests tags f e in

@@ -1,51 +1,55 @@
-// The request call over lent columns: the gate, the check of what is asked, and what a legal request comes to.
+// The request call over the lent device: the gate, the check of what is asked, and what a legal request comes to.
 #![tactic(auto)]
 
-ghost use Rattle.std.specs.Prelude.{◌≡◌, false, List, [], ℕ, ◌-◌, ◌≤◌, ◌<◌, length, get_or};
+ghost use Rattle.std.specs.Prelude.{◌≡◌, false, [], ◌-◌, ◌≤◌, ◌<◌, length, get_or, Ok};
 ghost use Rattle.std.proofs.Math.Option.{none};
 ghost use Rattle.numbers.specs.Numbers.{ids as idCount, places, room, exception_frame, least_frame, frame_buffer, cache_places};
 ghost use Rattle.laws.specs.Search.{best};
 ghost use Rattle.wire.specs.Frame.{id_of};
 ghost use Rattle.settings.specs.Grammar.{Value};
-ghost use Rattle.settings.specs.TagWords.{strict_mark, some_strict};
 ghost use Rattle.pdu.specs.Requests.{checked_of};
-ghost use Rattle.pdu.specs.Replies.{What};
+ghost use Rattle.pdu.specs.Words.{Proper};
+ghost use Rattle.pdu.specs.declared.What.{What};
 ghost use Rattle.rewrite.specs.Legal.{checked_under};
-ghost use Rattle.rewrite.specs.inner.Lent.{tags_of, TagWords};
+ghost use Rattle.rewrite.specs.inner.Lent.{tags_of};
 ghost use Rattle.machine.specs.Machine.{Machine};
 ghost use Rattle.machine.specs.Calls.{done};
 ghost use Rattle.machine.specs.Calls.Call.{request as asks};
-ghost use Rattle.machine.specs.Requests.{alike, excepted, hit_on, issued_to, missed, served};
+ghost use Rattle.machine.specs.RefusalNumbers.{refused_by};
+ghost use Rattle.machine.specs.Requests.{alike, wanted, excepted, hit_on, issued_to, missed, served};
 ghost use Rattle.cache.specs.Cache.{in_cache};
-ghost use Rattle.caching.specs.Kept.{cache_of, Bounded, SoundCache};
-ghost use Rattle.table.specs.Columns.{columns, party, SoundTable};
+ghost use Rattle.caching.specs.Kept.{cache_of, SoundCache};
+ghost use Rattle.table.specs.Columns.{party};
 ghost use Rattle.table.specs.inner.Changes.{Runs, Joined};
 ghost use Rattle.table.specs.inner.Places.{is_free};
-ghost use Rattle.proxy.specs.State.{kept_settings, lent, Settled, SoundState};
+ghost use Rattle.proxy.specs.State.{state_of, Settled, SoundState};
 ghost use Rattle.proxy.specs.Calls.{Does};
 ghost use Rattle.proxy.specs.Gates.{request_gate};
-ghost use Rattle.requesting.specs.inner.Parts.{Admitted, Asks, Came};
+ghost use Rattle.requesting.specs.inner.Parts.{Admitted, Asks, Comes};
 
-use machine::Answer;
-use pdu::{Asked, Checked, ProxyId};
+use caching::ReplyCache;
+use machine::{Answer, Refusal};
+use pdu::{Asked, Fault, What};
+use proxy::{Device, KeptSettings};
+use table::LiveTable;
 
-// The refusals 1 to 4, the lowest that applies; 0 where none does.
-fn gate(out: usize, client: u32, attached: u32, time: u64, clock: u64, frame: &[u8]) -> u32
-    ensures { result ≡ request_gate out client attached time clock frame.now }
+// The refusals 1 to 4, the lowest that applies.
+fn gate(device: &Device, client: u32, time: u64, frame: &[u8], out: &[u8]) -> Result<(), Refusal>
+    ensures { refused_by result ≡ request_gate (length out.now) client device.now.attached time device.now.clock frame.now }
 {
-    if out < numbers::FRAME_BUFFER {
-        return 1;
+    if out.len() < numbers::FRAME_BUFFER {
+        return Err(Refusal::Buffer);
     }
-    if proxy::attaching::is_stranger(attached, client) {
-        return 2;
+    if proxy::attaching::is_stranger(device.attached, client) {
+        return Err(Refusal::Client);
     }
-    if proxy::is_untimely(clock, time) {
-        return 3;
+    if proxy::is_untimely(device.clock, time) {
+        return Err(Refusal::Time);
     }
     if wire::frames::is_misframed(frame) {
-        return 4;
+        return Err(Refusal::Frame);
     }
-    0
+    Ok(())
 }
 
 // An exception for the caller, under its own id.
@@ -61,165 +65,113 @@ fn except_caller(out: &mut [u8], frame: &[u8], code: u8) -> Answer
 }
 
 // Whether a request may join its like: a read, when joining is on.
-fn may_join(join: u32, what: Asked) -> bool
-    ensures { (v : Value) (w : What) → v.join ≡ join → w.asked ≡ what → result ≡ alike v w w }
+fn may_join(join: u32, asked: Asked) -> bool
+    ensures { (v : Value) (w : What) → v.join ≡ join → w.asked ≡ asked → result ≡ alike v w w }
 {
-    (join == 1) & pdu::is_read(what)
+    (join == 1) & pdu::is_read(asked)
 }
 
-// What a legal request asks, as one word.
-fn word_asked(frame: &[u8], what: Asked) -> u64
-    requires { (least_frame ≤ length frame.now) × (checked_of frame.now ≡ Checked.Legal what) }
-    ensures { Asks frame.now result }
+// What a legal request asks, of which unit, by which function.
+fn what_asked(frame: &[u8], asked: Asked) -> What
+    requires { (least_frame ≤ length frame.now) × (checked_of frame.now ≡ Ok asked) }
+    ensures { (result ≡ wanted frame.now) × Proper (wanted frame.now) }
 {
-    let unit = frame[numbers::UNIT_AT];
-    let function = frame[numbers::HEADER_SIZE];
-    checking::words::word_of(unit, function, what)
+    What {
+        unit: frame[numbers::UNIT_AT],
+        function: frame[numbers::HEADER_SIZE],
+        asked,
+    }
 }
 
 // Joins a request to the live request at an open place; no frame is written.
-fn join_request<'a>(
-    ids: &'a [u32; numbers::PLACES],
-    counts: &'a mut [u8; numbers::PLACES],
-    clients: &'a mut [u8; numbers::PARTY_PLACES],
-    originals: &'a mut [u16; numbers::PARTY_PLACES],
-    place: usize,
-    client: u8,
-    frame: &[u8],
-) -> Answer
-    requires runs { Runs counts.old clients.old originals.old }
-    requires place_lt_places { (place < places) × (get_or counts.old place 0 < room) }
-    requires nonzero { (0 < get_or ids.now place 0) × (get_or ids.now place 0 ≤ idCount) }
-    ensures { (result ≡ Answer.Joined (record { 0 = get_or ids.now place 0 - 1 }))
-        × Joined place (party client (id_of frame.now)) counts.old clients.old originals.old counts.new clients.new originals.new }
+fn join_request(table: &mut LiveTable, place: usize, client: u8, frame: &[u8]) -> Answer
+    requires runs { Runs table.old.counts table.old.clients table.old.originals }
+    requires place_lt_places { (place < places) × (get_or table.old.counts place 0 < room) }
+    requires nonzero { (0 < get_or table.old.ids place 0) × (get_or table.old.ids place 0 ≤ idCount) }
+    ensures joined { (result ≡ Answer.Joined (record { 0 = get_or table.old.ids place 0 - 1 }))
+        × Joined place (party client (id_of frame.now)) table.old.counts table.old.clients table.old.originals table.new.counts table.new.clients table.new.originals }
+    ensures stays { (table.new.ids ≡ table.old.ids) × (table.new.asked ≡ table.old.asked) × (table.new.callers ≡ table.old.callers)
+        × (table.new.deadlines ≡ table.old.deadlines) × (table.new.top ≡ table.old.top) × (table.new.cursor ≡ table.old.cursor) }
 {
     let original = pdu::original_of(frame);
-    moves::changing::join(counts, clients, originals, place, client, original);
-    let id = table::id_at(ids, place);
+    moves::changing::join(table, place, client, original);
+    let id = table.id_at(place);
     Answer::Joined { id }
 }
 
 // Issues a legal request into the lowest free place, closes the reads that it spoils, drops what is cached of such, and sends its frame on.
-fn issue_request<'a>(
-    ids: &'a mut [u32; numbers::PLACES],
-    asked: &'a mut [u64; numbers::PLACES],
-    callers: &'a mut [u8; numbers::PLACES],
-    deadlines: &'a mut [u64; numbers::PLACES],
-    counts: &'a mut [u8; numbers::PLACES],
-    clients: &'a mut [u8; numbers::PARTY_PLACES],
-    originals: &'a mut [u16; numbers::PARTY_PLACES],
-    top: &'a mut u32,
-    cursor: &'a mut u16,
-    cache: &'a mut [u64; numbers::CACHE_NUMBERS],
-    timeout: u32,
-    tag_count: u32,
-    tag_words: &[u64; numbers::MOST_TAGS],
+fn issue_request(
+    device: &mut Device,
     client: u8,
-    time: u64,
     frame: &[u8],
     out: &mut [u8],
-    what: Asked,
+    what: What,
     word: u64,
     place: usize,
 ) -> Answer
-    requires sound_table { SoundTable (columns ids.old asked.old callers.old deadlines.old counts.old clients.old originals.old top.old) }
-    requires tag_words { TagWords tag_count tag_words.now }
-    requires admitted { Admitted client time frame.now out.old what }
-    requires asks { Asks frame.now word }
-    requires place_value { (place ≡ best (is_free ids.old) (λ j k. false) places places) × (place < places) × Bounded cache.old }
-    ensures { (join : ℕ) (shown : List ℕ) → SoundCache cache.old shown → Came result (kept_settings timeout join tag_count tag_words.now) time shown (columns ids.new asked.new callers.new deadlines.new counts.new clients.new originals.new top.new) cursor.new cache.new out.new
-        (λ m. issued_to m client frame.now out.old)
-        (columns ids.old asked.old callers.old deadlines.old counts.old clients.old originals.old top.old) cursor.old cache.old }
+    requires sound { SoundState (state_of device.old) }
+    requires admitted { Admitted client device.old.clock frame.now out.old what.asked }
+    requires asks { Asks frame.now word × (what ≡ wanted frame.now) }
+    requires free { (place ≡ best (is_free device.old.table.ids) (λ j k. false) places places) × (place < places) }
+    ensures { Comes result device.old device.new out.new (λ m. issued_to m client frame.now out.old) }
 {
-    let id = finding::free_id(ids, *top as usize, ProxyId(*cursor));
-    let deadline = time + timeout as u64;
+    let id = finding::free_id(&device.table);
+    let deadline = device.clock + device.settings.timeout as u64;
     let original = pdu::original_of(frame);
     moves::changing::issue(
-        ids, asked, callers, deadlines, counts, clients, originals, top, place, id, word, deadline,
-        client, original,
+        &mut device.table,
+        place,
+        id,
+        word,
+        deadline,
+        client,
+        original,
     );
-    let unit = wire::unit_of(frame);
-    moves::closing::close(ids, asked, *top as usize, unit, what);
-    caching::drop_met(cache, unit, what);
-    let next = id.next();
-    *cursor = next.0;
-    let raw = payloads::forward(out, frame, id, what, tag_words, tag_count as usize);
-    let length = frame.len() as u32;
+    moves::closing::close(&mut device.table, what);
+    device.cache.drop_met(what);
+    device.table.cursor = id.next().0;
+    let raw = payloads::forward(out, frame, id, what.asked, device.settings.tags());
     Answer::Issued {
         id,
-        length,
+        length: frame.len() as u32,
         partial: raw.partial,
         value: raw.value,
     }
 }
 
 // A legal request that hits nothing: it joins, else is issued, else gets exception 04.
-fn miss<'a>(
-    ids: &'a mut [u32; numbers::PLACES],
-    asked: &'a mut [u64; numbers::PLACES],
-    callers: &'a mut [u8; numbers::PLACES],
-    deadlines: &'a mut [u64; numbers::PLACES],
-    counts: &'a mut [u8; numbers::PLACES],
-    clients: &'a mut [u8; numbers::PARTY_PLACES],
-    originals: &'a mut [u16; numbers::PARTY_PLACES],
-    top: &'a mut u32,
-    cursor: &'a mut u16,
-    cache: &'a mut [u64; numbers::CACHE_NUMBERS],
-    timeout: u32,
-    join: u32,
-    tag_count: u32,
-    tag_words: &[u64; numbers::MOST_TAGS],
+fn miss(
+    device: &mut Device,
     client: u8,
-    time: u64,
     frame: &[u8],
     out: &mut [u8],
-    what: Asked,
+    what: What,
     word: u64,
 ) -> Answer
-    requires sound_table { SoundTable (columns ids.old asked.old callers.old deadlines.old counts.old clients.old originals.old top.old) }
-    requires settled { Settled (kept_settings timeout join tag_count tag_words.now) }
-    requires admitted { Admitted client time frame.now out.old what }
-    requires asks { Asks frame.now word × Bounded cache.old }
-    ensures { (shown : List ℕ) → SoundCache cache.old shown → Came result (kept_settings timeout join tag_count tag_words.now) time shown (columns ids.new asked.new callers.new deadlines.new counts.new clients.new originals.new top.new) cursor.new cache.new out.new
-        (λ m. missed m client frame.now out.old)
-        (columns ids.old asked.old callers.old deadlines.old counts.old clients.old originals.old top.old) cursor.old cache.old }
+    requires sound { SoundState (state_of device.old) }
+    requires admitted { Admitted client device.old.clock frame.now out.old what.asked }
+    requires asks { Asks frame.now word × (what ≡ wanted frame.now) }
+    ensures { Comes result device.old device.new out.new (λ m. missed m client frame.now out.old) }
 {
-    let seats = finding::find_seats(
-        ids,
-        asked,
-        deadlines,
-        counts,
-        *top as usize,
-        may_join(join, what),
-        word,
-        time,
-    );
-    if seats.open < numbers::PLACES {
-        return join_request(ids, counts, clients, originals, seats.open, client, frame);
+    let joining = may_join(device.settings.join, what.asked);
+    let seats = finding::find_seats(&device.table, joining, word, device.clock);
+    if let Some(place) = seats.open {
+        return join_request(&mut device.table, place, client, frame);
     }
-    if seats.free < numbers::PLACES {
-        return issue_request(
-            ids, asked, callers, deadlines, counts, clients, originals, top, cursor, cache,
-            timeout, tag_count, tag_words, client, time, frame, out, what, word, seats.free,
-        );
+    if let Some(place) = seats.free {
+        return issue_request(device, client, frame, out, what, word, place);
     }
     except_caller(out, frame, numbers::DEVICE_FAILURE)
 }
 
 // A hit: what is cached at the place goes out under the caller's id, with the count of the reply that filled it; of partial cover none is raw.
-fn show_cached<'a>(
-    cache: &'a [u64; numbers::CACHE_NUMBERS],
-    shown: &'a [u8; numbers::CACHE_BYTES],
-    place: usize,
-    frame: &[u8],
-    out: &mut [u8],
-) -> Answer
-    requires sound_cache { SoundCache cache.now shown.now × (place < cache_places) × (in_cache (cache_of cache.now shown.now) place ≡ none → ⊥) }
+fn show_cached(cache: &ReplyCache, place: usize, frame: &[u8], out: &mut [u8]) -> Answer
+    requires sound_cache { SoundCache cache.now.numbers cache.now.shown × (place < cache_places) × (in_cache (cache_of cache.now.numbers cache.now.shown) place ≡ none → ⊥) }
     requires frame_buffer_in_bounds { (frame_buffer ≤ length out.old) × (least_frame ≤ length frame.now) }
-    ensures { (m : Machine) → done result m out.new [] ≡ hit_on m frame.now out.old (in_cache (cache_of cache.now shown.now) place) }
+    ensures { (m : Machine) → done result m out.new [] ≡ hit_on m frame.now out.old (in_cache (cache_of cache.now.numbers cache.now.shown) place) }
 {
-    let length = caching::show(cache, shown, place, frame[0], frame[1], out);
-    let value = caching::value_at(cache, place);
+    let length = cache.show(place, frame[0], frame[1], out);
+    let value = cache.value_at(place);
     Answer::Hit {
         length,
         partial: 0,
@@ -228,125 +180,49 @@ fn show_cached<'a>(
 }
 
 // A legal request: a hit, or what it comes to without one.
-fn serve<'a>(
-    ids: &'a mut [u32; numbers::PLACES],
-    asked: &'a mut [u64; numbers::PLACES],
-    callers: &'a mut [u8; numbers::PLACES],
-    deadlines: &'a mut [u64; numbers::PLACES],
-    counts: &'a mut [u8; numbers::PLACES],
-    clients: &'a mut [u8; numbers::PARTY_PLACES],
-    originals: &'a mut [u16; numbers::PARTY_PLACES],
-    top: &'a mut u32,
-    cursor: &'a mut u16,
-    cache: &'a mut [u64; numbers::CACHE_NUMBERS],
-    shown: &'a [u8; numbers::CACHE_BYTES],
-    timeout: u32,
-    join: u32,
-    tag_count: u32,
-    tag_words: &[u64; numbers::MOST_TAGS],
-    client: u8,
-    time: u64,
-    frame: &[u8],
-    out: &mut [u8],
-    what: Asked,
-) -> Answer
-    requires sound_table { SoundTable (columns ids.old asked.old callers.old deadlines.old counts.old clients.old originals.old top.old) }
-    requires settled { Settled (kept_settings timeout join tag_count tag_words.now) × SoundCache cache.old shown.now }
-    requires admitted { Admitted client time frame.now out.old what }
-    ensures { Came result (kept_settings timeout join tag_count tag_words.now) time shown.now (columns ids.new asked.new callers.new deadlines.new counts.new clients.new originals.new top.new) cursor.new cache.new out.new
-        (λ m. served m client frame.now out.old)
-        (columns ids.old asked.old callers.old deadlines.old counts.old clients.old originals.old top.old) cursor.old cache.old }
+fn serve(device: &mut Device, client: u8, frame: &[u8], out: &mut [u8], asked: Asked) -> Answer
+    requires sound { SoundState (state_of device.old) }
+    requires admitted { Admitted client device.old.clock frame.now out.old asked }
+    ensures { Comes result device.old device.new out.new (λ m. served m client frame.now out.old) }
 {
-    let word = word_asked(frame, what);
-    let place = caching::hit_place(cache, word, time);
-    if place < numbers::CACHE_PLACES {
-        return show_cached(cache, shown, place, frame, out);
+    let what = what_asked(frame, asked);
+    let word = checking::words::word_of(what);
+    if let Some(place) = device.cache.hit_place(word, device.clock) {
+        return show_cached(&device.cache, place, frame, out);
     }
-    miss(
-        ids, asked, callers, deadlines, counts, clients, originals, top, cursor, cache, timeout,
-        join, tag_count, tag_words, client, time, frame, out, what, word,
-    )
+    miss(device, client, frame, out, what, word)
 }
 
 // The check of a request: that of its bytes, and where these are in order exception 03 if a tag forbids what they write or mask.
-fn check(frame: &[u8], tag_words: &[u64; numbers::MOST_TAGS], tag_count: u32) -> Checked
-    requires tag_words { TagWords tag_count tag_words.now }
-    requires tag_words_value { get_or tag_words.now 0 0 < strict_mark → some_strict (tags_of tag_count tag_words.now) ≡ false }
-    ensures { result ≡ checked_under (tags_of tag_count tag_words.now) frame.now }
+fn check(frame: &[u8], settings: &KeptSettings) -> Result<Asked, Fault>
+    requires { Settled settings.now }
+    ensures { result ≡ checked_under (tags_of settings.now.tag_count settings.now.tag_words) frame.now }
 {
-    let checked = checking::check_request(frame);
-    let Checked::Legal(what) = checked else {
-        return checked;
-    };
-    if payloads::strict::is_forbidden(frame, what, tag_words, tag_count as usize) {
-        return Checked::Excepted(numbers::ILLEGAL_VALUE);
+    let asked = checking::check_request(frame)?;
+    if payloads::strict::is_forbidden(frame, asked, settings.tags()) {
+        return Err(Fault::Excepted(numbers::ILLEGAL_VALUE));
     }
-    checked
+    Ok(asked)
 }
 
 // A request of any client, at any time, of any bytes, over a buffer of any length.
-pub fn request<'a>(
-    ids: &'a mut [u32; numbers::PLACES],
-    asked: &'a mut [u64; numbers::PLACES],
-    callers: &'a mut [u8; numbers::PLACES],
-    deadlines: &'a mut [u64; numbers::PLACES],
-    counts: &'a mut [u8; numbers::PLACES],
-    clients: &'a mut [u8; numbers::PARTY_PLACES],
-    originals: &'a mut [u16; numbers::PARTY_PLACES],
-    top: &'a mut u32,
-    cursor: &'a mut u16,
-    attached: &'a mut u32,
-    clock: &'a mut u64,
-    timeout: &'a mut u32,
-    join: &'a mut u32,
-    tag_count: &'a mut u32,
-    tag_words: &'a mut [u64; numbers::MOST_TAGS],
-    cache: &'a mut [u64; numbers::CACHE_NUMBERS],
-    shown: &'a mut [u8; numbers::CACHE_BYTES],
-    client: u32,
-    time: u64,
-    frame: &[u8],
-    out: &mut [u8],
-) -> Answer
-    requires { SoundState (lent ids.old asked.old callers.old deadlines.old counts.old clients.old originals.old top.old cursor.old attached.old clock.old timeout.old join.old tag_count.old tag_words.old cache.old shown.old) }
-    ensures { Does (lent ids.old asked.old callers.old deadlines.old counts.old clients.old originals.old top.old cursor.old attached.old clock.old timeout.old join.old tag_count.old tag_words.old cache.old shown.old) (asks client time frame.now out.old) result
-        (lent ids.new asked.new callers.new deadlines.new counts.new clients.new originals.new top.new cursor.new attached.new clock.new timeout.new join.new tag_count.new tag_words.new cache.new shown.new) out.new [] }
+pub fn request(device: &mut Device, client: u32, time: u64, frame: &[u8], out: &mut [u8]) -> Answer
+    requires { SoundState (state_of device.old) }
+    ensures { Does (state_of device.old) (asks client time frame.now out.old) result (state_of device.new) out.new [] }
 {
-    let refused = gate(out.len(), client, *attached, time, *clock, frame);
-    if refused != 0 {
-        return Answer::Refused { number: refused };
+    if let Err(refusal) = gate(device, client, time, frame, out) {
+        return Answer::from(refusal);
     }
-    match check(frame, tag_words, *tag_count) {
-        Checked::BadFunction => Answer::Refused { number: 5 },
-        Checked::BadLength => Answer::Refused { number: 6 },
-        Checked::Excepted(code) => {
-            *clock = time;
+    match check(frame, &device.settings) {
+        Err(Fault::BadFunction) => Answer::from(Refusal::Function),
+        Err(Fault::BadLength) => Answer::from(Refusal::Length),
+        Err(Fault::Excepted(code)) => {
+            device.clock = time;
             except_caller(out, frame, code)
         }
-        Checked::Legal(what) => {
-            *clock = time;
-            serve(
-                ids,
-                asked,
-                callers,
-                deadlines,
-                counts,
-                clients,
-                originals,
-                top,
-                cursor,
-                cache,
-                shown,
-                *timeout,
-                *join,
-                *tag_count,
-                tag_words,
-                client as u8,
-                time,
-                frame,
-                out,
-                what,
-            )
+        Ok(asked) => {
+            device.clock = time;
+            serve(device, client as u8, frame, out, asked)
         }
     }
 }

@@ -4,22 +4,21 @@ use Prim.Native.Nat.{ℕ, ◌-◌, ◌≤◌, ◌<◌}
 use mathlib.Core.Path.{◌≡◌, refl, ap, ◌∙◌}
 use mathlib.Core.Logic.{⊎_elim}
 use mathlib.Core.Bool.{true, false}
-use mathlib.Core.Option.{some}
 use mathlib.Core.List.{List, [], ◌∷◌, Memᴰ}
+use Rattle.std.specs.Prelude.{Some}
 use native.Mathlib.Omega.{arith}
 use lib.ListN.{length, get_or}
 use borrow.Author.Tests.{lt-ltb}
 use Rattle.laws.specs.Bytes.{pair_at}
 use Rattle.laws.specs.Digits.{below}
 use Rattle.laws.proofs.Choice.{true_or}
-use Rattle.bcd.specs.declared.Encoded.TheVariants.{Bcd}
-use Rattle.bcd.specs.declared.Decoded.TheVariants.{Binary}
 use Rattle.bcd.specs.Bcd.{registers}
 use Rattle.bcd.specs.Words.{words_of}
 use Rattle.bcd.proofs.RoundTrip.{encode_accepts, encode_decode, encoded-below}
 use Rattle.settings.specs.Grammar.{Tag}
 use Rattle.settings.specs.TagWords.{kind_of, Ascending}
-use Rattle.pdu.specs.Replies.{What, excepts}
+use Rattle.pdu.specs.Replies.{excepts}
+use Rattle.pdu.specs.declared.What.{What}
 use Rattle.pdu.specs.declared.Table.TheVariants.{Registers}
 use Rattle.pdu.specs.declared.Asked.TheVariants.{SingleWrite}
 use Rattle.rewrite.specs.declared.Way.{Way}
@@ -37,7 +36,7 @@ use Rattle.rewrite.proofs.SingleLaws.{alone}
 
 module _ (tags : List Tag) (asc : Ascending 0 tags) (a : ℕ) (t : Tag) (m : Memᴰ t tags) (here : t.address ≡ a) (one : registers (kind_of t) ≡ 1) where
   -- a frame d whose one register, at byte 10, is the word x, which the tag there turns into y, has y in its place
-  one_turned : (way : Way) (d : List ℕ) (x y : ℕ) → registers_at 10 1 d ≡ x ∷ [] → y < 65536 → turned way (kind_of t) x ≡ some y → rewriting way 10 a 1 tags d ≡ with_counts 0 0 (laid_at 10 (y ∷ []) d)
+  one_turned : (way : Way) (d : List ℕ) (x y : ℕ) → registers_at 10 1 d ≡ x ∷ [] → y < 65536 → turned way (kind_of t) x ≡ Some y → rewriting way 10 a 1 tags d ≡ with_counts 0 0 (laid_at 10 (y ∷ []) d)
   unfolding laid_by
   one_turned way d x y e l q =
       let k = kind_of t in
@@ -61,10 +60,10 @@ module _ (tags : List Tag) (asc : Ascending 0 tags) (f : List ℕ) (bytes : (k :
       let s = encode_accepts k v r.4 in
       let small : s.0 < 65536 = let p = encoded-below k v s.0 s.1 in omega (arith, rw r.3 at p) in
       let fits : v < 65536 = omega (arith, bytes 10, bytes 11) in
-      let out : sent ≡ laid_at 10 (s.0 ∷ []) f = ap (λ (x : Rewritten). x.bytes) (one_turned tags asc a r.0 r.1 r.2 r.3 ToBcd f v s.0 refl small (turned-encoded k v (Bcd s.0) s.1)) in
+      let out : sent ≡ laid_at 10 (s.0 ∷ []) f = ap (λ (x : Rewritten). x.bytes) (one_turned tags asc a r.0 r.1 r.2 r.3 ToBcd f v s.0 refl small (turned-encoded k v (Some s.0) s.1)) in
       let there : registers_at 10 1 (laid_at 10 (s.0 ∷ []) f) ≡ s.0 ∷ [] = registers-laid 10 (s.0 ∷ []) f (omega arith) (rw (lt-ltb s.0 65536 small) refl) in
       rw out
-      (one_turned tags asc a r.0 r.1 r.2 r.3 ToBinary (laid_at 10 (s.0 ∷ []) f) s.0 v there fits (turned-decoded k s.0 (Binary v) (encode_decode k v s.0 s.1))
+      (one_turned tags asc a r.0 r.1 r.2 r.3 ToBinary (laid_at 10 (s.0 ∷ []) f) s.0 v there fits (turned-decoded k s.0 (Some v) (encode_decode k v s.0 s.1))
       ∙ ap (with_counts 0 0) (laid-laid 10 (s.0 ∷ []) (v ∷ []) f refl ∙ laid-registers 10 1 f bytes))
 
   -- A controller that echoes what it was sent gives back the frame that the client wrote, and no tag is counted: whether the value was re-encoded or went out raw.

@@ -5,8 +5,7 @@ use Prim.Native.Nat.{ℕ, ◌+◌, ◌≤◌, ◌<◌}
 use mathlib.Core.Path.{◌≡◌, refl, sym}
 use mathlib.Core.Logic.{⊎_elim}
 use mathlib.Core.Bool.{true, false, and-false}
-use mathlib.Core.List.{List, [], ◌∷◌, Memᴰ}
-use native.Mathlib.Nat.{zero-add}
+use mathlib.Core.List.{List, [], ◌∷◌, map, Memᴰ}
 use native.Mathlib.Omega.{arith}
 use lib.ListN.{length, get_or}
 use lib.Dec.{eqb, leb}
@@ -20,9 +19,9 @@ use Rattle.rewrite.specs.declared.Way.TheVariants.{ToBcd}
 use Rattle.rewrite.specs.Rewriting.{verdict}
 use Rattle.rewrite.specs.Rewriting.Verdict.{outside}
 use Rattle.rewrite.specs.Legal.{forbids, some_forbids, some_has}
-use Rattle.rewrite.specs.inner.Lent.{tags_of, TagWords, reaches}
+use Rattle.rewrite.specs.inner.Lent.{TagList, reaches}
 use Rattle.rewrite.proofs.VerdictLaws.{verdict-before, verdict-behind}
-use Rattle.rewrite.proofs.TableLaws.{tag-place, tag_in, tag-before, tag-behind, owner}
+use Rattle.rewrite.proofs.TableLaws.{tag_placed, tag_in, tag-before, tag-behind, owner}
 use Rattle.rewrite.proofs.StrictLaws.{in_some, has_exactly}
 
 -- a tag outside the run forbids nothing
@@ -39,11 +38,11 @@ none_forbid start rs (t ∷ ts) h = rw (h t (Memᴰ.head refl)) (none_forbid sta
 abbrev pub NoneBelow : (start : ℕ) (rs words : List ℕ) (i : ℕ) → Type 0
 NoneBelow start rs words i = (k : ℕ) → k < i → forbids start rs (tag_of (get_or words k 0)) ≡ false
 
-module _ (start : ℕ) (rs : List ℕ) (n : ℕ) (words : List ℕ) (w : TagWords n words) where
+module _ (start : ℕ) (rs : List ℕ) (words : List ℕ) (w : TagList words) where
   -- No tag before the first that reaches the run forbids.
-  pub forbid_start : (i : ℕ) → i ≡ first (reaches words start) n → NoneBelow start rs words i
+  pub forbid_start : (i : ℕ) → i ≡ first (reaches words start) (length words) → NoneBelow start rs words i
   forbid_start i e k h =
-      let t = tag_of (get_or words k 0) in outside_allows start rs t (verdict-before ToBcd start rs t (tag-before n words w start k (omega arith)))
+      let t = tag_of (get_or words k 0) in outside_allows start rs t (verdict-before ToBcd start rs t (tag-before words w start k (omega arith)))
 
   module _ (i : ℕ) (below : NoneBelow start rs words i) where
     -- One tag more that does not.
@@ -51,34 +50,33 @@ module _ (start : ℕ) (rs : List ℕ) (n : ℕ) (words : List ℕ) (w : TagWord
     forbid_more e k h = ⊎_elim (λ (l : k < i). below k l) (λ (l : i ≤ k). let j : k ≡ i = omega arith in rw j e) (lt_or k i)
 
     -- Nor does one behind a tag that lies behind the run.
-    pub forbid_done : (i < n → start + length rs ≤ (tag_of (get_or words i 0)).address) → false ≡ some_forbids start rs (tags_of n words)
-    forbid_done behind = sym (none_forbid start rs (tags_of n words) (λ t m.
-        let s = tag-place words 0 n t m in
+    pub forbid_done : (i < length words → start + length rs ≤ (tag_of (get_or words i 0)).address) → false ≡ some_forbids start rs (map tag_of words)
+    forbid_done behind = sym (none_forbid start rs (map tag_of words) (λ t m.
+        let s = tag_placed words w t m in
         let k = s.0 in
-        let z : 0 + k ≡ k = zero-add k in
         let u = tag_of (get_or words k 0) in
-        rw (s.2, z) (⊎_elim
+        rw s.2 (⊎_elim
         (λ (l : k < i). below k l)
-        (λ (l : i ≤ k). outside_allows start rs u (verdict-behind ToBcd start rs u (tag-behind n words w (start + length rs) i k (behind (omega (arith, s.1))) l s.1)))
+        (λ (l : i ≤ k). outside_allows start rs u (verdict-behind ToBcd start rs u (tag-behind words w (start + length rs) i k (behind (omega (arith, s.1))) l s.1)))
         (lt_or k i))))
 
   -- A tag that forbids decides.
-  pub forbid_found : (i : ℕ) → i < n → forbids start rs (tag_of (get_or words i 0)) ≡ true → true ≡ some_forbids start rs (tags_of n words)
-  forbid_found i l e = sym (in_some start rs (tags_of n words) (tag_of (get_or words i 0)) (tag_in n words w i l) e)
+  pub forbid_found : (i : ℕ) → i < length words → forbids start rs (tag_of (get_or words i 0)) ≡ true → true ≡ some_forbids start rs (map tag_of words)
+  forbid_found i l e = sym (in_some start rs (map tag_of words) (tag_of (get_or words i 0)) (tag_in words w i l) e)
 
-module _ (n : ℕ) (words : List ℕ) (w : TagWords n words) (a i : ℕ) (e : i ≡ first (reaches words a) n) where
+module _ (words : List ℕ) (w : TagList words) (a i : ℕ) (e : i ≡ first (reaches words a) (length words)) where
   -- Where no tag reaches a register, none has it,
-  pub has-none : n ≤ i → false ≡ some_has a (tags_of n words)
+  pub has-none : length words ≤ i → false ≡ some_has a (map tag_of words)
   has-none l =
       ⊎_elim
-      (λ (h : some_has a (tags_of n words) ≡ true). let s = (has_exactly a (tags_of n words)).0 h in let o = owner n words w a i e s.0 s.1 s.2 in absurd (omega (arith, o.0)))
+      (λ (h : some_has a (map tag_of words) ≡ true). let s = (has_exactly a (map tag_of words)).0 h in let o = owner words w a i e s.0 s.1 s.2 in absurd (omega (arith, o.0)))
       (λ h. sym h)
-      (true_or (some_has a (tags_of n words)))
+      (true_or (some_has a (map tag_of words)))
 
   -- and else one has it exactly if the first that reaches it does not begin behind it.
-  pub has_here : i < n → leb (tag_of (get_or words i 0)).address a ≡ some_has a (tags_of n words)
+  pub has_here : i < length words → leb (tag_of (get_or words i 0)).address a ≡ some_has a (map tag_of words)
   has_here l =
       let t = tag_of (get_or words i 0) in
       same_test _ _
-      (λ h. (has_exactly a (tags_of n words)).1 (t, tag_in n words w i l, (leb-true t.address a h, leb-true a (last_of t) (rw e (first-here (reaches words a) n (rw (← e) l))))))
-      (λ h. let s = (has_exactly a (tags_of n words)).0 h in let o = owner n words w a i e s.0 s.1 s.2 in le-leb t.address a (rw (← o.1) s.2.0))
+      (λ h. (has_exactly a (map tag_of words)).1 (t, tag_in words w i l, (leb-true t.address a h, leb-true a (last_of t) (rw e (first-here (reaches words a) (length words) (rw (← e) l))))))
+      (λ h. let s = (has_exactly a (map tag_of words)).0 h in let o = owner words w a i e s.0 s.1 s.2 in le-leb t.address a (rw (← o.1) s.2.0))

@@ -15,7 +15,8 @@ use Rattle.wire.specs.Frame.{function_of, misframed, laid}
 use Rattle.wire.proofs.FrameLaws.{length-laid as laid-length}
 use Rattle.settings.specs.Grammar.{Tag}
 use Rattle.pdu.specs.Requests.{class_of, asked_by, asked_of}
-use Rattle.pdu.specs.Replies.{What, what, excepts, shaped, answering}
+use Rattle.pdu.specs.Replies.{what, excepts, shaped, answering}
+use Rattle.pdu.specs.declared.What.{What}
 use Rattle.pdu.specs.declared.Table.{Table}
 use Rattle.pdu.specs.declared.Table.TheVariants.{Bits, Registers}
 use Rattle.pdu.specs.declared.Asked.{Asked}

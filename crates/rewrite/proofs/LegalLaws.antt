@@ -14,122 +14,116 @@ use Rattle.laws.proofs.Choice.{true_or, never}
 use Rattle.laws.proofs.TestLaws.{holds_not, holds_and}
 use Rattle.wire.specs.Frame.{function_of, misframed}
 use Rattle.settings.specs.Grammar.{Tag, Value}
-use Rattle.pdu.specs.Requests.{bad_function, bad_length, bad_value, bad_address, asked_of, fault_of, checked_of}
+use Rattle.pdu.specs.Requests.{bad_function, bad_length, bad_value, bad_address, asked_of, fault_of, checked_of, Checked}
 use Rattle.pdu.specs.Plain.{Known, Sized, Valued, Ranged, class_in}
 use Rattle.pdu.specs.Plain.Outcome.{fine}
 use Rattle.pdu.specs.declared.Table.{Table}
 use Rattle.pdu.specs.declared.Table.TheVariants.{Bits, Registers}
 use Rattle.pdu.specs.declared.Asked.{Asked}
 use Rattle.pdu.specs.declared.Asked.TheVariants.{Read, SingleWrite, MultipleWrite, MaskWrite, ReadWrite, Other}
-use Rattle.pdu.specs.declared.Checked.{Checked}
-use Rattle.pdu.specs.declared.Checked.TheVariants.{BadFunction, BadLength, Excepted, Legal}
 use Rattle.pdu.proofs.RequestLaws.{known, sized, valued, ranged, check_exact, excepted_codes, check_tests, Tested, legal-passed}
 use Rattle.rewrite.specs.Legal.{forbidden, fault_under, allowed, checked_under, legal}
 use Rattle.rewrite.specs.Strict.{Carries}
 use Rattle.rewrite.specs.Strict.Carries.{single, multiple, both}
+use Rattle.pdu.specs.declared.Fault.TheVariants.{BadFunction, BadLength, Excepted}
+use Rattle.std.specs.Prelude.{Ok, Err}
 
 module _ (tags : List Tag) (f : List ℕ) where
   tests : {x : Checked} → checked_of f ≡ x → Tested f x
   tests {x} e = rw e at (check_tests f)
 
   -- A request whose bytes are in order has under tags no fault where none forbids it,
-  pub legal_fault : {a : Asked} → checked_of f ≡ Legal a → forbidden tags a f ≡ false → fault_under tags f ≡ 0
+  pub legal_fault : {a : Asked} → checked_of f ≡ Ok a → forbidden tags a f ≡ false → fault_under tags f ≡ 0
   unfolding fault_under
   legal_fault e b = let t = tests e in rw t.2 (rw (rw t.3 at b) refl)
 
   -- and exception 03 where one does.
-  pub forbidden_fault : {a : Asked} → checked_of f ≡ Legal a → forbidden tags a f ≡ true → fault_under tags f ≡ 3
+  pub forbidden_fault : {a : Asked} → checked_of f ≡ Ok a → forbidden tags a f ≡ true → fault_under tags f ≡ 3
   unfolding fault_under
   forbidden_fault e b = let t = tests e in rw t.2 (rw (rw t.3 at b) refl)
 
   -- An exception of its bytes comes before that of a tag.
-  pub excepted_fault : {code : ℕ} → checked_of f ≡ Excepted code → (fault_under tags f ≡ code) × (eqb (fault_under tags f) 0 ≡ false)
+  pub excepted_fault : {code : ℕ} → checked_of f ≡ Err (Excepted code) → (fault_under tags f ≡ code) × (eqb (fault_under tags f) 0 ≡ false)
   unfolding fault_under
   excepted_fault e = let t = tests e in (rw t.3 t.2, rw t.3 t.3)
 
   -- what the outcome of the check of its bytes comes to under tags
   abbrev pub under : Checked → Checked
-  under BadFunction = BadFunction
-  under BadLength = BadLength
-  under (Excepted code) = Excepted code
-  under (Legal a) = allowed tags f a
+  under (Ok a) = allowed tags f a
+  under (Err e) = Err e
 
   pub under_is : {x : Checked} → checked_of f ≡ x → checked_under tags f ≡ under x
   unfolding checked_under
   under_is e = ap under e
 
-  allowed-legal : (a b : Asked) → (allowed tags f b ≡ Legal a) ↔ ((Legal b ≡ Legal a) × (forbidden tags a f ≡ false))
+  allowed-legal : (a b : Asked) → (allowed tags f b ≡ Ok a) ↔ ((◌≡◌ {A = Checked} (Ok b) (Ok a)) × (forbidden tags a f ≡ false))
   allowed-legal a b = (
     λ y. ⊎_elim
         (λ (t : forbidden tags b f ≡ true). never (cc (rw t at y)))
-        (λ (t : forbidden tags b f ≡ false). let e : b ≡ a = cc (rw t at y) in (ap Legal e, rw e at t))
+        (λ (t : forbidden tags b f ≡ false). let e : b ≡ a = cc (rw t at y) in (ap Ok e, rw e at t))
         (true_or (forbidden tags b f)),
     λ w. let e : b ≡ a = cc w.0 in rw e (rw w.1 refl),
   )
 
-  checked_legal_by : (a : Asked) (x : Checked) → checked_of f ≡ x → (checked_under tags f ≡ Legal a) ↔ ((checked_of f ≡ Legal a) × (forbidden tags a f ≡ false))
-  checked_legal_by a BadFunction e = rw (under_is e, e) (λ y. never (cc), λ w. never (cc w.0))
-  checked_legal_by a BadLength e = rw (under_is e, e) (λ y. never (cc), λ w. never (cc w.0))
-  checked_legal_by a (Excepted code) e = rw (under_is e, e) (λ y. never (cc), λ w. never (cc w.0))
-  checked_legal_by a (Legal b) e = rw (under_is e, e) (allowed-legal a b)
+  checked_legal_by : (a : Asked) (x : Checked) → checked_of f ≡ x → (checked_under tags f ≡ Ok a) ↔ ((checked_of f ≡ Ok a) × (forbidden tags a f ≡ false))
+  checked_legal_by a (Err k) e = rw (under_is e, e) (λ y. never (cc), λ w. never (cc w.0))
+  checked_legal_by a (Ok b) e = rw (under_is e, e) (allowed-legal a b)
 
   -- Under tags a request is legal exactly where its bytes are in order and no tag forbids it.
-  pub checked_legal : (a : Asked) → (checked_under tags f ≡ Legal a) ↔ ((checked_of f ≡ Legal a) × (forbidden tags a f ≡ false))
+  pub checked_legal : (a : Asked) → (checked_under tags f ≡ Ok a) ↔ ((checked_of f ≡ Ok a) × (forbidden tags a f ≡ false))
   checked_legal a = checked_legal_by a (checked_of f) refl
 
-  allowed-excepted : (code : ℕ) (b : Asked) → b ≡ asked_of f → (allowed tags f b ≡ Excepted code)
-      ↔ ((Legal b ≡ Excepted code) ⊎ ((code ≡ 3) × (Legal b ≡ Legal (asked_of f)) × (forbidden tags (asked_of f) f ≡ true)))
+  allowed-excepted : (code : ℕ) (b : Asked) → b ≡ asked_of f → (allowed tags f b ≡ Err (Excepted code))
+      ↔ ((◌≡◌ {A = Checked} (Ok b) (Err (Excepted code))) ⊎ ((code ≡ 3) × (◌≡◌ {A = Checked} (Ok b) (Ok (asked_of f))) × (forbidden tags (asked_of f) f ≡ true)))
   allowed-excepted code b same = (
     λ y. ⊎_elim
-        (λ (t : forbidden tags b f ≡ true). inr (cc (rw t at y), ap Legal same, rw same at t))
+        (λ (t : forbidden tags b f ≡ true). inr (cc (rw t at y), ap Ok same, rw same at t))
         (λ (t : forbidden tags b f ≡ false). never (cc (rw t at y)))
         (true_or (forbidden tags b f)),
     λ w. ⊎_elim
-        (λ (z : Legal b ≡ Excepted code). never (cc))
-        (λ (z : (code ≡ 3) × (Legal b ≡ Legal (asked_of f)) × (forbidden tags (asked_of f) f ≡ true)). rw same (rw z.2 (ap Excepted (sym z.0))))
+        (λ (z : Ok b ≡ Err (Excepted code)). never (cc))
+        (λ (z : (code ≡ 3) × (◌≡◌ {A = Checked} (Ok b) (Ok (asked_of f))) × (forbidden tags (asked_of f) f ≡ true)). rw same (rw z.2 (ap (λ (n : ℕ). Err (Excepted n)) (sym z.0))))
         w,
   )
 
   abbrev Excepting : ℕ → Type 0
-  Excepting code = (checked_of f ≡ Excepted code) ⊎ ((code ≡ 3) × (checked_of f ≡ Legal (asked_of f)) × (forbidden tags (asked_of f) f ≡ true))
+  Excepting code = (checked_of f ≡ Err (Excepted code)) ⊎ ((code ≡ 3) × (checked_of f ≡ Ok (asked_of f)) × (forbidden tags (asked_of f) f ≡ true))
 
-  other_excepted : (code : ℕ) (x : Checked) → ((a : Asked) → x ≡ Legal a → ⊥) → (x ≡ Excepted code) ↔ ((x ≡ Excepted code) ⊎ ((code ≡ 3) × (x ≡ Legal (asked_of f)) × (forbidden tags (asked_of f) f ≡ true)))
+  other_excepted : (code : ℕ) (x : Checked) → ((a : Asked) → x ≡ Ok a → ⊥) → (x ≡ Err (Excepted code)) ↔ ((x ≡ Err (Excepted code)) ⊎ ((code ≡ 3) × (x ≡ Ok (asked_of f)) × (forbidden tags (asked_of f) f ≡ true)))
   other_excepted code x n = (
     inl,
-    λ w. ⊎_elim (λ e. e) (λ (z : (code ≡ 3) × (x ≡ Legal (asked_of f)) × (forbidden tags (asked_of f) f ≡ true)). absurd (n (asked_of f) z.1)) w,
+    λ w. ⊎_elim (λ e. e) (λ (z : (code ≡ 3) × (x ≡ Ok (asked_of f)) × (forbidden tags (asked_of f) f ≡ true)). absurd (n (asked_of f) z.1)) w,
   )
 
-  checked_excepted_by : (code : ℕ) (x : Checked) → checked_of f ≡ x → (checked_under tags f ≡ Excepted code) ↔ Excepting code
-  checked_excepted_by code BadFunction e = rw (under_is e, e) (other_excepted code BadFunction (λ a z. never (cc)))
-  checked_excepted_by code BadLength e = rw (under_is e, e) (other_excepted code BadLength (λ a z. never (cc)))
-  checked_excepted_by code (Excepted n) e = rw (under_is e, e) (other_excepted code (Excepted n) (λ a z. never (cc)))
-  checked_excepted_by code (Legal b) e = let same = (legal-passed f b e).asks in rw (under_is e, e) (allowed-excepted code b same)
+  checked_excepted_by : (code : ℕ) (x : Checked) → checked_of f ≡ x → (checked_under tags f ≡ Err (Excepted code)) ↔ Excepting code
+  checked_excepted_by code (Err k) e = rw (under_is e, e) (other_excepted code (Err k) (λ a z. never (cc)))
+  checked_excepted_by code (Ok b) e = let same = (legal-passed f b e).asks in rw (under_is e, e) (allowed-excepted code b same)
 
   -- It gets an exception exactly where its bytes give that, or the exception is 03, its bytes are in order and a tag forbids it.
-  pub checked_excepted : (code : ℕ) → (checked_under tags f ≡ Excepted code)
-      ↔ ((checked_of f ≡ Excepted code) ⊎ ((code ≡ 3) × (checked_of f ≡ Legal (asked_of f)) × (forbidden tags (asked_of f) f ≡ true)))
+  pub checked_excepted : (code : ℕ) → (checked_under tags f ≡ Err (Excepted code))
+      ↔ ((checked_of f ≡ Err (Excepted code)) ⊎ ((code ≡ 3) × (checked_of f ≡ Ok (asked_of f)) × (forbidden tags (asked_of f) f ≡ true)))
   checked_excepted code = checked_excepted_by code (checked_of f) refl
 
   -- The exceptions are 03 and 02, and no other.
-  pub checked_codes : (code : ℕ) → checked_under tags f ≡ Excepted code → (code ≡ 3) ⊎ (code ≡ 2)
+  pub checked_codes : (code : ℕ) → checked_under tags f ≡ Err (Excepted code) → (code ≡ 3) ⊎ (code ≡ 2)
   checked_codes code e =
       ⊎_elim
-      (λ (z : checked_of f ≡ Excepted code). excepted_codes f code z)
-      (λ (z : (code ≡ 3) × (checked_of f ≡ Legal (asked_of f)) × (forbidden tags (asked_of f) f ≡ true)). inl z.0)
+      (λ (z : checked_of f ≡ Err (Excepted code)). excepted_codes f code z)
+      (λ (z : (code ≡ 3) × (checked_of f ≡ Ok (asked_of f)) × (forbidden tags (asked_of f) f ≡ true)). inl z.0)
       ((checked_excepted code).0 e)
 
   -- Behind the refusals a request with a fault gets the exception of this fault.
-  pub fault_excepted : bad_function (function_of f) ≡ false → bad_length (class_in f) f ≡ false → eqb (fault_under tags f) 0 ≡ false → checked_under tags f ≡ Excepted (fault_under tags f)
+  pub fault_excepted : bad_function (function_of f) ≡ false → bad_length (class_in f) f ≡ false → eqb (fault_under tags f) 0 ≡ false → checked_under tags f ≡ Err (Excepted (fault_under tags f))
   fault_excepted g h z = by (checked_of f) refl
     where
-      by : (x : Checked) → checked_of f ≡ x → checked_under tags f ≡ Excepted (fault_under tags f)
-      by BadFunction e = absurd (true≢false (sym (tests e) ∙ g))
-      by BadLength e = absurd (true≢false (sym (tests e).1 ∙ h))
-      by (Excepted n) e = (checked_excepted _).1 (inl (e ∙ ap Excepted (sym (excepted_fault e).0)))
-      by (Legal b) e =
+      by : (x : Checked) → checked_of f ≡ x → checked_under tags f ≡ Err (Excepted (fault_under tags f))
+      by (Err BadFunction) e = absurd (true≢false (sym (tests e) ∙ g))
+      by (Err BadLength) e = absurd (true≢false (sym (tests e).1 ∙ h))
+      by (Err (Excepted n)) e = (checked_excepted _).1 (inl (e ∙ ap (λ (n : ℕ). Err (Excepted n)) (sym (excepted_fault e).0)))
+      by (Ok b) e =
           ⊎_elim
           (λ (t : forbidden tags b f ≡ true). let same = (legal-passed f b e).asks in
-          (checked_excepted _).1 (inr (forbidden_fault e t, e ∙ ap Legal same, rw same at t)))
+          (checked_excepted _).1 (inr (forbidden_fault e t, e ∙ ap Ok same, rw same at t)))
           (λ (t : forbidden tags b f ≡ false). absurd (true≢false (sym (ap (λ n. eqb n 0) (legal_fault e t)) ∙ z)))
           (true_or (forbidden tags b f))
 
@@ -189,10 +183,10 @@ legal_exact s f =
     (Iff.trans (faultless_exactly s.tags f) (Iff.and (Iff.trans (no_fault (bad_value c f) (bad_address c f)) (Iff.and (valued c f) (ranged c f))) (λ e. e, λ e. e)))))
 
 -- A frame is legal exactly where it is not refused as a frame, its check comes to what it asks, and no tag forbids that.
-pub legal_checked : (s : Value) (f : List ℕ) → (legal s f ≡ true) ↔ ((misframed f ≡ false) × (checked_of f ≡ Legal (asked_of f)) × (forbidden s.tags (asked_of f) f ≡ false))
+pub legal_checked : (s : Value) (f : List ℕ) → (legal s f ≡ true) ↔ ((misframed f ≡ false) × (checked_of f ≡ Ok (asked_of f)) × (forbidden s.tags (asked_of f) f ≡ false))
 legal_checked s f = (
   λ e. let w = (legal_exact s f).0 e in
-      (w.0, (check_exact f (Legal (asked_of f))).1 (fine w.1.0 w.1.1.0 w.1.1.1.0.0 w.1.1.1.0.1), w.1.1.1.1),
+      (w.0, (check_exact f (Ok (asked_of f))).1 (fine w.1.0 w.1.1.0 w.1.1.1.0.0 w.1.1.1.0.1), w.1.1.1.1),
   λ w. let p = legal-passed f (asked_of f) w.1 in (legal_exact s f).1 (w.0, (p.function, (p.size, ((p.value, p.range), w.2)))),
 )
 

@@ -3,6 +3,7 @@
 use Prim.Native.Nat.{ℕ, zero, suc, ◌+◌, ◌≤◌, ◌<◌}
 use mathlib.Core.Path.{◌≡◌, sym, ◌∙◌}
 use mathlib.Core.Logic.{⊎_elim}
+use mathlib.Core.HLevel.{Unit-prop}
 use mathlib.Core.List.{List, [], ◌∷◌, ◌++◌, Memᴰ}
 use native.Mathlib.Omega.{arith}
 use lib.ListN.{length, get_or}
@@ -13,6 +14,8 @@ use Rattle.settings.specs.Grammar.{Tag}
 use Rattle.settings.specs.TagWords.{kind_of, last_of, Ascending}
 use Rattle.rewrite.specs.Plain.{Has}
 use Rattle.laws.proofs.MemberLaws.{place-mem}
+use denote.Struct.Props.{props}
+use Rattle.rewrite.specs.inner.Lent.{TagList}
 
 -- Behind the last register of a tag is its address and as many registers as it has.
 pub behind_last : (t : Tag) → last_of t + 1 ≡ t.address + registers (kind_of t)
@@ -75,3 +78,13 @@ one_owner from (y ∷ ts) t u x a m n h g =
     (λ (l : Memᴰ u ts). one_owner (last_of y + 1) ts t u x a.2 k l h g)
     (mathlib.Core.List.Memᴰ.cases_cons n))
     (mathlib.Core.List.Memᴰ.cases_cons m)
+
+-- That tags ascend is a fact, of which there is one proof,
+ascending_prop : (from : ℕ) (ts : List Tag) → IsProp (Ascending from ts)
+unfolding Ascending
+ascending_prop from [] = Unit-prop
+ascending_prop from (t ∷ ts) = Prim.hlevel (props, ascending_prop (last_of t + 1) ts)
+
+-- and so is that words are those of tags.
+pub tag-list_prop : (words : List ℕ) → IsProp (TagList words)
+tag-list_prop words = Prim.hlevel (props, ascending_prop)

@@ -1,13 +1,12 @@
 -- Demand 2: a value in a tag's range that was written over the whole tag and is read back over the whole tag comes back as that value, for any kind.
 -- Assumes nothing.
+use Rattle.std.specs.Prelude.{Some}
 use Prim.Native.Nat.{ℕ, ◌+◌, ◌*◌, ◌≤◌, ◌<◌}
 use mathlib.Core.Path.{◌≡◌, refl, ap, ◌∙◌}
 use mathlib.Core.Bool.{true}
 use mathlib.Core.List.{List, Memᴰ}
 use lib.ListN.{length, get_or}
 use Rattle.laws.specs.Digits.{below}
-use Rattle.bcd.specs.declared.Encoded.TheVariants.{Bcd}
-use Rattle.bcd.specs.declared.Decoded.TheVariants.{Binary}
 use Rattle.bcd.specs.Bcd.{in_range}
 use Rattle.bcd.specs.Words.{words_of, number_of}
 use Rattle.bcd.proofs.RoundTrip.{encode_accepts, encode_decode, encoded-below}
@@ -34,10 +33,10 @@ read_back tags a t m start rs w b range start' rs' w' stored =
     let n = number_of (own_in start rs t) in
     let s = encode_accepts k n range in
     let sent : own_in start (rewritten ToBcd start tags rs) t ≡ words_of k s.0 =
-    own_done ToBcd start tags rs a t m (words_of k s.0) ((done_exactly ToBcd start rs t (words_of k s.0)).1 (w, (s.0, turned-encoded k n (Bcd s.0) s.1, refl))) in
+    own_done ToBcd start tags rs a t m (words_of k s.0) ((done_exactly ToBcd start rs t (words_of k s.0)).1 (w, (s.0, turned-encoded k n (Some s.0) s.1, refl))) in
     let number : number_of (own_in start' rs' t) ≡ s.0 = ap number_of (stored ∙ sent) ∙ number_back k s.0 (encoded-below k n s.0 s.1) in
     own_done ToBinary start' tags rs' a t m (words_of k n)
-    ((done_exactly ToBinary start' rs' t (words_of k n)).1 (w', (n, rw number (turned-decoded k s.0 (Binary n) (encode_decode k n s.0 s.1)), refl)))
+    ((done_exactly ToBinary start' rs' t (words_of k n)).1 (w', (n, rw number (turned-decoded k s.0 (Some n) (encode_decode k n s.0 s.1)), refl)))
     ∙ words_back k (own_in start rs t) (own_length start rs t w) (own_below start rs t b)
 
 -- The same of frames: a write that carries the registers from byte base on, and a reply that carries them from byte base' on.

@@ -5,16 +5,16 @@ use mathlib.Core.Path.{◌≡◌, refl, ap, sym, ◌∙◌}
 use mathlib.Core.Logic.{⊎_elim, ◌↔◌}
 use mathlib.Core.Bool.{true, false, not, ◌||◌, false≢true, true≢false, or-true}
 use mathlib.Core.List.Memᴰ
-use mathlib.Core.List.{List, [], ◌∷◌, Memᴰ}
+use mathlib.Core.List.{List, [], ◌∷◌, map, Memᴰ}
+use Rattle.std.specs.Prelude.{Some}
 use native.Mathlib.Omega.{arith}
-use lib.ListN.{get_or}
+use lib.ListN.{length, get_or}
 use lib.Dec.{eqb}
 use borrow.Author.Tests.{eq-eqb, eqb-true, not-false}
 use Rattle.laws.specs.Bytes.{pair_at}
 use Rattle.laws.specs.Digits.{digits, value as value_of}
 use Rattle.laws.specs.Search.{first}
 use Rattle.laws.proofs.Choice.{true_or, same_test, or_left, or_right, or_either}
-use Rattle.bcd.specs.declared.Encoded.TheVariants.{Bcd}
 use Rattle.bcd.specs.Bcd.{registers, in_range}
 use Rattle.bcd.specs.Words.{words_of, number_of}
 use Rattle.bcd.proofs.RoundTrip.{encode_accepts}
@@ -28,7 +28,7 @@ use Rattle.rewrite.specs.Rewriting.{Verdict, own_in, verdict, laid_by, is_rewrit
 use Rattle.rewrite.specs.Rewriting.Verdict.{outside, partial, value, done}
 use Rattle.rewrite.specs.Frames.{forwarded, reencoded}
 use Rattle.rewrite.specs.Plain.{Has, Whole}
-use Rattle.rewrite.specs.inner.Lent.{tags_of, TagWords, reaches}
+use Rattle.rewrite.specs.inner.Lent.{TagList, reaches}
 use Rattle.rewrite.proofs.RegisterLaws.{laid-registers}
 use Rattle.rewrite.proofs.OrderLaws.{behind_last}
 use Rattle.rewrite.proofs.TableLaws.{tag_in, owner}
@@ -93,7 +93,7 @@ one_register a v t = (
   λ p.
       let s = encode_accepts (kind_of t) v p.2 in
       let n = own_one a v t p.0 p.1 in
-      ap is_rewritten ((done_exactly ToBcd a (v ∷ []) t (words_of (kind_of t) s.0)).1 (whole_one a v t p.0 p.1, (s.0, rw n (turned-encoded (kind_of t) v (Bcd s.0) s.1), refl))),
+      ap is_rewritten ((done_exactly ToBcd a (v ∷ []) t (words_of (kind_of t) s.0)).1 (whole_one a v t p.0 p.1, (s.0, rw n (turned-encoded (kind_of t) v (Some s.0) s.1), refl))),
 )
 
 -- A request 06 was re-encoded exactly if a tag of one register stands at its address and has its value in its range.
@@ -127,24 +127,24 @@ sent_raw tags f bytes a e = ap (λ (rs : List ℕ). laid_at 10 rs f) (from-raw t
 
 -- TAG WORDS: the first tag that does not end before the address decides
 
-module _ (n : ℕ) (words : List ℕ) (w : TagWords n words) (a v : ℕ) where
-  module _ (i : ℕ) (e : i ≡ first (reaches words a) n) where
-    not_owned : ((t : Tag) → i < n → t ≡ tag_of (get_or words i 0) → t.address ≡ a → registers (kind_of t) ≡ 1 → in_range (kind_of t) v ≡ true → ⊥) → false ≡ reencoded (tags_of n words) a v
+module _ (words : List ℕ) (w : TagList words) (a v : ℕ) where
+  module _ (i : ℕ) (e : i ≡ first (reaches words a) (length words)) where
+    not_owned : ((t : Tag) → i < length words → t ≡ tag_of (get_or words i 0) → t.address ≡ a → registers (kind_of t) ≡ 1 → in_range (kind_of t) v ≡ true → ⊥) → false ≡ reencoded (map tag_of words) a v
     not_owned never =
         ⊎_elim
-        (λ (r : reencoded (tags_of n words) a v ≡ true).
-        let q = (reencoded_exactly (tags_of n words) a v).0 r in
-        let o = owner n words w a i e q.0 q.1 (has_one a v q.0 q.2 q.3) in
+        (λ (r : reencoded (map tag_of words) a v ≡ true).
+        let q = (reencoded_exactly (map tag_of words) a v).0 r in
+        let o = owner words w a i e q.0 q.1 (has_one a v q.0 q.2 q.3) in
         absurd (never q.0 o.0 o.1 q.2 q.3 q.4))
         (λ r. sym r)
-        (true_or (reencoded (tags_of n words) a v))
+        (true_or (reencoded (map tag_of words) a v))
 
     -- Where there is no such tag the request is not re-encoded,
-    pub word_none : n ≤ i → false ≡ reencoded (tags_of n words) a v
+    pub word_none : length words ≤ i → false ≡ reencoded (map tag_of words) a v
     word_none l = not_owned (λ t h q x y z. omega arith)
 
     -- nor where the tag is not that register alone,
-    pub word_other : (not (eqb (tag_of (get_or words i 0)).address a) || not (eqb (last_of (tag_of (get_or words i 0))) a)) ≡ true → false ≡ reencoded (tags_of n words) a v
+    pub word_other : (not (eqb (tag_of (get_or words i 0)).address a) || not (eqb (last_of (tag_of (get_or words i 0))) a)) ≡ true → false ≡ reencoded (map tag_of words) a v
     word_other d =
         not_owned (λ t h q x y z.
         let b = behind_last t in
@@ -153,8 +153,8 @@ module _ (n : ℕ) (words : List ℕ) (w : TagWords n words) (a v : ℕ) where
         true≢false (sym d ∙ rw (eq-eqb _ _ p, eq-eqb _ _ l) refl))
 
     -- and where it is, exactly if the tag's range has the value.
-    pub word_here : i < n → (not (eqb (tag_of (get_or words i 0)).address a) || not (eqb (last_of (tag_of (get_or words i 0))) a)) ≡ false
-        → reencoded (tags_of n words) a v ≡ in_range (kind_of (tag_of (get_or words i 0))) v
+    pub word_here : i < length words → (not (eqb (tag_of (get_or words i 0)).address a) || not (eqb (last_of (tag_of (get_or words i 0))) a)) ≡ false
+        → reencoded (map tag_of words) a v ≡ in_range (kind_of (tag_of (get_or words i 0))) v
     word_here l d =
         let t = tag_of (get_or words i 0) in
         let x = not (eqb t.address a) in
@@ -164,5 +164,5 @@ module _ (n : ℕ) (words : List ℕ) (w : TagWords n words) (a v : ℕ) where
         let b = behind_last t in
         let one : registers (kind_of t) ≡ 1 = omega arith in
         same_test _ _
-        (λ r. let x = (reencoded_exactly (tags_of n words) a v).0 r in let o = owner n words w a i e x.0 x.1 (has_one a v x.0 x.2 x.3) in rw (← o.1) x.4)
-        (λ r. (reencoded_exactly (tags_of n words) a v).1 (t, tag_in n words w i l, p, one, r))
+        (λ r. let x = (reencoded_exactly (map tag_of words) a v).0 r in let o = owner words w a i e x.0 x.1 (has_one a v x.0 x.2 x.3) in rw (← o.1) x.4)
+        (λ r. (reencoded_exactly (map tag_of words) a v).1 (t, tag_in words w i l, p, one, r))

@@ -7,12 +7,12 @@ use mathlib.Core.List.{List}
 use native.Mathlib.Omega.{arith}
 use lib.ListN.{length}
 use Rattle.pdu.specs.Requests.{checked_of}
-use Rattle.pdu.specs.Replies.{What, excepts, answering}
+use Rattle.pdu.specs.Replies.{excepts, answering}
+use Rattle.pdu.specs.declared.What.{What}
 use Rattle.pdu.specs.Words.{Lawful}
 use Rattle.pdu.specs.declared.Table.TheVariants.{Bits, Registers}
 use Rattle.pdu.specs.declared.Asked.{Asked}
 use Rattle.pdu.specs.declared.Asked.TheVariants.{Read, SingleWrite, MultipleWrite, MaskWrite, ReadWrite, Other}
-use Rattle.pdu.specs.declared.Checked.TheVariants.{Legal}
 use Rattle.pdu.proofs.RequestLaws.{RequestRoom, legal-room}
 use Rattle.pdu.proofs.ReplyLaws.{ReplyRoom, answering-room}
 use Rattle.rewrite.specs.Plain.{Brings}
@@ -20,6 +20,7 @@ use Rattle.rewrite.specs.Plain.Brings.{read, read_of_both}
 use Rattle.rewrite.specs.Strict.{Carries}
 use Rattle.rewrite.specs.Strict.Carries.{single, multiple, both}
 use Rattle.rewrite.specs.inner.Lent.{Sent, Brought}
+use Rattle.std.specs.Prelude.{Ok}
 
 sent : (a : Asked) (f : List ℕ) → RequestRoom a f → Lawful a → Sent a f
 unfolding Lawful
@@ -44,7 +45,7 @@ brought (ReadWrite s q u p) f a r = record { room = omega (arith, r); low = a.0.
 brought Other f a r = tt
 
 -- The registers that a legal request carries are in its frame.
-pub legal_sent : (f : List ℕ) {a : Asked} → checked_of f ≡ Legal a → Lawful a → Sent a f
+pub legal_sent : (f : List ℕ) {a : Asked} → checked_of f ≡ Ok a → Lawful a → Sent a f
 legal_sent f {a} legal l = sent a f (legal-room f a legal) l
 
 -- A reply that answers and is no exception carries the registers that were asked for.

@@ -6,6 +6,7 @@ use mathlib.Core.Logic.{⊎_elim}
 use mathlib.Core.Bool.{true, false, true≢false}
 use mathlib.Core.List.Memᴰ
 use mathlib.Core.List.{List, [], ◌∷◌, Memᴰ}
+use Rattle.std.specs.Prelude.{Some}
 use native.Mathlib.Omega.{arith}
 use lib.ListN.{length, get_or, set}
 use borrow.Author.Tests.{lt-ltb}
@@ -14,7 +15,6 @@ use Rattle.laws.specs.Digits.{digits, value as value_of, below}
 use Rattle.laws.proofs.Choice.{true_or}
 use Rattle.laws.proofs.DigitLaws.{digits_value}
 use Rattle.bcd.specs.declared.Kind.TheVariants.{Width16, Signed16}
-use Rattle.bcd.specs.declared.Decoded.TheVariants.{Binary}
 use Rattle.bcd.specs.Bcd.{packed, unpacked, decimal, registers, in_range, decoded}
 use Rattle.bcd.specs.Words.{words_of, number_of}
 use Rattle.bcd.specs.Plain.{NoNumberOf}
@@ -23,7 +23,8 @@ use Rattle.bcd.proofs.SignedLaws.{plus_sent, minus_sent, signed_encode_decode}
 use Rattle.bcd.proofs.RoundTrip.{decoded_in_range}
 use Rattle.settings.specs.Grammar.{Tag}
 use Rattle.settings.specs.TagWords.{kind_of, last_of, Ascending}
-use Rattle.pdu.specs.Replies.{What, excepts}
+use Rattle.pdu.specs.Replies.{excepts}
+use Rattle.pdu.specs.declared.What.{What}
 use Rattle.pdu.specs.declared.Table.TheVariants.{Registers}
 use Rattle.pdu.specs.declared.Asked.TheVariants.{SingleWrite}
 use Rattle.rewrite.specs.declared.Way.{Way}
@@ -42,14 +43,14 @@ use Rattle.rewrite.proofs.FrameLaws.{returned_single, returned-raw}
 use Rattle.rewrite.proofs.ReencodedLaws.{reencoded_exactly}
 
 -- four nibbles of at most 9 are the number with those digits
-four_digits : (p q r s : ℕ) → p ≤ 9 → q ≤ 9 → r ≤ 9 → s ≤ 9 → decoded Width16 (4096 * p + 256 * q + 16 * r + s) ≡ Binary (1000 * p + 100 * q + 10 * r + s)
+four_digits : (p q r s : ℕ) → p ≤ 9 → q ≤ 9 → r ≤ 9 → s ≤ 9 → decoded Width16 (4096 * p + 256 * q + 16 * r + s) ≡ Some (1000 * p + 100 * q + 10 * r + s)
 unfolding decoded decimal unpacked below value_of
 four_digits p q r s hp hq hr hs =
     let ds = s ∷ r ∷ q ∷ p ∷ [] in
     let e : 4096 * p + 256 * q + 16 * r + s ≡ value_of 16 ds = omega arith in
     let d : digits 16 4 (4096 * p + 256 * q + 16 * r + s) ≡ ds = rw e (digits_value 16 ds (rw (lt-ltb s 16 (omega arith), lt-ltb r 16 (omega arith), lt-ltb q 16 (omega arith), lt-ltb p 16 (omega arith)) refl)) in
     let n : value_of 10 ds ≡ 1000 * p + 100 * q + 10 * r + s = omega arith in
-    decoded-decimal 4 _ (rw (d, lt-ltb s 10 (omega arith), lt-ltb r 10 (omega arith), lt-ltb q 10 (omega arith), lt-ltb p 10 (omega arith)) refl) ∙ ap Binary (rw d n)
+    decoded-decimal 4 _ (rw (d, lt-ltb s 10 (omega arith), lt-ltb r 10 (omega arith), lt-ltb q 10 (omega arith), lt-ltb p 10 (omega arith)) refl) ∙ ap Some (rw d n)
 
 -- three digits below a sign: nibble 0 is plus; nibble F is minus, in two's complement
 module _ (q r s : ℕ) (hq : q ≤ 9) (hr : r ≤ 9) (hs : s ≤ 9) where
@@ -62,11 +63,11 @@ module _ (q r s : ℕ) (hq : q ≤ 9) (hr : r ≤ 9) (hs : s ≤ 9) where
       let n : value_of 16 ds ≡ 256 * q + 16 * r + s = omega arith in
       rw d n
 
-  plus_digits : decoded Signed16 (256 * q + 16 * r + s) ≡ Binary (100 * q + 10 * r + s)
+  plus_digits : decoded Signed16 (256 * q + 16 * r + s) ≡ Some (100 * q + 10 * r + s)
   unfolding decoded
   plus_digits = rw three_packed at (signed_encode_decode 3 _ _ (plus_sent 3 (100 * q + 10 * r + s) (omega arith)))
 
-  minus-digits : 0 < 100 * q + 10 * r + s → decoded Signed16 (256 * q + 16 * r + s + 61440) ≡ Binary (65536 - (100 * q + 10 * r + s))
+  minus-digits : 0 < 100 * q + 10 * r + s → decoded Signed16 (256 * q + 16 * r + s + 61440) ≡ Some (65536 - (100 * q + 10 * r + s))
   unfolding decoded
   minus-digits l = rw three_packed at (signed_encode_decode 3 _ _ (minus_sent 3 (100 * q + 10 * r + s) l (omega arith)))
 
@@ -143,14 +144,14 @@ module _ (tags : List Tag) (asc : Ascending 0 tags) (f : List ℕ) (bytes : (k :
           ∙ ap (with_counts 0 1) (laid-registers 10 1 f bytes)
 
       -- Under one of one register a number of its kind becomes what it decodes to, the high byte first, and nothing is counted.
-      pub single_number : (n : ℕ) → decoded (kind_of t) (pair_at f 10) ≡ Binary n → returned tags w f ≡ with_counts 0 0 (set (set f 10 (n / 256)) 11 (n % 256))
+      pub single_number : (n : ℕ) → decoded (kind_of t) (pair_at f 10) ≡ Some n → returned tags w f ≡ with_counts 0 0 (set (set f 10 (n / 256)) 11 (n % 256))
       unfolding registers_at laid_by laid_at words_of digits
       single_number n q =
           let z : t.address - a ≡ 0 = omega (arith, here.0) in
           let l : n < 65536 ^ 1 = rw one at (decoded_in_range (kind_of t) (pair_at f 10) n q).0 in
           let small : n % 65536 ≡ n = omega arith in
           judged_by (done (words_of (kind_of t) n))
-          ((done_exactly ToBinary a (registers_at 10 1 f) t (words_of (kind_of t) n)).1 (here.1, (n, number ∙ turned-decoded (kind_of t) (pair_at f 10) (Binary n) q, refl)))
+          ((done_exactly ToBinary a (registers_at 10 1 f) t (words_of (kind_of t) n)).1 (here.1, (n, number ∙ turned-decoded (kind_of t) (pair_at f 10) (Some n) q, refl)))
           ∙ rw (one, z, small)
 
     -- under one of width 16 without a sign

@@ -7,6 +7,7 @@ use mathlib.Core.Logic.{⊎_elim, ◌⊎◌, inl, inr, ◌↔◌}
 use mathlib.Core.Bool.{Bool, true, false, ◌&&◌, ◌||◌, false≢true, true≢false, or-true}
 use mathlib.Core.List.Memᴰ
 use mathlib.Core.List.{List, [], ◌∷◌, Memᴰ}
+use Rattle.std.specs.Prelude.{Some, Ok}
 use native.Mathlib.Omega.{arith}
 use lib.ListN.{get_or}
 use lib.Seq.{ext_get_or}
@@ -17,8 +18,6 @@ use Rattle.laws.proofs.Choice.{true_or, lt_or, or_left, or_right, or_either, nev
 use Rattle.laws.proofs.TestLaws.{holds_eq, holds_and, holds_or}
 use Rattle.bcd.specs.declared.Kind.{Kind}
 use Rattle.bcd.specs.declared.Kind.TheVariants.{Width16, Width32, Signed16}
-use Rattle.bcd.specs.declared.Encoded.TheVariants.{Bcd}
-use Rattle.bcd.specs.declared.Decoded.TheVariants.{Binary}
 use Rattle.bcd.specs.Bcd.{registers, in_range, encoded, decoded}
 use Rattle.bcd.specs.Words.{words_of, number_of}
 use Rattle.bcd.proofs.SignedLaws.{signed_decode_accepts}
@@ -31,7 +30,6 @@ use Rattle.pdu.specs.Plain.{NotEmpty}
 use Rattle.pdu.specs.declared.Table.TheVariants.{Bits, Registers}
 use Rattle.pdu.specs.declared.Asked.{Asked}
 use Rattle.pdu.specs.declared.Asked.TheVariants.{Read, SingleWrite, MultipleWrite, MaskWrite, ReadWrite, Other}
-use Rattle.pdu.specs.declared.Checked.TheVariants.{Legal}
 use Rattle.pdu.proofs.SpoilingLaws.{legal_ranges}
 use Rattle.rewrite.specs.declared.Way.TheVariants.{ToBcd}
 use Rattle.rewrite.specs.Registers.{registers_at}
@@ -49,7 +47,7 @@ use Rattle.rewrite.proofs.TagLaws.{number_one, number_two}
 -- WHAT A KIND ALLOWS
 
 -- Words decode exactly where the kind allows their nibbles.
-pub digits_exactly : (k : Kind) (n : ℕ) → ((v : ℕ) × (decoded k n ≡ Binary v)) ↔ Digits k n
+pub digits_exactly : (k : Kind) (n : ℕ) → ((v : ℕ) × (decoded k n ≡ Some v)) ↔ Digits k n
 unfolding decoded
 digits_exactly Width16 n = digits_decode_accepts digits_per_register n
 digits_exactly Width32 n = digits_decode_accepts (2 * digits_per_register) n
@@ -169,7 +167,7 @@ some-by n multiple = n
 some-by n both = n.1
 
 -- A request that passed the check of its bytes and carries registers carries one at least.
-pub carries_some : (f : List ℕ) {a : Asked} {base start quantity : ℕ} → checked_of f ≡ Legal a → Carries a base start quantity → 1 ≤ quantity
+pub carries_some : (f : List ℕ) {a : Asked} {base start quantity : ℕ} → checked_of f ≡ Ok a → Carries a base start quantity → 1 ≤ quantity
 carries_some f {a} e c = some-by (legal_ranges f a e).some c
 
 -- A write that carries registers, one at least, is forbidden exactly if they violate a strict tag.
@@ -225,14 +223,14 @@ lenient-allowed tags e Other f free = refl
 
 module _ {tags : List Tag} {f w : List ℕ} {p v base start quantity : ℕ} (r : Rewrites ToBcd tags f w p v base start quantity) (asc : Ascending 0 tags) (bytes : (k : ℕ) → get_or f k 0 < 256) (t : Tag) (m : Memᴰ t tags) (whole : Whole start quantity t) where
   -- a tag whose number is in its range stands in w encoded
-  words_out : (d : ℕ) → encoded (kind_of t) (standing (kind_of t) f base start t.address) ≡ Bcd d → registers_at (base + 2 * (t.address - start)) (registers (kind_of t)) w ≡ words_of (kind_of t) d
+  words_out : (d : ℕ) → encoded (kind_of t) (standing (kind_of t) f base start t.address) ≡ Some d → registers_at (base + 2 * (t.address - start)) (registers (kind_of t)) w ≡ words_of (kind_of t) d
   words_out d e =
       let k = kind_of t in
       let at = base + 2 * (t.address - start) in
       let ws = words_of k d in
       let b = behind_last t in
       let n = number_here f bytes base start quantity t whole in
-      let z = (rw (length-registers base quantity f) at (done_exactly ToBcd start (registers_at base quantity f) t ws)).1 (whole, (d, rw n (turned-encoded k _ (Bcd d) e), refl)) in
+      let z = (rw (length-registers base quantity f) at (done_exactly ToBcd start (registers_at base quantity f) t ws)).1 (whole, (d, rw n (turned-encoded k _ (Some d) e), refl)) in
       ext_get_or 0 (registers_at at (registers k) w) ws (length-registers at (registers k) w ∙ sym (words_count k d)) (λ i h.
       let l : i < registers k = omega (arith, length-registers at (registers k) w) in
       let j : at + 2 * i ≡ base + 2 * (t.address - start + i) = omega arith in
@@ -247,7 +245,7 @@ module _ {tags : List Tag} {f w : List ℕ} {p v base start quantity : ℕ} (r :
       let s = encode_accepts k n range in
       let e : standing k w base start t.address ≡ s.0 =
       sym (stands w base start t.address k) ∙ ap number_of (words_out s.0 s.1) ∙ number_back k s.0 (encoded-below k n s.0 s.1) in
-      let b : decoded k (standing k w base start t.address) ≡ Binary n = rw e (encode_decode k n s.0 s.1) in
+      let b : decoded k (standing k w base start t.address) ≡ Some n = rw e (encode_decode k n s.0 s.1) in
       record { whole = whole; digits = (digits_exactly k (standing k w base start t.address)).0 (n, b); number = b }
 
 -- A strict tag of which a write that violates none carries a register lies wholly in it, and goes out in digits.

@@ -4,7 +4,7 @@ use Prim.Native.Nat.{ℕ, ◌+◌, ◌*◌, ◌-◌, ◌/◌, ◌%◌, ◌≤◌
 use mathlib.Core.Path.{◌≡◌, refl, ap, sym, ◌∙◌}
 use mathlib.Core.Logic.{⊎_elim}
 use mathlib.Core.Bool.{Bool, true, false, cond, not, ◌&&◌, ◌||◌}
-use mathlib.Core.Option.{Option, some, none}
+use Rattle.std.specs.Prelude.{Option, Some, None}
 use mathlib.Core.List.{List, [], ◌∷◌}
 use native.Mathlib.Omega.{arith}
 use lib.ListN.{length, get_or}
@@ -16,7 +16,6 @@ use Rattle.laws.specs.Bytes.{pair_at, put_at}
 use Rattle.laws.specs.Digits.{digits, value as value_of}
 use Rattle.laws.proofs.Choice.{true_or, lt_or}
 use Rattle.bcd.specs.declared.Kind.{Kind}
-use Rattle.bcd.specs.declared.Encoded.TheVariants.{Bcd}
 use Rattle.bcd.specs.Bcd.{registers, in_range}
 use Rattle.bcd.specs.Words.{words_of, number_of}
 use Rattle.bcd.proofs.RoundTrip.{encode_accepts}
@@ -120,13 +119,13 @@ module _ (way : Way) (base start q : ℕ) {t : Tag} {d : List ℕ} {a z : ℕ} (
           ap number_of (registers_part base q d (t.address - start) (registers (kind_of t)) (rw n.first_is at one_room.1))
           ∙ rw (hk, n.first_is) refl
 
-      one_value : turned way (kind_of t) own ≡ none → with_counts 0 1 d ≡ rewriting way base start q (t ∷ []) d
+      one_value : turned way (kind_of t) own ≡ None → with_counts 0 1 d ≡ rewriting way base start q (t ∷ []) d
       unfolding laid_by
       one_value e =
           ap (with_counts 0 1) same
           ∙ sym (by-verdict way base start q t d value ((value_exactly way start (registers_at base q d) t).1 (whole_run, rw number e)))
 
-      one_done : (r : ℕ) → turned way (kind_of t) own ≡ some r → with_counts 0 0 (laid_at k (words_of (kind_of t) r) d) ≡ rewriting way base start q (t ∷ []) d
+      one_done : (r : ℕ) → turned way (kind_of t) own ≡ Some r → with_counts 0 0 (laid_at k (words_of (kind_of t) r) d) ≡ rewriting way base start q (t ∷ []) d
       unfolding laid_by
       one_done r e =
           let ws = words_of (kind_of t) r in
@@ -146,8 +145,8 @@ module _ (way : Way) (base start q : ℕ) {t : Tag} {d : List ℕ} {a z : ℕ} (
       one_whole = go (turned way (kind_of t) own) refl
         where
           go : (o : Option ℕ) → turned way (kind_of t) own ≡ o → whole_laid way (kind_of t) k d ≡ rewriting way base start q (t ∷ []) d
-          go none e = rw (e, whole_laid) (one_value e)
-          go (some r) e = rw (e, whole_laid) (one_done r e)
+          go None e = rw (e, whole_laid) (one_value e)
+          go (Some r) e = rw (e, whole_laid) (one_done r e)
 
 -- WHETHER A TAG STAYS RAW, of what a client writes
 
@@ -188,6 +187,6 @@ module _ (base start q : ℕ) {t : Tag} {d : List ℕ} {a z : ℕ} (n : KnownTag
       ⊎_elim
       (λ (r : in_range (kind_of t) own ≡ true).
       let s = encode_accepts (kind_of t) own r in
-      rw r (sym (ap stays_by ((done_exactly ToBcd start rs t (words_of (kind_of t) s.0)).1 (w, (s.0, rw e (turned-encoded (kind_of t) own (Bcd s.0) s.1), refl))))))
+      rw r (sym (ap stays_by ((done_exactly ToBcd start rs t (words_of (kind_of t) s.0)).1 (w, (s.0, rw e (turned-encoded (kind_of t) own (Some s.0) s.1), refl))))))
       (λ (r : in_range (kind_of t) own ≡ false). rw r (sym (ap stays_by ((value_exactly ToBcd start rs t).1 (w, rw e ((raw-encoded (kind_of t) own).1 r))))))
       (true_or (in_range (kind_of t) own))

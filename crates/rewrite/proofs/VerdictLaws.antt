@@ -4,7 +4,7 @@ use Prim.Native.Nat.{ℕ, ◌+◌, ◌≤◌, ◌<◌}
 use mathlib.Core.Path.{◌≡◌, refl, ap, sym, ◌∙◌}
 use mathlib.Core.Logic.{⊎_elim, ◌⊎◌, inl, inr, ◌↔◌}
 use mathlib.Core.Bool.{true, false, or-true}
-use mathlib.Core.Option.{Option, some, none}
+use Rattle.std.specs.Prelude.{Option, Some, None}
 use mathlib.Core.List.{List}
 use native.Mathlib.Omega.{arith}
 use lib.ListN.{length}
@@ -12,10 +12,6 @@ use lib.Dec.{ltb}
 use borrow.Author.Tests.{lt-ltb, le-ltb, le-leb, lt-leb, ltb-true, ltb-false, leb-true, leb-false}
 use Rattle.laws.proofs.Choice.{true_or, lt_or, or_left, or_right, or_second}
 use Rattle.bcd.specs.declared.Kind.{Kind}
-use Rattle.bcd.specs.declared.Encoded.{Encoded}
-use Rattle.bcd.specs.declared.Decoded.{Decoded}
-use Rattle.bcd.specs.declared.Encoded.TheVariants.{Bcd, OutOfRange}
-use Rattle.bcd.specs.declared.Decoded.TheVariants.{Binary, NoNumber}
 use Rattle.bcd.specs.Bcd.{registers, in_range, encoded, decoded}
 use Rattle.bcd.specs.Words.{words_of}
 use Rattle.bcd.specs.Plain.{NoNumberOf}
@@ -99,7 +95,7 @@ whole_single start t w = let b = behind_last t in let l = registers-least (kind_
 
 -- of a tag that is whole in the run, by what becomes of its number
 abbrev pub judged : Kind → Option ℕ → Verdict
-judged k o = elim o [ none ↦ value | some n ↦ done (words_of k n) ]
+judged k o = elim o [ None ↦ value | Some n ↦ done (words_of k n) ]
 
 -- verdicts told apart
 rank : Verdict → ℕ
@@ -110,16 +106,16 @@ rank (done ws) = 3
 
 rank_judged : (k : Kind) (o : Option ℕ) → 2 ≤ rank (judged k o)
 unfolding rank
-rank_judged k none = omega arith
-rank_judged k (some n) = omega arith
+rank_judged k None = omega arith
+rank_judged k (Some n) = omega arith
 
-judged_value : (k : Kind) (o : Option ℕ) → judged k o ≡ value → o ≡ none
-judged_value k none e = refl
-judged_value k (some n) e = absurd (let z : ◌≡◌ {A = ℕ} 0 1 = cc in omega arith)
+judged_value : (k : Kind) (o : Option ℕ) → judged k o ≡ value → o ≡ None
+judged_value k None e = refl
+judged_value k (Some n) e = absurd (let z : ◌≡◌ {A = ℕ} 0 1 = cc in omega arith)
 
-judged_done : (k : Kind) (o : Option ℕ) (ws : List ℕ) → judged k o ≡ done ws → (n : ℕ) × (o ≡ some n) × (ws ≡ words_of k n)
-judged_done k none ws e = absurd (let z : ◌≡◌ {A = ℕ} 0 1 = cc in omega arith)
-judged_done k (some n) ws e = (n, refl, cc)
+judged_done : (k : Kind) (o : Option ℕ) (ws : List ℕ) → judged k o ≡ done ws → (n : ℕ) × (o ≡ Some n) × (ws ≡ words_of k n)
+judged_done k None ws e = absurd (let z : ◌≡◌ {A = ℕ} 0 1 = cc in omega arith)
+judged_done k (Some n) ws e = (n, refl, cc)
 
 module _ (way : Way) (start : ℕ) (rs : List ℕ) (t : Tag) where
   -- A tag that the first test catches is outside.
@@ -172,12 +168,12 @@ module _ (way : Way) (start : ℕ) (rs : List ℕ) (t : Tag) where
       (⊎_elim (λ p. absurd (omega (arith, ap rank (sym (verdict_partial p.0 p.1) ∙ e)))) (λ w. (w, sym (verdict-whole w) ∙ e)))
       (cover start (length rs) t)
 
-  was_value : verdict way start rs t ≡ value → Whole start (length rs) t × (turned_in way start rs t ≡ none)
+  was_value : verdict way start rs t ≡ value → Whole start (length rs) t × (turned_in way start rs t ≡ None)
   unfolding rank
   was_value e = let j = was_judged value (omega arith) e in (j.0, judged_value (kind_of t) (turned_in way start rs t) j.1)
 
   -- A tag that is done is whole in the run, and its words are those of its number rewritten.
-  pub was_done : (ws : List ℕ) → verdict way start rs t ≡ done ws → Whole start (length rs) t × ((n : ℕ) × (turned_in way start rs t ≡ some n) × (ws ≡ words_of (kind_of t) n))
+  pub was_done : (ws : List ℕ) → verdict way start rs t ≡ done ws → Whole start (length rs) t × ((n : ℕ) × (turned_in way start rs t ≡ Some n) × (ws ≡ words_of (kind_of t) n))
   unfolding rank
   was_done ws e = let j = was_judged (done ws) (omega arith) e in (j.0, judged_done (kind_of t) (turned_in way start rs t) ws j.1)
 
@@ -202,12 +198,12 @@ module _ (way : Way) (start : ℕ) (rs : List ℕ) (t : Tag) where
   )
 
   -- A tag is raw for its value exactly if it is whole in the run and its number cannot be rewritten.
-  pub value_exactly : (verdict way start rs t ≡ value) ↔ (Whole start (length rs) t × (turned_in way start rs t ≡ none))
+  pub value_exactly : (verdict way start rs t ≡ value) ↔ (Whole start (length rs) t × (turned_in way start rs t ≡ None))
   value_exactly = (was_value, λ s. verdict-whole s.0 ∙ ap (judged (kind_of t)) s.1)
 
   -- A tag is done exactly if it is whole in the run and its number is rewritten, to the words of what that gives.
   pub done_exactly : (ws : List ℕ)
-      → (verdict way start rs t ≡ done ws) ↔ (Whole start (length rs) t × ((n : ℕ) × (turned_in way start rs t ≡ some n) × (ws ≡ words_of (kind_of t) n)))
+      → (verdict way start rs t ≡ done ws) ↔ (Whole start (length rs) t × ((n : ℕ) × (turned_in way start rs t ≡ Some n) × (ws ≡ words_of (kind_of t) n)))
   done_exactly ws = (was_done ws, λ s. verdict-whole s.0 ∙ ap (judged (kind_of t)) s.1.1 ∙ ap done (sym s.1.2))
 
 -- The verdict rests on the run's length and on the tag's own registers.
@@ -224,37 +220,22 @@ verdict_own way start rs rs' t e f =
 
 -- WHAT BECOMES OF A NUMBER, in plain words
 
--- what an outcome of encoding, and one of decoding, gives
-abbrev pub from_encoded : Encoded → Option ℕ
-from_encoded e = elim e [ Bcd w ↦ some w | OutOfRange ↦ none ]
-
-abbrev pub from_decoded : Decoded → Option ℕ
-from_decoded d = elim d [ Binary v ↦ some v | NoNumber ↦ none ]
-
-none-encoded : (e : Encoded) → from_encoded e ≡ none → e ≡ OutOfRange
-none-encoded (Bcd w) h = absurd (let z : ◌≡◌ {A = ℕ} 0 1 = cc in omega arith)
-none-encoded OutOfRange h = refl
-
-none-decoded : (d : Decoded) → from_decoded d ≡ none → d ≡ NoNumber
-none-decoded (Binary v) h = absurd (let z : ◌≡◌ {A = ℕ} 0 1 = cc in omega arith)
-none-decoded NoNumber h = refl
-
 -- What a number is encoded to is what it is rewritten to, towards BCD.
-pub turned-encoded : (k : Kind) (n : ℕ) (o : Encoded) → encoded k n ≡ o → turned ToBcd k n ≡ from_encoded o
+pub turned-encoded : (k : Kind) (n : ℕ) (o : Option ℕ) → encoded k n ≡ o → turned ToBcd k n ≡ o
 unfolding turned
-turned-encoded k n o e = ap from_encoded e
+turned-encoded k n o e = e
 
 -- What a number is decoded to is what it is rewritten to, towards binary.
-pub turned-decoded : (k : Kind) (n : ℕ) (o : Decoded) → decoded k n ≡ o → turned ToBinary k n ≡ from_decoded o
+pub turned-decoded : (k : Kind) (n : ℕ) (o : Option ℕ) → decoded k n ≡ o → turned ToBinary k n ≡ o
 unfolding turned
-turned-decoded k n o e = ap from_decoded e
+turned-decoded k n o e = e
 
 -- Towards BCD a number stays raw exactly if it is outside the kind's range.
-pub raw-encoded : (k : Kind) (n : ℕ) → (turned ToBcd k n ≡ none) ↔ (in_range k n ≡ false)
+pub raw-encoded : (k : Kind) (n : ℕ) → (turned ToBcd k n ≡ None) ↔ (in_range k n ≡ false)
 unfolding turned
-raw-encoded k n = (λ h. (encode_refuses k n).0 (none-encoded (encoded k n) h), λ h. ap from_encoded ((encode_refuses k n).1 h))
+raw-encoded k n = encode_refuses k n
 
 -- Towards binary a number stays raw exactly if it is no number of the kind.
-pub raw-decoded : (k : Kind) (n : ℕ) → (turned ToBinary k n ≡ none) ↔ NoNumberOf k n
+pub raw-decoded : (k : Kind) (n : ℕ) → (turned ToBinary k n ≡ None) ↔ NoNumberOf k n
 unfolding turned
-raw-decoded k n = (λ h. (decode_refuses k n).0 (none-decoded (decoded k n) h), λ h. ap from_decoded ((decode_refuses k n).1 h))
+raw-decoded k n = decode_refuses k n

@@ -1,21 +1,20 @@
 -- Which request is legal under settings: its bytes pass document 01's checks, no strict tag forbids what it writes (request #108), and no tag has the register that it masks (request #109). Exception 03 of a tag
 -- follows exception 02.
 -- Assumes nothing.
-use Rattle.std.specs.Prelude.{ℕ, Bool, false, cond, not, ◌&&◌, ◌||◌, List, [], ◌∷◌, eqb, leb}
+use Rattle.std.specs.Prelude.{ℕ, Bool, false, cond, not, ◌&&◌, ◌||◌, List, [], ◌∷◌, eqb, leb, Ok, Err}
 use Rattle.numbers.specs.Numbers.{illegal_value}
 use Rattle.wire.specs.Frame.{function_of, misframed}
 use Rattle.settings.specs.Grammar.{Tag, Value}
 use Rattle.settings.specs.TagWords.{last_of}
-use Rattle.pdu.specs.Requests.{class_of, bad_function, bad_length, asked_of, fault_of, checked_of}
+use Rattle.pdu.specs.Requests.{class_of, bad_function, bad_length, asked_of, fault_of, checked_of, Checked}
 use Rattle.pdu.specs.declared.Table.TheVariants.{Bits, Registers}
 use Rattle.pdu.specs.declared.Asked.{Asked}
 use Rattle.pdu.specs.declared.Asked.TheVariants.{Read, SingleWrite, MultipleWrite, MaskWrite, ReadWrite, Other}
-use Rattle.pdu.specs.declared.Checked.{Checked}
-use Rattle.pdu.specs.declared.Checked.TheVariants.{BadFunction, BadLength, Excepted, Legal}
 use Rattle.rewrite.specs.Registers.{registers_at}
 use Rattle.rewrite.specs.Rewriting.{verdict, is_raw_partial, is_raw_value}
 use Rattle.rewrite.specs.declared.Way.TheVariants.{ToBcd}
 use Rattle.rewrite.specs.Frames.{single_base, multiple_base, read_write_base}
+use Rattle.pdu.specs.declared.Fault.TheVariants.{Excepted}
 
 -- a tag stays raw over the registers of the addresses from start on, as a client writes them: the registers cover the tag partly, or its value is outside its range
 abbrev pub stays_raw : ℕ → List ℕ → Tag → Bool
@@ -51,11 +50,11 @@ fault_under tags f = cond (eqb (fault_of f) 0) (cond (forbidden tags (asked_of f
 
 -- what a request whose bytes are in order comes to under tags
 abbrev pub allowed : List Tag → List ℕ → Asked → Checked
-allowed tags f a = cond (forbidden tags a f) (Excepted illegal_value) (Legal a)
+allowed tags f a = cond (forbidden tags a f) (Err (Excepted illegal_value)) (Ok a)
 
 -- a request of any bytes under tags: what its bytes come to, and exception 03 where these are in order and a tag forbids it
 unfoldable pub checked_under : List Tag → List ℕ → Checked
-checked_under tags f = elim (checked_of f) [ BadFunction ↦ BadFunction | BadLength ↦ BadLength | Excepted code ↦ Excepted code | Legal a ↦ allowed tags f a ]
+checked_under tags f = elim (checked_of f) [ Ok a ↦ allowed tags f a | Err e ↦ Err e ]
 
 -- a request that passes the refusals of its frame and the exceptions 03 and 02, that of a tag among them
 unfoldable pub legal : Value → List ℕ → Bool

@@ -1,8 +1,7 @@
 -- The plain words of the theorems on tags: a tag has an address, an address is in a run, a tag is whole in a run, and its number rewritten; a function is one of coils or discrete inputs; which registers a reply
 -- brings; a frame has the registers of another turned, each by its tag's verdict.
 -- Assumes nothing.
-use Rattle.std.specs.Prelude.{ℕ, ◌+◌, ◌*◌, ◌-◌, ◌≤◌, ◌<◌, ◌≡◌, ◌⊎◌, length, get_or}
-use Rattle.std.proofs.Math.Option.{Option}
+use Rattle.std.specs.Prelude.{ℕ, ◌+◌, ◌*◌, ◌-◌, ◌≤◌, ◌<◌, ◌≡◌, ◌⊎◌, length, get_or, Option}
 use mathlib.Core.List.{List, Memᴰ}
 use Rattle.laws.specs.Lists.{filter}
 use Rattle.laws.specs.Bytes.{pair_at}

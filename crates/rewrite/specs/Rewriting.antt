@@ -1,12 +1,9 @@
 -- The tags over a run of registers: each tag's verdict on the registers as they came, and from it the rewriting and both counts.
 -- Assumes nothing.
-use Rattle.std.specs.Prelude.{ℕ, ◌+◌, ◌-◌, Bool, true, false, cond, ◌||◌, List, [], ◌∷◌, length, take, drop, ltb, leb}
-use Rattle.std.proofs.Math.Option.{Option, some, none}
+use Rattle.std.specs.Prelude.{ℕ, ◌+◌, ◌-◌, Bool, true, false, cond, ◌||◌, List, [], ◌∷◌, length, take, drop, ltb, leb, Option, Some, None}
 use Rattle.std.proofs.lemmas.List.Edits.{sets}
 use Rattle.laws.specs.Lists.{filter}
 use Rattle.bcd.specs.declared.Kind.{Kind}
-use Rattle.bcd.specs.declared.Encoded.TheVariants.{Bcd, OutOfRange}
-use Rattle.bcd.specs.declared.Decoded.TheVariants.{Binary, NoNumber}
 use Rattle.bcd.specs.Bcd.{registers, encoded, decoded}
 use Rattle.bcd.specs.Words.{words_of, number_of}
 use Rattle.settings.specs.Grammar.{Tag}
@@ -17,8 +14,8 @@ use Rattle.rewrite.specs.declared.Way.TheVariants.{ToBcd, ToBinary}
 
 -- a tag's number rewritten, if its value allows: to BCD if it is in the range, to binary if it is a number of the kind
 unfoldable pub turned : Way → Kind → ℕ → Option ℕ
-turned ToBcd k n = elim (encoded k n) [ Bcd w ↦ some w | OutOfRange ↦ none ]
-turned ToBinary k n = elim (decoded k n) [ Binary v ↦ some v | NoNumber ↦ none ]
+turned ToBcd k n = encoded k n
+turned ToBinary k n = decoded k n
 
 -- what becomes of a tag: it has no register in the run; not all of them; its value does not allow it; or it is rewritten to these registers
 pub data Verdict : Type 0 where
@@ -43,7 +40,7 @@ unfoldable pub verdict : Way → ℕ → List ℕ → Tag → Verdict
 verdict way start rs t =
     cond (is_outside start (length rs) t) outside
     (cond (is_partial start (length rs) t) partial
-    (elim (turned way (kind_of t) (number_of (own_in start rs t))) [ none ↦ value | some n ↦ done (words_of (kind_of t) n) ]))
+    (elim (turned way (kind_of t) (number_of (own_in start rs t))) [ None ↦ value | Some n ↦ done (words_of (kind_of t) n) ]))
 
 -- the registers afterwards: those of each tag that is done, and all others as they came
 unfoldable pub laid_by : Verdict → ℕ → List ℕ → List ℕ

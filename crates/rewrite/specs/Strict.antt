@@ -1,11 +1,10 @@
 -- Strict tags in plain numbers (request #108): which registers a write carries, which value is outside a tag's range, which write a strict tag forbids, and what stands at a strict tag in a frame that goes out.
 -- Assumes nothing.
-use Rattle.std.specs.Prelude.{ℕ, ◌+◌, ◌*◌, ◌-◌, ◌%◌, ◌≤◌, ◌<◌, ◌≡◌, ◌⊎◌}
+use Rattle.std.specs.Prelude.{ℕ, ◌+◌, ◌*◌, ◌-◌, ◌%◌, ◌≤◌, ◌<◌, ◌≡◌, ◌⊎◌, Some}
 use mathlib.Core.List.{List, Memᴰ}
 use Rattle.laws.specs.Bytes.{pair_at}
 use Rattle.bcd.specs.declared.Kind.{Kind}
 use Rattle.bcd.specs.declared.Kind.TheVariants.{Width16, Width32, Signed16}
-use Rattle.bcd.specs.declared.Decoded.TheVariants.{Binary}
 use Rattle.bcd.specs.Bcd.{nibble, decoded}
 use Rattle.settings.specs.Grammar.{Tag}
 use Rattle.settings.specs.TagWords.{kind_of}
@@ -53,4 +52,4 @@ pub record Violates (tags : List Tag) (f : List ℕ) (base start quantity : ℕ)
 pub record HasDigits (t : Tag) (f w : List ℕ) (base start quantity : ℕ) : Type 0 where
   pub whole : Whole start quantity t
   pub digits : Digits (kind_of t) (standing (kind_of t) w base start t.address)
-  pub number : decoded (kind_of t) (standing (kind_of t) w base start t.address) ≡ Binary (standing (kind_of t) f base start t.address)
+  pub number : decoded (kind_of t) (standing (kind_of t) w base start t.address) ≡ Some (standing (kind_of t) f base start t.address)

@@ -13,24 +13,11 @@ pub enum Way {
     ToBinary,
 }
 
-// How many tags were left raw: for partial cover, and for their value.
-#[derive(Clone, Copy)]
+// How many tags were left raw: for partial cover, and for their value. By default none.
+#[derive(Clone, Copy, Default)]
 pub struct Raw {
     pub partial: u32,
     pub value: u32,
-}
-
-// What a tag that was not left raw adds to the counts, and what a frame without registers comes to.
-pub const NOT_RAW: Raw = Raw {
-    partial: 0,
-    value: 0,
-};
-
-// A tag's number rewritten, or the notice that its value leaves it raw.
-#[derive(Clone, Copy)]
-pub enum Turned {
-    Number(u32),
-    LeftRaw,
 }
 
 // Whether a tag was left raw: not, or for partial cover, or for its value.

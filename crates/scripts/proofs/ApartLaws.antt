@@ -1,9 +1,10 @@
 -- Laws on what is said of the calls that change no state.
 -- Assumes nothing.
+use Rattle.std.specs.Prelude.{Result}
 use Prim.Native.Nat.{ℕ, ◌<◌}
-use mathlib.Core.Path.{◌≡◌, refl, sym, ◌∙◌}
+use mathlib.Core.Path.{◌≡◌, refl, ◌∙◌}
 use mathlib.Core.Bool.{cond}
-use mathlib.Core.List.{List, [], ◌∷◌, ◌++◌}
+use mathlib.Core.List.{List, ◌++◌}
 use lib.ListN.{length, get_or, take, drop}
 use lib.Dec.{eqb}
 use borrow.Author.Tests.{eq-eqb, ne_eqb}
@@ -11,17 +12,12 @@ use Rattle.laws.proofs.ListLaws.{get_d_tab}
 use Rattle.settings.specs.Grammar.{read_text}
 use Rattle.settingstext.specs.declared.reading.ReadText.{ReadText}
 use Rattle.settingstext.specs.TextRead.{reported}
-use Rattle.settingstext.specs.declared.writing.Wrote.{Wrote}
+use Rattle.settingstext.specs.declared.writing.WriteError.{WriteError}
 use Rattle.settingstext.specs.TextWritten.{Writing, writing}
 use Rattle.parts.specs.Texts.{head_of}
-use Rattle.parts.specs.Said.{said, formed}
-use Rattle.parts.proofs.SaidLaws.{said-said}
+use Rattle.parts.specs.Said.{formed}
 use Rattle.scripts.specs.Words.{letter_of, settings_in, length_in}
 use Rattle.scripts.specs.Apart.{run_text, received, exchanged, wrote_text, untouched, writing_text, written_text, wrong_text, found_text, text_read, state_form, apart_text}
-
--- a text is said by its first byte, and by what stands behind it
-pub said-first : (right : List ℕ) (at byte : ℕ) (rest : List ℕ) → said right at (byte ∷ rest) ≡ said right (said right at (byte ∷ [])) rest
-said-first right at byte rest = sym (said-said right at (byte ∷ []) rest)
 
 -- what stands at a place of a text with one byte in place of another
 module _ (bytes : List ℕ) (from to k : ℕ) {byte : ℕ} (within : k < 512) (e : byte ≡ get_or bytes k 0) where
@@ -36,7 +32,7 @@ module _ (bytes : List ℕ) (from to k : ℕ) {byte : ℕ} (within : k < 512) (e
   exchanged_other h = at_place ∙ rw (ne_eqb byte from h)
 
 -- what is told of a buffer that was lent in part is told of the writing
-pub told-writing : (wrote : Wrote) (lent : ℕ) {buffer : List ℕ} {w : Writing} → writing wrote buffer ≡ w → wrote_text wrote (buffer ++ drop lent untouched) ≡ writing_text w lent
+pub told-writing : (wrote : Result ℕ WriteError) (lent : ℕ) {buffer : List ℕ} {w : Writing} → writing wrote buffer ≡ w → wrote_text wrote (buffer ++ drop lent untouched) ≡ writing_text w lent
 unfolding writing_text
 told-writing wrote lent e = rw (← e)
 

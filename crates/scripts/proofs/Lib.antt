@@ -1,3 +1,4 @@
 pub mod WordLaws
 pub mod PieceLaws
 pub mod ApartLaws
+pub mod CallLaws

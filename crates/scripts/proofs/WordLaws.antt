@@ -1,15 +1,13 @@
--- Laws on the letter that tells a call, and on the lengths and settings in it.
+-- Laws on the letter that tells a call, and on the settings in it.
 -- Assumes nothing.
-use Prim.Native.Nat.{ℕ, ◌+◌, ◌%◌, ◌≤◌, ◌<◌}
+use Prim.Native.Nat.{ℕ, ◌+◌, ◌%◌}
 use mathlib.Core.Path.{◌≡◌}
 use mathlib.Core.List.{List}
-use native.Mathlib.Omega.{arith}
 use lib.ListN.{get_or, set}
 use borrow.Author.Tests.{eq-eqb, ne_eqb}
 use Rattle.settings.specs.declared.Settings.{Settings}
 use Rattle.settings.specs.Values.{settings_of}
-use Rattle.parts.specs.Texts.{rest_of, field_of, number_of}
-use Rattle.scripts.specs.Words.{letter_of, document, short_number, tag_number, settings_in, length_in}
+use Rattle.scripts.specs.Words.{letter_of, document, short_number, tag_number, settings_in}
 
 -- the letter of a call that begins with 'r', and of any other
 pub letter_third : (call : List ℕ) → get_or call 0 0 ≡ 114 → letter_of call ≡ get_or call 2 0 % 32 + 64
@@ -17,16 +15,6 @@ letter_third call e = rw (eq-eqb (get_or call 0 0) 114 e)
 
 pub letter_first : (call : List ℕ) → (get_or call 0 0 ≡ 114 → ⊥) → letter_of call ≡ get_or call 0 0
 letter_first call e = rw (ne_eqb (get_or call 0 0) 114 e)
-
--- a length is the given one up to the most
-module _ (call : List ℕ) (letter usual most given : ℕ) (e : given ≡ number_of (field_of 32 1 (rest_of letter (rest_of 44 call))) usual) where
-  pub length-given : given ≤ most → given ≡ length_in call letter usual most
-  unfolding length_in
-  length-given h = rw (← e) (omega arith)
-
-  pub length_most : most < given → most ≡ length_in call letter usual most
-  unfolding length_in
-  length_most h = rw (← e) (omega arith)
 
 -- the numbers of a call over document 01's settings
 pub settings-made : (call : List ℕ) (s : Settings) (timeout join tags first second third fourth fifth sixth : ℕ)

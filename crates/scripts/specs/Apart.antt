@@ -1,18 +1,18 @@
 -- What is said of the calls that change no state: a run's first frame, a settings text read or written, the state's cursor, clock and clients.
 -- Assumes nothing.
-use Rattle.std.specs.Prelude.{ℕ, cond, List, [], ◌∷◌, ◌++◌, length, get_or, take, drop, replicate, eqb}
+use Rattle.std.specs.Prelude.{ℕ, cond, List, [], ◌∷◌, ◌++◌, length, get_or, take, drop, replicate, eqb, Result, Ok, Err}
 use Rattle.laws.specs.Bytes.{over}
 use Rattle.laws.specs.Lists.{tab}
 use Rattle.wire.specs.Splitting.{standing_of, first_frame}
-use Rattle.wire.specs.declared.splitting.Split.{Split}
-use Rattle.wire.specs.declared.splitting.Split.TheVariants.{Frame, MoreNeeded, Refused}
+use Rattle.wire.specs.Splitting.{Standing}
+use Rattle.wire.specs.Splitting.Standing.{Frame, MoreNeeded, Refused}
 use Rattle.settings.specs.declared.Settings.{Settings}
 use Rattle.settings.specs.Grammar.{read_text}
 use Rattle.settings.specs.Values.{value_of}
 use Rattle.settingstext.specs.declared.reading.ReadText.{ReadText}
 use Rattle.settingstext.specs.TextRead.{reported}
-use Rattle.settingstext.specs.declared.writing.Wrote.{Wrote}
-use Rattle.settingstext.specs.declared.writing.Wrote.TheVariants.{Text, TooShort, Invalid}
+use Rattle.settingstext.specs.declared.writing.WriteError.{WriteError}
+use Rattle.settingstext.specs.declared.writing.WriteError.TheVariants.{TooShort, Invalid}
 use Rattle.settingstext.specs.TextWritten.{Writing, written_to}
 use Rattle.parts.specs.Texts.{head_of, bytes_of}
 use Rattle.parts.specs.Said.{formed}
@@ -20,7 +20,7 @@ use Rattle.scripts.specs.Words.{letter_of, settings_in, length_in}
 use Rattle.scripts.specs.Pieces.{frame_text, kept_byte, all_are, touched}
 
 -- "frame", "more needed" or "refusal 4", and the first frame
-unfoldable pub standing_text : Split → List ℕ
+unfoldable pub standing_text : Standing → List ℕ
 standing_text Frame = 102 ∷ 114 ∷ 97 ∷ 109 ∷ 101 ∷ []
 standing_text MoreNeeded = 109 ∷ 111 ∷ 114 ∷ 101 ∷ 32 ∷ 110 ∷ 101 ∷ 101 ∷ 100 ∷ 101 ∷ 100 ∷ []
 standing_text Refused = 114 ∷ 101 ∷ 102 ∷ 117 ∷ 115 ∷ 97 ∷ 108 ∷ 32 ∷ 52 ∷ []
@@ -41,10 +41,10 @@ unfoldable pub whole_text : List ℕ → ℕ → List ℕ
 whole_text buffer size = formed (68 ∷ 32 ∷ 98 ∷ 121 ∷ 116 ∷ 101 ∷ 115 ∷ []) size 0 0 ++ (58 ∷ 32 ∷ take size (exchanged buffer 10 47))
 
 -- what writing into a buffer came to: the text; "refusal 1"; "refusal 10 line 0"
-unfoldable pub wrote_text : Wrote → List ℕ → List ℕ
-wrote_text (Text size) buffer = whole_text buffer size ++ touched (all_are kept_byte (drop size buffer))
-wrote_text TooShort buffer = (114 ∷ 101 ∷ 102 ∷ 117 ∷ 115 ∷ 97 ∷ 108 ∷ 32 ∷ 49 ∷ []) ++ touched (all_are kept_byte buffer)
-wrote_text Invalid buffer = (114 ∷ 101 ∷ 102 ∷ 117 ∷ 115 ∷ 97 ∷ 108 ∷ 32 ∷ 49 ∷ 48 ∷ 32 ∷ 108 ∷ 105 ∷ 110 ∷ 101 ∷ 32 ∷ 48 ∷ []) ++ touched (all_are kept_byte buffer)
+unfoldable pub wrote_text : Result ℕ WriteError → List ℕ → List ℕ
+wrote_text (Ok size) buffer = whole_text buffer size ++ touched (all_are kept_byte (drop size buffer))
+wrote_text (Err TooShort) buffer = (114 ∷ 101 ∷ 102 ∷ 117 ∷ 115 ∷ 97 ∷ 108 ∷ 32 ∷ 49 ∷ []) ++ touched (all_are kept_byte buffer)
+wrote_text (Err Invalid) buffer = (114 ∷ 101 ∷ 102 ∷ 117 ∷ 115 ∷ 97 ∷ 108 ∷ 32 ∷ 49 ∷ 48 ∷ 32 ∷ 108 ∷ 105 ∷ 110 ∷ 101 ∷ 32 ∷ 48 ∷ []) ++ touched (all_are kept_byte buffer)
 
 -- a value written into the start of a buffer, of which so many bytes are lent
 abbrev pub untouched : List ℕ

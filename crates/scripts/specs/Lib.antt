@@ -1,4 +1,5 @@
 pub mod Words
+pub mod Calls
 pub mod Pieces
 pub mod Telling
 pub mod Apart

@@ -12,6 +12,7 @@
 // is filled up with zeros.
 ghost use Rattle.std.specs.Prelude.{◌≤◌, ◌≡◌};
 ghost use Rattle.settings.specs.Values.{settings_of};
+ghost use Rattle.scripts.specs.Calls.{Tells};
 ghost use Rattle.scripts.specs.Words.{letter_of, document, short_number, tag_number, settings_in, length_in};
 
 use parts::{field, number, rest};
@@ -26,6 +27,43 @@ pub fn letter(call: &[u8]) -> u8
         wire::byte_at(call, 2) % 32 + 64
     } else {
         first
+    }
+}
+
+// The calls; a letter that tells no other tells of a lost link.
+#[derive(Clone, Copy)]
+pub enum Call {
+    Fresh,
+    Attach,
+    Detach,
+    Request,
+    Reply,
+    Tick,
+    LinkLost,
+    Cursor,
+    Split,
+    Read,
+    Write,
+}
+
+impl Call {
+    // The call that a row names.
+    pub fn named(call: &[u8]) -> Call
+        ensures { Tells (letter_of call.now) result }
+    {
+        match letter(call) {
+            b'f' => Call::Fresh,
+            b'a' => Call::Attach,
+            b'd' => Call::Detach,
+            b'Q' => Call::Request,
+            b'P' => Call::Reply,
+            b't' => Call::Tick,
+            b'c' => Call::Cursor,
+            b's' => Call::Split,
+            b'A' => Call::Read,
+            b'w' => Call::Write,
+            _ => Call::LinkLost,
+        }
     }
 }
 
@@ -55,7 +93,7 @@ fn document_value() -> Settings
 fn short_number(call: &[u8], k: usize, other: u32) -> u32
     ensures { result ≡ short_number call.now k other }
 {
-    (number(field(call, b' ', k), other as u64) % 4294967296) as u32
+    (number(field(call, b' ', k), u64::from(other)) % 4294967296) as u32
 }
 
 // The k-th word of a call as a tag's sign or ttl, or whether it is strict; 0 where there is none.
@@ -87,10 +125,5 @@ pub fn length_in(call: &[u8], letter: u8, usual: usize, most: usize) -> usize
     ensures { (result ≡ length_in call.now letter usual most) × (result ≤ most) }
 {
     let word = field(rest(rest(call, b','), letter), b' ', 1);
-    let given = number(word, usual as u64);
-    if given <= most as u64 {
-        given as usize
-    } else {
-        most
-    }
+    number(word, usual as u64).min(most as u64) as usize
 }

@@ -1,65 +1,47 @@
 // What more than one kind of call says: a frame behind a ':', and whether a buffer was changed beyond what was written.
 ghost use Rattle.std.specs.Prelude.{◌≡◌, [], ◌∷◌, drop};
-ghost use Rattle.parts.specs.Said.{said};
+ghost use Rattle.parts.specs.Saying.{Says};
 ghost use Rattle.scripts.specs.Pieces.{frame_text, kept_byte, all_are, touched as touchedText};
 
 use crate::telling::KEPT;
 use parts::behind;
-use parts::hex::say_hex;
-use parts::output::Output;
-use parts::saying::{print_held, say};
+use parts::saying::Saying;
 
 // Where the bytes begin, behind the mark.
-const COLUMN: usize = 28;
+pub const COLUMN: usize = 28;
 
 // Says the ':' behind which the bytes begin at the column.
-pub fn say_colon(right: &[u8], at: usize, output: &mut Output) -> usize
-    ensures { result ≡ said right.now at (58 ∷ []) }
+pub fn say_colon(said: &mut Saying)
+    ensures { Says said.old (58 ∷ []) said.new }
 {
-    let blanks = [b' '; COLUMN];
-    let next = say(right, at, b":", output);
-    print_held(right, behind(&blanks, at), output);
-    next
+    let at = said.at.unwrap_or(COLUMN);
+    said.say(b":");
+    said.print_held(behind(&[b' '; COLUMN], at));
 }
 
 // Says a frame, if there is one.
-pub fn say_frame(right: &[u8], at: usize, frame: &[u8], output: &mut Output) -> usize
-    ensures { result ≡ said right.now at (frame_text frame.now) }
+pub fn say_frame(said: &mut Saying, frame: &[u8])
+    ensures { Says said.old (frame_text frame.now) said.new }
 {
-    if frame.len() == 0 {
-        return at;
+    if !frame.is_empty() {
+        say_colon(said);
+        said.say_hex(frame);
     }
-    say_hex(right, say_colon(right, at, output), frame, output)
-}
-
-// Whether every byte of a buffer from a place on is as it was before the call.
-fn kept(buffer: &[u8], from: usize) -> bool
-    ensures { result ≡ all_are kept_byte (drop from buffer.now) }
-{
-    let mut at = from;
-    while at < buffer.len() {
-        if buffer[at] != KEPT {
-            return false;
-        }
-        at += 1;
-    }
-    true
 }
 
 // Says so where a byte or a place changed beyond those that a call wrote.
-pub fn say_touched(right: &[u8], at: usize, kept: bool, output: &mut Output) -> usize
-    ensures { result ≡ said right.now at (touchedText kept) }
+pub fn say_touched(said: &mut Saying, kept: bool)
+    ensures { Says said.old (touchedText kept) said.new }
 {
-    if kept {
-        at
-    } else {
-        say(right, at, b" touched", output)
+    if !kept {
+        said.say(b" touched");
     }
 }
 
 // Says so where a byte of a buffer from a place on is not as it was before the call.
-pub fn say_kept(right: &[u8], at: usize, buffer: &[u8], from: usize, output: &mut Output) -> usize
-    ensures { result ≡ said right.now at (touchedText (all_are kept_byte (drop from buffer.now))) }
+pub fn say_kept(said: &mut Saying, buffer: &[u8], from: usize)
+    ensures { Says said.old (touchedText (all_are kept_byte (drop from buffer.now))) said.new }
 {
-    say_touched(right, at, kept(buffer, from), output)
+    let kept = behind(buffer, from).iter().all(|byte| *byte == KEPT);
+    say_touched(said, kept);
 }

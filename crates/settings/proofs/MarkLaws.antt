@@ -74,14 +74,15 @@ pub worded_none : (s : Settings) → s.tags ≤ most_tags → Worded s (replicat
 unfolding tab some_strict
 worded_none s h = record { within = omega arith; few = h; filled = refl; told = refl }
 
-pub worded_more : {s : Settings} {words : List ℕ} {mark : Bool} {k v : ℕ} → k < s.tags → Worded s words mark k → v ≡ tag_word (tag_at s k) → Worded s (set words k v) (mark || eqb (get_or s.strict k 0) 1) (k + 1)
-worded_more {s} {k = k} {v = v} h w e =
-    record {
+pub worded_more : {s : Settings} {words : List ℕ} {mark : Bool} {k v : ℕ} {t : Tag} → k < s.tags → Worded s words mark k → t ≡ tag_at s k → v ≡ tag_word t → Worded s (set words k v) (mark || eqb t.strict 1) (k + 1)
+worded_more {s} {k = k} {v = v} h w q e =
+    rw q
+    (record {
       within = omega arith;
       few = w.few;
-      filled = rw (w.filled, tab_more k (tag_at s)) (filled_more tag_word (tab k (tag_at s)) (tag_at s k) k v (length-tab k (tag_at s)) (omega (arith, w.few)) e);
+      filled = rw (w.filled, tab_more k (tag_at s)) (filled_more tag_word (tab k (tag_at s)) (tag_at s k) k v (length-tab k (tag_at s)) (omega (arith, w.few)) (rw q at e));
       told = rw (w.told, tab_more k (tag_at s)) (sym (some_more (tab k (tag_at s)) (tag_at s k)));
-    }
+    })
 
 -- the first word of right tags has room for the mark
 pub worded_room : {s : Settings} {words : List ℕ} {mark : Bool} {k : ℕ} → ((i : ℕ) → i < s.tags → RightTag (tag_at s i)) → Worded s words mark k → get_or words 0 0 < strict_mark

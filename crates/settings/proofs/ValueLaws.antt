@@ -1,9 +1,9 @@
 -- Settings values tag by tag: what makes one valid, when two are equal, the value of the boundary's struct and back, and that struct's size.
 -- Assumes nothing.
 use prog.Memory.{size}
-use Prim.Native.Nat.{ℕ, ◌+◌, ◌-◌, ◌≤◌, ◌<◌}
-use mathlib.Core.Path.{◌≡◌, refl, ap, sym, ◌∙◌}
-use mathlib.Core.Bool.{Bool, true, false, ◌&&◌, and-true, and_assoc, false≢true}
+use Prim.Native.Nat.{ℕ, zero, suc, ◌+◌, ◌-◌, ◌≤◌, ◌<◌}
+use mathlib.Core.Path.{◌≡◌, refl, ap, subst, sym, ◌∙◌}
+use mathlib.Core.Bool.{Bool, true, false, ◌&&◌, and-true, and-false, and_assoc, false≢true}
 use mathlib.Core.List.{List, [], ◌∷◌, ◌++◌, map}
 use native.Mathlib.Numerals.{add-one}
 use native.Mathlib.Omega.{arith}
@@ -87,16 +87,30 @@ module _ (f : ℕ → Tag) where
   unfolding tab tags_right last_or from_of
   checked_none = record { so_far = refl; next = refl }
 
-  pub checked_more : {right this : Bool} {from from' k : ℕ} → (f k).address < addresses → Checked f right from k
-      → this ≡ (leb from (f k).address && right_kind (f k))
-      → from' ≡ last_register (tag_numbers (f k)) + 1
+  pub checked_more : {right this : Bool} {from from' k : ℕ} {t : Tag} → t.address < addresses → Checked f right from k
+      → t ≡ f k
+      → this ≡ (leb from t.address && right_kind t)
+      → from' ≡ last_register (tag_numbers t) + 1
       → Checked f (right && this) from' (k + 1)
   unfolding from_of
-  checked_more {k = k} low w e n =
+  checked_more {k = k} low w q e n =
       let m = tab_more k f in
-      let r = rw (tag_right (last_or [] (tab k f)) (f k) low, ← w.so_far, ← w.next, ← e) at (right_snoc [] (tab k f) (f k)) in
+      let r = rw (tag_right (last_or [] (tab k f)) (f k) (rw q at low), ← w.so_far, ← w.next, ← (rw q at e)) at (right_snoc [] (tab k f) (f k)) in
       let l : last_or [] (tab (k + 1) f) ≡ tag_numbers (f k) = rw m (last_snoc [] (tab k f) (f k)) in
-      record { so_far = rw m (sym r); next = rw l n }
+      record { so_far = rw m (sym r); next = rw l (rw q at n) }
+
+  -- where the tags so far are wrong, they are with more behind them
+  wrong_stays : (j k : ℕ) → tags_right newest.tag [] (tab k f) ≡ false → tags_right newest.tag [] (tab (j + k) f) ≡ false
+  wrong_stays zero k e = let m : 0 + k ≡ k = omega arith in rw m e
+  wrong_stays (suc j) k e =
+      let m : suc j + k ≡ (j + k) + 1 = omega arith in
+      rw (m, tab_more (j + k) f, right_snoc [] (tab (j + k) f) (f (j + k)), wrong_stays j k e)
+
+  pub checked_wrong : {from n k : ℕ} {t : Tag} → k < n → t.address < addresses → Checked f true from k → t ≡ f k → false ≡ (leb from t.address && right_kind t) → tags_right newest.tag [] (tab n f) ≡ false
+  checked_wrong {n = n} {k = k} {t = t} h low w q e =
+      let w' = checked_more {from' = last_register (tag_numbers t) + 1} low w q e refl in
+      let m : (n - (k + 1)) + (k + 1) ≡ n = omega arith in
+      subst (λ (i : ℕ). tags_right newest.tag [] (tab i f) ≡ false) m (wrong_stays (n - (k + 1)) (k + 1) (sym w'.so_far))
 
 -- valid: the rules of the lines behind the version line, and of the tags' lines
 pub valid_parts : (v : Value) → valid v ≡ ((right_timeout v.timeout && (right_join v.join && right_tags (length v.tags))) && tags_right newest.tag [] v.tags)
@@ -121,6 +135,10 @@ valid_few s t = few s refl (and_left (head_right s) _ (sym (valid_struct s) ∙ 
 
 pub checked_all : (s : Settings) {head right : Bool} {from k : ℕ} → head ≡ head_right s → head ≡ true → k ≡ s.tags → Checked (tag_at s) right from k → right ≡ valid (value_of s)
 checked_all s e t q w = w.so_far ∙ rw q (sym (valid_struct s ∙ rw (← e) (rw t)))
+
+-- a wrong tag decides
+pub refused_tag : (s : Settings) {from k : ℕ} {t : Tag} → k < s.tags → t.address < addresses → Checked (tag_at s) true from k → t ≡ tag_at s k → false ≡ (leb from t.address && right_kind t) → false ≡ valid (value_of s)
+refused_tag s h low w q e = sym (valid_struct s ∙ rw (checked_wrong (tag_at s) h low w q e) (and-false (head_right s)))
 
 tags_equal : (ts us : List Tag) → same_tags ts us ≡ true → ts ≡ us
 unfolding same_tags

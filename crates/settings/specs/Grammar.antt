@@ -5,15 +5,13 @@ use Rattle.std.proofs.Math.Option.{Option, some, none}
 use mathlib.Core.List.{List, [], ◌∷◌, ◌++◌, map, flat_map}
 use Rattle.numbers.specs.Numbers.{most_tags, least_timeout, most_timeout, addresses, most_ttl, newest_version}
 use Rattle.settings.specs.Lines.{Numbered, line_of, line_in}
+use Rattle.settings.specs.declared.Tag.{Tag as CodeTag}
+
+-- a tag is the code's: its address, width, sign, ttl and strict
+abbrev pub Tag : Type 0
+Tag = CodeTag
 
 -- a settings value: timeout, join, and its tags in their order
-pub record Tag : Type 0 where
-  pub address : ℕ
-  pub width : ℕ
-  pub sign : ℕ
-  pub ttl : ℕ
-  pub strict : ℕ
-
 pub record Value : Type 0 where
   pub timeout : ℕ
   pub join : ℕ

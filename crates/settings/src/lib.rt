@@ -1,7 +1,9 @@
-// The settings value, the grammar of its text, what its tag words are, and the kind of a tag.
+// The settings value and its tags, the grammar of its text, what its tag words are, and the kind of a tag.
 #![tactic(auto)]
 
-ghost use Rattle.std.specs.Prelude.{◌≡◌, ℕ};
+ghost use Rattle.std.specs.Prelude.{◌≡◌, ◌<◌};
+ghost use Rattle.numbers.specs.Numbers.{most_tags};
+ghost use Rattle.settings.specs.Plain.{tag_in};
 ghost use Rattle.settings.specs.TagWords.{kind_of};
 
 use bcd::Kind;
@@ -20,15 +22,44 @@ pub struct Settings {
     pub strict: [u16; numbers::MOST_TAGS],
 }
 
-// The kind of a tag, which its width and its sign decide.
-pub fn kind_of(width: u16, sign: u16) -> Kind
-    ensures { (address ttl strict : ℕ) → result ≡ kind_of (record { address = address; width = width; sign = sign; ttl = ttl; strict = strict }) }
-{
-    if width == 32 {
-        Kind::Width32
-    } else if sign == 1 {
-        Kind::Signed16
-    } else {
-        Kind::Width16
+impl Settings {
+    // The tag at a place.
+    pub fn tag(&self, k: usize) -> Tag
+        requires { k < most_tags }
+        ensures { result ≡ tag_in self.now k }
+    {
+        Tag {
+            address: self.addr[k],
+            width: self.width[k],
+            sign: self.sign[k],
+            ttl: self.ttl[k],
+            strict: self.strict[k],
+        }
+    }
+}
+
+// A tag: its address, width, sign and ttl, and whether it is strict.
+#[derive(Clone, Copy, PartialEq, Eq)]
+pub struct Tag {
+    pub address: u16,
+    pub width: u16,
+    pub sign: u16,
+    pub ttl: u16,
+    pub strict: u16,
+}
+
+impl Tag {
+    // The kind of a tag, which its width and its sign decide.
+    #[tactic(auto, unfolding(crate::specs::TagWords::kind_of))]
+    pub fn kind(self) -> Kind
+        ensures { result ≡ kind_of self }
+    {
+        if self.width == 32 {
+            Kind::Width32
+        } else if self.sign == 1 {
+            Kind::Signed16
+        } else {
+            Kind::Width16
+        }
     }
 }

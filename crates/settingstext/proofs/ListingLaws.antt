@@ -1,30 +1,28 @@
 -- The turns of the loop over the tags: what has been read stands in the columns, and what is left is read from the place on.
 -- Assumes nothing.
+use Rattle.std.specs.Prelude.{Ok, Err}
 use Prim.Native.Nat.{ℕ, suc, ◌+◌, ◌*◌, ◌-◌, ◌/◌, ◌≤◌, ◌<◌}
 use mathlib.Core.Path.{◌≡◌, refl, ap, sym, ◌∙◌}
-use mathlib.Core.Logic.{⊎_elim}
-use mathlib.Core.Bool.{Bool, false}
+use mathlib.Core.Bool.{false}
 use mathlib.Core.List.{List, [], ◌∷◌, ◌++◌, map, append-nil}
 use native.Mathlib.Nat.{add-mul, one-mul, mul_comm, mul-le-mul}
 use native.Mathlib.Omega.{arith}
 use lib.ListN.{length, drop, set, replicate, length-append, length-drop}
 use lib.Seq.{drop-length, length-take-le}
 use lib.Dec.{eqb}
-use borrow.Author.Tests.{eq-eqb, ne_eqb}
+use borrow.Author.Tests.{ne_eqb}
 use Rattle.numbers.specs.Numbers.{most_tags, newest_version}
-use Rattle.settings.specs.Grammar.{Tag, Value, Read, version_of, tag_from, read_lines, read_tags, read_behind, read_text, tag_lines}
+use Rattle.settings.specs.Grammar.{Tag, Value, Read, version_of, tag_from, read_lines, read_tags, read_behind, tag_lines}
 use Rattle.settings.specs.Grammar.Read.{got, wrong}
 use Rattle.settings.specs.Values.{settings, padded, settings_of}
-use Rattle.settingstext.specs.TextRead.{reported, answered}
-use Rattle.settingstext.specs.inner.Reading.{lowest, placed_tag, Headed, wrong_line}
+use Rattle.settingstext.specs.TextRead.{reported}
+use Rattle.settingstext.specs.inner.Reading.{lowest, wrong_at, placed_tag, HeadRight, TagsRead}
+use Rattle.settingstext.specs.declared.reading.WrongLine.{WrongLine}
 use Rattle.settingstext.specs.declared.reading.Head.{Head}
 use Rattle.settings.specs.declared.Settings.{Settings}
 use Rattle.settingstext.specs.declared.reading.ReadText.{ReadText}
-use Rattle.settingstext.specs.declared.reading.TagRead.TheVariants.{Tagged, WrongAt}
-use Rattle.laws.proofs.Choice.{eq_or}
 use Rattle.settings.proofs.TagLaws.{filled_more}
 use Rattle.settings.proofs.RowLaws.{onto, onto_onto, tag_wrong, tag_right}
-use Rattle.settings.proofs.GrammarLaws.{wrong_most}
 use Rattle.settings.proofs.VersionLaws.{text_tags}
 use Rattle.settingstext.proofs.AnswerLaws.{untagged, tagged}
 
@@ -74,18 +72,17 @@ module _ (v : ℕ) (listed : (1 ≤ v) × (v ≤ newest_version)) (text rest : L
     one_left : count - k ≡ suc (count - (k + 1))
     one_left = omega arith
 
-    pub listed-stop : (j : ℕ) → WrongAt j ≡ placed_tag text (read_lines number (version_of v).tag l.prior [] (drop at text)) → whole ≡ wrong j
+    pub listed-stop : (j : ℕ) → Err (wrong_at j) ≡ placed_tag text (read_lines number (version_of v).tag l.prior [] (drop at text)) → whole ≡ wrong j
     unfolding onto read_behind
     listed-stop j e =
         let t = tag_wrong (count - (k + 1)) number (version_of v).tag l.prior (drop at text) j (untagged text j _ e) in
         let all : read_tags count 5 (version_of v).tag [] rest ≡ wrong j = l.left ∙ rw (one_left, t) in
         rw (all, read_behind)
 
-    pub listed_more : count ≤ most_tags → (address bits signed lasting marked next : ℕ) → Tagged address bits signed lasting marked next ≡ placed_tag text (read_lines number (version_of v).tag l.prior [] (drop at text))
-        → Listed v text rest count (k + 1) next (number + (1 + v)) (address + bits / 16) (set addr k address) (set width k bits) (set sign k signed) (set ttl k lasting) (set strict k marked)
-    listed_more h address bits signed lasting marked next e =
-        let t = tagged text l.prior v at number address bits signed lasting marked next listed.0 (omega (arith, listed.1)) l.inside e in
-        let tag : Tag = record { address = address; width = bits; sign = signed; ttl = lasting; strict = marked } in
+    pub listed_more : count ≤ most_tags → (tag : Tag) (next : ℕ) → Ok (tag, next) ≡ placed_tag text (read_lines number (version_of v).tag l.prior [] (drop at text))
+        → Listed v text rest count (k + 1) next (number + (1 + v)) (tag.address + tag.width / 16) (set addr k tag.address) (set width k tag.width) (set sign k tag.sign) (set ttl k tag.ttl) (set strict k tag.strict)
+    listed_more h tag next e =
+        let t = tagged text l.prior v at number tag next listed.0 (omega (arith, listed.1)) l.inside e in
         let turn : (k + 1) * (1 + v) ≡ k * (1 + v) + (1 + v) = simp (add-mul, one-mul) in
         let lines : number + length (version_of v).tag ≡ number + (1 + v) = ap (number +◌) (lines_count v listed) in
         record {
@@ -101,11 +98,11 @@ module _ (v : ℕ) (listed : (1 ≤ v) × (v ≤ newest_version)) (text rest : L
               ∙ ap (onto l.tags) (rw one_left (tag_right (count - (k + 1)) number (version_of v).tag l.prior (drop at text) t.own (drop next text) t.read))
               ∙ onto_onto l.tags (tag_from t.own ∷ []) (read_tags (count - (k + 1)) (number + length (version_of v).tag) (version_of v).tag t.own (drop next text))
               ∙ rw (t.tag, lines);
-          addrs = rw l.addrs (filled_more (λ (u : Tag). u.address) l.tags tag k address l.size (omega arith) refl);
-          widths = rw l.widths (filled_more (λ (u : Tag). u.width) l.tags tag k bits l.size (omega arith) refl);
-          signs = rw l.signs (filled_more (λ (u : Tag). u.sign) l.tags tag k signed l.size (omega arith) refl);
-          ttls = rw l.ttls (filled_more (λ (u : Tag). u.ttl) l.tags tag k lasting l.size (omega arith) refl);
-          marks = rw l.marks (filled_more (λ (u : Tag). u.strict) l.tags tag k marked l.size (omega arith) refl);
+          addrs = rw l.addrs (filled_more (λ (u : Tag). u.address) l.tags tag k tag.address l.size (omega arith) refl);
+          widths = rw l.widths (filled_more (λ (u : Tag). u.width) l.tags tag k tag.width l.size (omega arith) refl);
+          signs = rw l.signs (filled_more (λ (u : Tag). u.sign) l.tags tag k tag.sign l.size (omega arith) refl);
+          ttls = rw l.ttls (filled_more (λ (u : Tag). u.ttl) l.tags tag k tag.ttl l.size (omega arith) refl);
+          marks = rw l.marks (filled_more (λ (u : Tag). u.strict) l.tags tag k tag.strict l.size (omega arith) refl);
         }
 
   module _ (all : count ≤ k) where
@@ -130,39 +127,16 @@ module _ (v : ℕ) (listed : (1 ≤ v) × (v ≤ newest_version)) (text rest : L
         let n : 5 + length (version_of v).tag * length l.tags ≡ number = rw (lines_count v listed, l.size, mul_comm (1 + v) k) (sym l.line) in
         rw (listed_all, read_behind) (rw e (ap wrong n))
 
--- what was found: no wrong line, and the value stands in the settings; or the first wrong line
-abbrev pub Found : List ℕ → ℕ → Settings → Type 0
-Found text w s = (w ≡ 0 → right s ≡ reported (read_text text)) × ((w ≡ 0 → ⊥) → read_text text ≡ wrong w)
+-- behind the loop: the text ends behind the tags, or goes on; and a wrong line stopped it
+module _ (text : List ℕ) (h : Head) (right_head : HeadRight h text) {k at number least : ℕ} {addr width sign ttl strict : List ℕ} (l : Listed h.version text (drop h.next text) h.tags k at number least addr width sign ttl strict) where
+  pub tags_ended : (s : Settings) → s.addr ≡ addr → s.width ≡ width → s.sign ≡ sign → s.ttl ≡ ttl → s.strict ≡ strict → h.tags ≤ k → at ≡ length text → TagsRead h text (Ok tt) s
+  unfolding TagsRead
+  tags_ended s a w g i m all e = rw (a, w, g, i, m) (listed-done _ right_head.listed _ _ _ _ _ _ _ _ _ _ _ _ _ _ l all e)
 
-pub found-answered : (text : List ℕ) {w : ℕ} {s : Settings} → Found text w s → answered w s ≡ reported (read_text text)
-unfolding answered
-found-answered text {w} f = ⊎_elim (λ (z : w ≡ 0). rw (eq-eqb w 0 z) (f.0 z)) (λ (n : w ≡ 0 → ⊥). rw (ne_eqb w 0 n) (ap reported (sym (f.1 n)))) (eq_or w 0)
+  pub tags_extra : (s : Settings) → h.tags ≤ k → (at ≡ length text → ⊥) → TagsRead h text (Err (wrong_at number)) s
+  unfolding TagsRead
+  tags_extra s all d = listed_extra _ right_head.listed _ _ _ _ _ _ _ _ _ _ _ _ _ _ l all d
 
-found_wrong : (text : List ℕ) (s : Settings) (k w : ℕ) → read_text text ≡ wrong k → w ≡ k → Found text w s
-found_wrong text s k w e q = (λ z. let l = wrong_most text k e in absurd (omega (arith, l.0)), λ n. rw q e)
-
-module _ (text : List ℕ) (h : Head) (headed : Headed (read_text text) text h) {k at number least : ℕ} {addr width sign ttl strict : List ℕ} (l : Listed h.version text (drop h.next text) h.tags k at number least addr width sign ttl strict) (w : ℕ) where
-  pub found_all : h.tags ≤ k → w ≡ wrong_line h.wrong number (eqb at (length text)) → Found text w (settings h.timeout h.join h.tags addr width sign ttl strict)
-  unfolding wrong_line
-  found_all all q =
-      ⊎_elim
-      (λ (z : h.wrong ≡ 0).
-      ⊎_elim
-      (λ (e : at ≡ length text).
-      let none : w ≡ 0 = q ∙ rw (z, eq-eqb at (length text) e) in
-      (λ _. listed-done _ headed.listed _ _ _ _ _ _ _ _ _ _ _ _ _ _ l all e ∙ ap reported (sym (headed.right z)), λ n. absurd (n none)))
-      (λ (d : at ≡ length text → ⊥). found_wrong text _ number w (headed.right z ∙ listed_extra _ headed.listed _ _ _ _ _ _ _ _ _ _ _ _ _ _ l all d) (q ∙ rw (z, ne_eqb at (length text) d)))
-      (eq_or at (length text)))
-      (λ (n : h.wrong ≡ 0 → ⊥). found_wrong text _ h.wrong w (headed.stop n).0 (q ∙ rw (ne_eqb h.wrong 0 n)))
-      (eq_or h.wrong 0)
-
-  pub found-stop : k < h.tags → (j : ℕ) (ended : Bool) → WrongAt j ≡ placed_tag text (read_lines number (version_of h.version).tag l.prior [] (drop at text)) → w ≡ wrong_line j number ended → Found text w (settings h.timeout h.join h.tags addr width sign ttl strict)
-  unfolding wrong_line
-  found-stop more j ended e q =
-      ⊎_elim
-      (λ (z : h.wrong ≡ 0).
-      let read = headed.right z ∙ listed-stop _ headed.listed _ _ _ _ _ _ _ _ _ _ _ _ _ _ l more j e in
-      let some = wrong_most text j read in
-      found_wrong text _ j w read (q ∙ rw (ne_eqb j 0 (λ none. omega (arith, some.0)))))
-      (λ (n : h.wrong ≡ 0 → ⊥). absurd (omega (arith, (headed.stop n).1)))
-      (eq_or h.wrong 0)
+  pub tags_stopped : (s : Settings) (e : WrongLine) → k < h.tags → Err e ≡ placed_tag text (read_lines number (version_of h.version).tag l.prior [] (drop at text)) → TagsRead h text (Err e) s
+  unfolding TagsRead
+  tags_stopped s e more q = listed-stop _ right_head.listed _ _ _ _ _ _ _ _ _ _ _ _ _ _ l more e.0 q

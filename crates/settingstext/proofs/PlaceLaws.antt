@@ -1,6 +1,8 @@
 -- The turns of the two loops over bytes: the bytes of a key, and the digits of a number.
 -- Assumes nothing.
-use Prim.Native.Nat.{ℕ, suc, ◌+◌, ◌*◌, ◌-◌, ◌≤◌, ◌<◌, min}
+use Rattle.std.specs.Prelude.{Some, None}
+use Rattle.std.specs.List.{starts_with}
+use Prim.Native.Nat.{ℕ, ◌+◌, ◌*◌, ◌-◌, ◌≤◌, ◌<◌, min}
 use mathlib.Core.Path.{◌≡◌, refl, sym, ◌∙◌}
 use mathlib.Core.Logic.{⊎_elim}
 use mathlib.Core.Bool.{Bool, true, false, not, ◌&&◌, ◌||◌}
@@ -14,40 +16,16 @@ use lib.Dec.{eqb, ltb}
 use borrow.Author.Tests.{eq-eqb, ne_eqb, le-leb, le-ltb, eqb-true, eqb-false, ltb-false, not-true, not-false}
 use Rattle.laws.proofs.Choice.{true_or, eq_or, and_left, and_right, or_left, or_right, or_second}
 use Rattle.settings.specs.Lines.{Numbered, line_feed, digit_zero, digit_nine, is_digit, leading, trailing, plain, number_from, behind, number_in}
-use Rattle.settingstext.specs.declared.reading.LineRead.TheVariants.{Numbered as numbered_at, Wrong}
 use Rattle.settingstext.specs.inner.Reading.{ceiling, capped, found, placed}
 use Rattle.settings.proofs.LineLaws.{digit_range, digit-first, digits_then, digits_lead, number_then, number_grows, number_ends, number_unended, number_unplain}
 use Rattle.laws.proofs.ListLaws.{nothing}
 
--- a beginning, of which i bytes stand in the text: all of it, a text that ends, a byte that differs, one that does not
-pub record Begun (key text : List ℕ) (at i : ℕ) : Type 0 where
-  pub some : i ≤ length key
-  pub left : behind key (drop at text) ≡ behind (drop i key) (drop (at + i) text)
-
-pub begun_none : (key text : List ℕ) (at : ℕ) → Begun key text at 0
-begun_none key text at = let e : at + 0 ≡ at = omega arith in record { some = omega arith; left = rw e }
-
-pub begun_all : (key text : List ℕ) (at i : ℕ) → Begun key text at i → length key ≤ i → true ≡ found (behind key (drop at text))
+-- a text that starts with a key has something behind it
+pub starts-found : (key t : List ℕ) → starts_with eqb t key ≡ found (behind key t)
 unfolding found behind
-begun_all key text at i b h = rw (b.left, drop_of_length-le key h)
-
-module _ (key text : List ℕ) (at i : ℕ) (b : Begun key text at i) (more : i < length key) where
-  pub begun_short : length text ≤ at + i → false ≡ found (behind key (drop at text))
-  unfolding found behind
-  begun_short h = rw (b.left, drop_of_length-le text h, drop-cons key i 0 more)
-
-  pub begun_other : at + i < length text → (get_or text (at + i) 0 ≡ get_or key i 0 → ⊥) → false ≡ found (behind key (drop at text))
-  unfolding found behind
-  begun_other h d = rw (b.left, drop-cons key i 0 more, drop-cons text (at + i) 0 h, ne_eqb (get_or key i 0) (get_or text (at + i) 0) (λ e. d (sym e)))
-
-  pub begun_more : at + i < length text → get_or text (at + i) 0 ≡ get_or key i 0 → Begun key text at (i + 1)
-  unfolding behind
-  begun_more h e =
-      let n : at + (i + 1) ≡ suc (at + i) = omega arith in
-      record {
-        some = omega arith;
-        left = b.left ∙ rw (drop-cons key i 0 more, drop-cons text (at + i) 0 h, eq-eqb (get_or key i 0) (get_or text (at + i) 0) (sym e), n, add-one i);
-      }
+starts-found [] t = refl
+starts-found (c ∷ cs) [] = refl
+starts-found (c ∷ cs) (b ∷ t) = ⊎_elim (λ (e : eqb c b ≡ true). rw e (starts-found cs t)) (λ (e : eqb c b ≡ false). rw e) (true_or (eqb c b))
 
 -- the digits from one place to the next, and the number that they are
 
@@ -101,7 +79,7 @@ module _ (text : List ℕ) (at next number : ℕ) (k : Counted text at next numb
     next_byte : drop at text ≡ k.digits ++ (byte ∷ drop (next + 1) text)
     next_byte = k.whole ∙ rw (add-one next, drop-cons text next 0 more)
 
-    pub counted-done : ends at next (byte) ≡ true → numbered_at number (next + 1) ≡ placed text (capped (number_in (drop at text)))
+    pub counted-done : ends at next (byte) ≡ true → Some (number, next + 1) ≡ placed text (capped (number_in (drop at text)))
     unfolding placed capped
     counted-done t =
         let lf : byte ≡ line_feed = eqb-true (byte) line_feed (and_left _ (not (eqb next at)) t) in
@@ -173,6 +151,6 @@ module _ (text : List ℕ) (at next number : ℕ) (k : Counted text at next numb
           value = rw (number_then 0 k.digits (byte ∷ []), k.value) (omega arith);
         }
 
-pub refused : (text : List ℕ) (o : Option Numbered) → o ≡ none → Wrong ≡ placed text (capped o)
+pub refused : (text : List ℕ) (o : Option Numbered) → o ≡ none → None ≡ placed text (capped o)
 unfolding placed capped
 refused text o e = rw e

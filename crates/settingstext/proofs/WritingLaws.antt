@@ -1,15 +1,14 @@
 -- The writer's parts: decimals of any number of digits, lines, tags and the whole text, their lengths and how they are laid over the buffer.
 -- Assumes nothing.
+use Rattle.std.specs.Prelude.{Ok, Err}
 use Prim.Native.Nat.{ℕ, zero, suc, ◌+◌, ◌*◌, ◌-◌, ◌/◌, ◌%◌, ◌^◌, ◌≤◌, ◌<◌}
 use mathlib.Core.Path.{◌≡◌, refl, ap, sym, ◌∙◌}
 use mathlib.Core.Logic.{⊎_elim}
 use mathlib.Core.Bool.{Bool, true, false}
 use mathlib.Core.List.{List, [], ◌∷◌, ◌++◌, flat_map, append_assoc, append-nil}
 use native.Mathlib.Nat.{pow-succ', zero-add, add-zero}
-use native.Mathlib.Numerals.{add-one}
 use native.Mathlib.Omega.{arith}
-use lib.ListN.{length, get_or, set, length-append, length-set}
-use lib.Seq.{paste, paste-zero, paste-suc}
+use lib.ListN.{length, set, length-append}
 use borrow.Author.Tests.{lt-ltb, le-ltb}
 use Rattle.laws.specs.Lists.{tab}
 use Rattle.laws.specs.Bytes.{over_at, over}
@@ -20,10 +19,10 @@ use Rattle.settings.specs.Grammar.{Tag, Value, newest, version_key, timeout_key,
 use Rattle.settings.specs.declared.Settings.{Settings}
 use Rattle.settings.specs.Values.{value_of}
 use Rattle.settingstext.specs.TextWritten.{writing, written_to}
-use Rattle.settingstext.specs.declared.writing.Wrote.TheVariants.{Text, TooShort, Invalid}
+use Rattle.settingstext.specs.declared.writing.WriteError.TheVariants.{TooShort, Invalid}
 use Rattle.settingstext.specs.inner.Parts.{Laid, head_text, tag_text, tags_text}
 use Rattle.settings.proofs.ValueLaws.{tag_at}
-use Rattle.laws.proofs.ByteLaws.{over_at-none, over_at-paste, length-over_at, over_at_front, over_at-behind, over_at-over}
+use Rattle.laws.proofs.ByteLaws.{over_at-none, length-over_at, over_at_front, over_at-behind, over_at-over}
 
 -- one digit is the number itself; a number of more digits is written as its tenth and the last digit
 pub decimal_last : (k n : ℕ) → n < 10 → decimal_of (suc k) n ≡ (digit_zero + n % 10) ∷ []
@@ -90,30 +89,6 @@ counted_all {n} {left} {count} h w = omega (arith, w.all, ap length (decimal_las
 pub laid_byte : (x at : ℕ) (b : List ℕ) → at < length b → Laid (x ∷ []) at b (set b at x) (at + 1)
 laid_byte x at b h = record { bytes = ap (λ (y : List ℕ). set y at x) (sym (over_at-none (at + 1) b)) ∙ over_at_front [] at b x h; behind = refl }
 
--- a copy, byte by byte
-pub record Copied (w : List ℕ) (at : ℕ) (before after : List ℕ) (k : ℕ) : Type 0 where
-  pub fits : at + length w ≤ length before
-  pub within : k ≤ length w
-  pub long : length after ≡ length before
-  pub bytes : after ≡ paste before at w k
-
-pub copied_none : (w : List ℕ) (at : ℕ) (b : List ℕ) → at + length w ≤ length b → Copied w at b b 0
-copied_none w at b h = record { fits = h; within = omega arith; long = refl; bytes = paste-zero b at w }
-
-pub copied_more : {w : List ℕ} {at : ℕ} {b a : List ℕ} {k : ℕ} → k < length w → Copied w at b a k → Copied w at b (set a (at + k) (get_or w k 0)) (k + 1)
-copied_more {w} {at} {b} {a} {k} h c =
-    record {
-      fits = c.fits;
-      within = omega arith;
-      long = length-set a (at + k) (get_or w k 0) ∙ c.long;
-      bytes = rw (add-one k, c.bytes) (paste-suc b at w k 0 (omega (arith, c.fits)) h);
-    }
-
-pub copied_all : {w : List ℕ} {at : ℕ} {b a : List ℕ} {k : ℕ} → length w ≤ k → Copied w at b a k → Laid w at b a (at + k)
-copied_all {w} {at} {b} {a} {k} h c =
-    let e : k ≡ length w = omega (arith, c.within) in
-    record { bytes = c.bytes ∙ rw e (over_at-paste w at b); behind = rw e }
-
 -- how long the parts are
 pub length-line : (key : List ℕ) (n : ℕ) → length (line_of key n) ≡ length key + 1 + length (decimal n) + 1
 unfolding line_of
@@ -126,9 +101,9 @@ pub head_lines_lem : (timeout join tags : ℕ) → head_text timeout join tags �
 unfolding head_text text_of_lines
 head_lines_lem timeout join tags = rw append-nil
 
-pub tag_lines_lem : (address width sign ttl strict : ℕ) → tag_text address width sign ttl strict ≡ line_of addr_key address ++ (line_of width_key width ++ (line_of sign_key sign ++ (line_of ttl_key ttl ++ line_of strict_key strict)))
+pub tag_lines_lem : (t : Tag) → tag_text t ≡ line_of addr_key t.address ++ (line_of width_key t.width ++ (line_of sign_key t.sign ++ (line_of ttl_key t.ttl ++ line_of strict_key t.strict)))
 unfolding tag_text text_of_lines
-tag_lines_lem address width sign ttl strict = rw append-nil
+tag_lines_lem t = rw append-nil
 
 pub length_head : (timeout join tags : ℕ) → length (head_text timeout join tags) ≡ length (line_of version_key newest.number) + length (line_of timeout_key timeout) + length (line_of join_key join) + length (line_of tags_key tags)
 length_head timeout join tags =
@@ -140,21 +115,20 @@ length_head timeout join tags =
       length-append (line_of join_key join) (line_of tags_key tags),
     ))
 
-pub length-tag : (address width sign ttl strict : ℕ)
-    → length (tag_text address width sign ttl strict) ≡ length (line_of addr_key address) + length (line_of width_key width) + length (line_of sign_key sign) + length (line_of ttl_key ttl) + length (line_of strict_key strict)
-length-tag address width sign ttl strict =
-    rw (tag_lines_lem address width sign ttl strict)
+pub length-tag : (t : Tag) → length (tag_text t) ≡ length (line_of addr_key t.address) + length (line_of width_key t.width) + length (line_of sign_key t.sign) + length (line_of ttl_key t.ttl) + length (line_of strict_key t.strict)
+length-tag t =
+    rw (tag_lines_lem t)
     (omega (
       arith,
-      length-append (line_of addr_key address) (line_of width_key width ++ (line_of sign_key sign ++ (line_of ttl_key ttl ++ line_of strict_key strict))),
-      length-append (line_of width_key width) (line_of sign_key sign ++ (line_of ttl_key ttl ++ line_of strict_key strict)),
-      length-append (line_of sign_key sign) (line_of ttl_key ttl ++ line_of strict_key strict),
-      length-append (line_of ttl_key ttl) (line_of strict_key strict),
+      length-append (line_of addr_key t.address) (line_of width_key t.width ++ (line_of sign_key t.sign ++ (line_of ttl_key t.ttl ++ line_of strict_key t.strict))),
+      length-append (line_of width_key t.width) (line_of sign_key t.sign ++ (line_of ttl_key t.ttl ++ line_of strict_key t.strict)),
+      length-append (line_of sign_key t.sign) (line_of ttl_key t.ttl ++ line_of strict_key t.strict),
+      length-append (line_of ttl_key t.ttl) (line_of strict_key t.strict),
     ))
 
 -- the text of a place, and of the first k places
 abbrev pub place_text : Settings → ℕ → List ℕ
-place_text s k = tag_text (tag_at s k).address (tag_at s k).width (tag_at s k).sign (tag_at s k).ttl (tag_at s k).strict
+place_text s k = tag_text (tag_at s k)
 
 abbrev pub tags_to : Settings → ℕ → List ℕ
 tags_to s k = tags_text (tab k (tag_at s))
@@ -175,7 +149,7 @@ tags-none s = refl
 
 tags_more : (s : Settings) (k : ℕ) → tags_to s (k + 1) ≡ tags_to s k ++ place_text s k
 unfolding tags_text
-tags_more s k = flat_map_more (λ (t : Tag). tag_text t.address t.width t.sign t.ttl t.strict) k (tag_at s)
+tags_more s k = flat_map_more tag_text k (tag_at s)
 
 length_more : (s : Settings) (k : ℕ) → length (tags_to s (k + 1)) ≡ length (tags_to s k) + length (place_text s k)
 length_more s k = ap length (tags_more s k) ∙ length-append (tags_to s k) (place_text s k)
@@ -270,7 +244,7 @@ measured_more {s} {size} {size'} {k} h w e =
         arith,
         e,
         w.most,
-        length-tag (tag_at s k).address (tag_at s k).width (tag_at s k).sign (tag_at s k).ttl (tag_at s k).strict,
+        length-tag (tag_at s k),
         line_most addr_key (tag_at s k).address,
         line_most width_key (tag_at s k).width,
         line_most sign_key (tag_at s k).sign,
@@ -303,10 +277,10 @@ laid_head timeout join tags {b} x y z t =
     let h : 0 ≤ length b = omega arith in
     rw (head_lines_lem timeout join tags) (simp append_assoc at (laid_then h (laid_then h (laid_then h x y) z) t))
 
-pub laid-tag : (address width sign ttl strict : ℕ) {at : ℕ} {b m₁ m₂ m₃ m₄ a : List ℕ} {e₁ e₂ e₃ e₄ end : ℕ} → at ≤ length b
-    → Laid (line_of addr_key address) at b m₁ e₁ → Laid (line_of width_key width) e₁ m₁ m₂ e₂ → Laid (line_of sign_key sign) e₂ m₂ m₃ e₃ → Laid (line_of ttl_key ttl) e₃ m₃ m₄ e₄ → Laid (line_of strict_key strict) e₄ m₄ a end
-    → Laid (tag_text address width sign ttl strict) at b a end
-laid-tag address width sign ttl strict h x y z t u = rw (tag_lines_lem address width sign ttl strict) (simp append_assoc at (laid_then h (laid_then h (laid_then h (laid_then h x y) z) t) u))
+pub laid-tag : (g : Tag) {at : ℕ} {b m₁ m₂ m₃ m₄ a : List ℕ} {e₁ e₂ e₃ e₄ end : ℕ} → at ≤ length b
+    → Laid (line_of addr_key g.address) at b m₁ e₁ → Laid (line_of width_key g.width) e₁ m₁ m₂ e₂ → Laid (line_of sign_key g.sign) e₂ m₂ m₃ e₃ → Laid (line_of ttl_key g.ttl) e₃ m₃ m₄ e₄ → Laid (line_of strict_key g.strict) e₄ m₄ a end
+    → Laid (tag_text g) at b a end
+laid-tag g h x y z t u = rw (tag_lines_lem g) (simp append_assoc at (laid_then h (laid_then h (laid_then h (laid_then h x y) z) t) u))
 
 -- writing the tags: the first k stand
 pub record Written (s : Settings) (at : ℕ) (before after : List ℕ) (next k : ℕ) : Type 0 where
@@ -344,16 +318,16 @@ pub laid_text : (s : Settings) {b m a : List ℕ} {next end : ℕ} → Laid (hea
 laid_text s x y = rw (text_parts s) (laid_then (omega arith) x y)
 
 -- what writing comes to: an invalid value, a text that does not fit, the text
-pub wrote_invalid : (v : Value) (b : List ℕ) {right : Bool} → right ≡ valid v → right ≡ false → writing Invalid b ≡ written_to v b
+pub wrote_invalid : (v : Value) (b : List ℕ) {right : Bool} → right ≡ valid v → right ≡ false → writing (Err Invalid) b ≡ written_to v b
 unfolding written_to
 wrote_invalid v b e f = rw (← e) (rw f refl)
 
-pub wrote_short : (v : Value) (b : List ℕ) {right : Bool} {size : ℕ} → right ≡ valid v → right ≡ true → size ≡ length (text_in newest v) → length b < size → writing TooShort b ≡ written_to v b
+pub wrote_short : (v : Value) (b : List ℕ) {right : Bool} {size : ℕ} → right ≡ valid v → right ≡ true → size ≡ length (text_in newest v) → length b < size → writing (Err TooShort) b ≡ written_to v b
 unfolding written_to
 wrote_short v b {size = size} e t q h = rw (← e, t, ← q, lt-ltb (length b) size h)
 
 pub wrote_text_lem : (v : Value) {b a : List ℕ} {right : Bool} {size end : ℕ} → right ≡ valid v → right ≡ true → size ≡ length (text_in newest v) → size ≤ length b → Laid (text_in newest v) 0 b a end
-    → writing (Text end) a ≡ written_to v b
+    → writing (Ok end) a ≡ written_to v b
 unfolding written_to
 wrote_text_lem v {b} {a} {end = end} e t q h w =
     let n : end ≡ length (text_in newest v) = w.behind ∙ zero-add (length (text_in newest v)) in

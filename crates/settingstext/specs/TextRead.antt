@@ -1,7 +1,5 @@
 -- What reading a text reports.
 -- Assumes nothing.
-use Rattle.std.specs.Prelude.{ℕ, cond, eqb}
-use Rattle.settings.specs.declared.Settings.{Settings}
 use Rattle.settings.specs.Grammar.{Value, Read}
 use Rattle.settings.specs.Grammar.Read.{got, wrong}
 use Rattle.settings.specs.Values.{settings_of, usual}
@@ -11,7 +9,3 @@ use Rattle.settingstext.specs.declared.reading.ReadText.{ReadText}
 unfoldable pub reported : Read Value → ReadText
 reported (got v r) = record { line = 0; settings = settings_of v }
 reported (wrong k) = record { line = k; settings = settings_of usual }
-
--- the same of a line that is 0 where nothing is wrong, and of what was read then
-unfoldable pub answered : ℕ → Settings → ReadText
-answered line s = cond (eqb line 0) (record { line = 0; settings = s }) (reported (wrong line))

@@ -3,16 +3,16 @@ ghost use Rattle.std.specs.Prelude.{◌≡◌, [], ◌∷◌, ◌+◌, ◌%◌, 
 ghost use Rattle.numbers.specs.Numbers.{most_tags};
 ghost use Rattle.settings.specs.Lines.{digit_zero, decimal, line_of};
 ghost use Rattle.settings.specs.Grammar.{newest, text_in};
-ghost use Rattle.settings.specs.Values.{settings, listed, value_of};
+ghost use Rattle.settings.specs.Values.{value_of};
 ghost use Rattle.settingstext.specs.TextWritten.{writing, written_to};
 ghost use Rattle.settingstext.specs.inner.Parts.{Laid, head_text, tag_text, tags_text};
 
+use settings::{Settings, Tag};
 use values::is_valid;
 
-// What writing comes to: the text's length, or a refusal: the buffer is too short, the value is invalid.
-#[derive(Clone, Copy)]
-pub enum Wrote {
-    Text(usize),
+// Why no text is written: the buffer is too short, or the value is invalid.
+#[derive(Clone, Copy, PartialEq, Eq)]
+pub enum WriteError {
     TooShort,
     Invalid,
 }
@@ -36,43 +36,32 @@ fn line_length(key: &[u8], n: u32) -> usize
     key.len() + 1 + digit_count(n) + 1
 }
 
-fn head_length(timeout: u32, join: u32, tags: u32) -> usize
-    ensures { result ≡ length (head_text timeout join tags) }
+fn head_length(s: &Settings) -> usize
+    ensures { result ≡ length (head_text s.now.timeout s.now.join s.now.tags) }
 {
     line_length(b"version", numbers::NEWEST_VERSION)
-        + line_length(b"timeout", timeout)
-        + line_length(b"join", join)
-        + line_length(b"tags", tags)
+        + line_length(b"timeout", s.timeout)
+        + line_length(b"join", s.join)
+        + line_length(b"tags", s.tags)
 }
 
-fn tag_length(address: u16, width: u16, sign: u16, ttl: u16, strict: u16) -> usize
-    ensures { result ≡ length (tag_text address width sign ttl strict) }
+fn tag_length(tag: Tag) -> usize
+    ensures { result ≡ length (tag_text tag) }
 {
-    line_length(b"addr", address as u32)
-        + line_length(b"width", width as u32)
-        + line_length(b"sign", sign as u32)
-        + line_length(b"ttl", ttl as u32)
-        + line_length(b"strict", strict as u32)
+    line_length(b"addr", tag.address as u32)
+        + line_length(b"width", tag.width as u32)
+        + line_length(b"sign", tag.sign as u32)
+        + line_length(b"ttl", tag.ttl as u32)
+        + line_length(b"strict", tag.strict as u32)
 }
 
-fn text_length<'a>(
-    timeout: u32,
-    join: u32,
-    tags: u32,
-    addr: &'a [u16; numbers::MOST_TAGS],
-    width: &'a [u16; numbers::MOST_TAGS],
-    sign: &'a [u16; numbers::MOST_TAGS],
-    ttl: &'a [u16; numbers::MOST_TAGS],
-    strict: &'a [u16; numbers::MOST_TAGS],
-) -> usize
-    requires { tags ≤ most_tags }
-    ensures { result ≡ length (text_in newest (value_of (settings timeout join tags addr.now width.now sign.now ttl.now strict.now))) }
+fn text_length(s: &Settings) -> usize
+    requires { s.now.tags ≤ most_tags }
+    ensures { result ≡ length (text_in newest (value_of s.now)) }
 {
-    let mut size = head_length(timeout, join, tags);
-    let mut k: usize = 0;
-    while k < tags as usize {
-        size += tag_length(addr[k], width[k], sign[k], ttl[k], strict[k]);
-        k += 1;
+    let mut size = head_length(s);
+    for k in 0..s.tags as usize {
+        size += tag_length(s.tag(k));
     }
     size
 }
@@ -90,12 +79,9 @@ fn write_bytes(bytes: &[u8], at: usize, text: &mut [u8]) -> usize
     requires { at + length bytes.now ≤ length text.old }
     ensures { Laid bytes.now at text.old text.new result }
 {
-    let mut k: usize = 0;
-    while k < bytes.len() {
-        text[at + k] = bytes[k];
-        k += 1;
-    }
-    at + k
+    let end = at + bytes.len();
+    text[at..end].copy_from_slice(bytes);
+    end
 }
 
 fn last_digit(n: u32) -> u8
@@ -131,77 +117,48 @@ fn write_line(key: &[u8], n: u32, at: usize, text: &mut [u8]) -> usize
     write_byte(b'\n', end, text)
 }
 
-fn write_head(timeout: u32, join: u32, tags: u32, text: &mut [u8]) -> usize
-    requires { length (head_text timeout join tags) ≤ length text.old }
-    ensures { Laid (head_text timeout join tags) 0 text.old text.new result }
+fn write_head(s: &Settings, text: &mut [u8]) -> usize
+    requires { length (head_text s.now.timeout s.now.join s.now.tags) ≤ length text.old }
+    ensures { Laid (head_text s.now.timeout s.now.join s.now.tags) 0 text.old text.new result }
 {
     let second = write_line(b"version", numbers::NEWEST_VERSION, 0, text);
-    let third = write_line(b"timeout", timeout, second, text);
-    let fourth = write_line(b"join", join, third, text);
-    write_line(b"tags", tags, fourth, text)
+    let third = write_line(b"timeout", s.timeout, second, text);
+    let fourth = write_line(b"join", s.join, third, text);
+    write_line(b"tags", s.tags, fourth, text)
 }
 
-fn write_tag(
-    address: u16,
-    width: u16,
-    sign: u16,
-    ttl: u16,
-    strict: u16,
-    at: usize,
-    text: &mut [u8],
-) -> usize
-    requires { at + length (tag_text address width sign ttl strict) ≤ length text.old }
-    ensures { Laid (tag_text address width sign ttl strict) at text.old text.new result }
+fn write_tag(tag: Tag, at: usize, text: &mut [u8]) -> usize
+    requires { at + length (tag_text tag) ≤ length text.old }
+    ensures { Laid (tag_text tag) at text.old text.new result }
 {
-    let second = write_line(b"addr", address as u32, at, text);
-    let third = write_line(b"width", width as u32, second, text);
-    let fourth = write_line(b"sign", sign as u32, third, text);
-    let fifth = write_line(b"ttl", ttl as u32, fourth, text);
-    write_line(b"strict", strict as u32, fifth, text)
+    let second = write_line(b"addr", tag.address as u32, at, text);
+    let third = write_line(b"width", tag.width as u32, second, text);
+    let fourth = write_line(b"sign", tag.sign as u32, third, text);
+    let fifth = write_line(b"ttl", tag.ttl as u32, fourth, text);
+    write_line(b"strict", tag.strict as u32, fifth, text)
 }
 
-fn write_tags<'a>(
-    tags: u32,
-    addr: &'a [u16; numbers::MOST_TAGS],
-    width: &'a [u16; numbers::MOST_TAGS],
-    sign: &'a [u16; numbers::MOST_TAGS],
-    ttl: &'a [u16; numbers::MOST_TAGS],
-    strict: &'a [u16; numbers::MOST_TAGS],
-    at: usize,
-    text: &mut [u8],
-) -> usize
-    requires { (tags ≤ most_tags) × (at + length (tags_text (listed tags addr.now width.now sign.now ttl.now strict.now)) ≤ length text.old) }
-    ensures { Laid (tags_text (listed tags addr.now width.now sign.now ttl.now strict.now)) at text.old text.new result }
+fn write_tags(s: &Settings, at: usize, text: &mut [u8]) -> usize
+    requires { (s.now.tags ≤ most_tags) × (at + length (tags_text (value_of s.now).tags) ≤ length text.old) }
+    ensures { Laid (tags_text (value_of s.now).tags) at text.old text.new result }
 {
     let mut next = at;
-    let mut k: usize = 0;
-    while k < tags as usize {
-        next = write_tag(addr[k], width[k], sign[k], ttl[k], strict[k], next, text);
-        k += 1;
+    for k in 0..s.tags as usize {
+        next = write_tag(s.tag(k), next, text);
     }
     next
 }
 
-// The text of a valid value whose columns are lent. The length is known before the first byte is written, so a refusal touches nothing.
-pub fn write_text<'a>(
-    timeout: u32,
-    join: u32,
-    tags: u32,
-    addr: &'a [u16; numbers::MOST_TAGS],
-    width: &'a [u16; numbers::MOST_TAGS],
-    sign: &'a [u16; numbers::MOST_TAGS],
-    ttl: &'a [u16; numbers::MOST_TAGS],
-    strict: &'a [u16; numbers::MOST_TAGS],
-    text: &mut [u8],
-) -> Wrote
-    ensures { writing result text.new ≡ written_to (value_of (settings timeout join tags addr.now width.now sign.now ttl.now strict.now)) text.old }
+// The text of a valid value that is lent. The length is known before the first byte is written, so a refusal touches nothing.
+pub fn write_text(s: &Settings, text: &mut [u8]) -> Result<usize, WriteError>
+    ensures { writing result text.new ≡ written_to (value_of s.now) text.old }
 {
-    if !is_valid(timeout, join, tags, addr, width, sign, ttl, strict) {
-        return Wrote::Invalid;
+    if !is_valid(s) {
+        return Err(WriteError::Invalid);
     }
-    if text.len() < text_length(timeout, join, tags, addr, width, sign, ttl, strict) {
-        return Wrote::TooShort;
+    if text.len() < text_length(s) {
+        return Err(WriteError::TooShort);
     }
-    let at = write_head(timeout, join, tags, text);
-    Wrote::Text(write_tags(tags, addr, width, sign, ttl, strict, at, text))
+    let at = write_head(s, text);
+    Ok(write_tags(s, at, text))
 }

@@ -1,12 +1,12 @@
--- A place that was made of its numbers in the columns has these numbers; its word, where that is one that a live place may have.
+-- A place that was made of its numbers in the columns has these numbers where it is live; its word, where that is one that a live place may have. A free place has 0 in each.
 -- Assumes nothing.
 use Prim.Native.Nat.{ℕ, ◌≤◌}
-use mathlib.Core.Path.{◌≡◌, refl}
+use mathlib.Core.Path.{◌≡◌}
 use mathlib.Core.Logic.{⊎_elim}
 use mathlib.Core.Bool.{true, false}
 use native.Mathlib.Omega.{arith}
 use lib.Dec.{eqb}
-use borrow.Author.Tests.{eqb-true, eqb-false}
+use borrow.Author.Tests.{eqb-true, eqb-false, ne_eqb}
 use Rattle.numbers.specs.Numbers.{ids}
 use Rattle.laws.proofs.Choice.{true_or}
 use Rattle.pdu.specs.Words.{entry_of}
@@ -25,20 +25,27 @@ module _ (n w c d k : ℕ) where
       (λ (t : eqb n 0 ≡ false). let z = eqb-false n 0 t in rw t (omega (arith, z)))
       (true_or (eqb n 0))
 
-  -- The word of a live place comes back: that of what was asked, with bit 32 where it is a read that is closed.
-  pub word_made : Fit w → word_in (place_of n w c d k) ≡ w
-  unfolding word_in place_of note_of
-  word_made f = rw (entry-what (id_in n) w d) f.1
-
-  -- The other numbers come back as they are.
-  pub caller_back : caller_of (place_of n w c d k) ≡ c
+  -- No more parties wait than the columns say.
+  pub count_within : count_of (place_of n w c d k) ≤ k
   unfolding place_of
-  caller_back = refl
+  count_within = ⊎_elim (λ (t : eqb n 0 ≡ true). rw t (omega arith)) (λ (t : eqb n 0 ≡ false). rw t (omega arith)) (true_or (eqb n 0))
 
-  pub deadline_back : deadline_of (place_of n w c d k) ≡ d
-  unfolding place_of entry_of
-  deadline_back = refl
+  -- a place that is not free
+  module _ (live : n ≡ 0 → ⊥) where
+    -- Its word comes back: that of what was asked, with bit 32 where it is a read that is closed.
+    pub word_made : Fit w → word_in (place_of n w c d k) ≡ w
+    unfolding word_in place_of note_of
+    word_made f = rw (ne_eqb n 0 live, entry-what (id_in n) w d) f.1
 
-  pub count_back : count_of (place_of n w c d k) ≡ k
-  unfolding place_of
-  count_back = refl
+    -- Its other numbers come back as they are.
+    pub caller_back : caller_of (place_of n w c d k) ≡ c
+    unfolding place_of
+    caller_back = rw (ne_eqb n 0 live)
+
+    pub deadline_back : deadline_of (place_of n w c d k) ≡ d
+    unfolding place_of entry_of
+    deadline_back = rw (ne_eqb n 0 live)
+
+    pub count_back : count_of (place_of n w c d k) ≡ k
+    unfolding place_of
+    count_back = rw (ne_eqb n 0 live)

@@ -1,4 +1,3 @@
 pub mod Places
-pub mod Fields
 pub mod States
 pub mod Stepped

@@ -12,8 +12,8 @@ use lib.Dec.{ltb}
 use Rattle.numbers.specs.Numbers.{frame_buffer}
 use Rattle.laws.proofs.Choice.{true_or, lt_or}
 use Rattle.wire.specs.Splitting.{standing_of}
-use Rattle.wire.specs.declared.splitting.Split.{Split}
-use Rattle.wire.specs.declared.splitting.Split.TheVariants.{Frame, MoreNeeded, Refused}
+use Rattle.wire.specs.Splitting.{Standing}
+use Rattle.wire.specs.Splitting.Standing.{Frame, MoreNeeded, Refused}
 use Rattle.wire.proofs.SplittingLaws.{starts, first-size, refused as is_refused_lem}
 use Rattle.stream.specs.Stream.{Stream, stream, refused, TakeOutcome, take_outcome, found, took}
 use Rattle.stream.specs.Hosts.{Fed, start, with, Offer, calls, is_bad}
@@ -33,7 +33,7 @@ pub refusal_exactly : (s : Stream) (p o : List ℕ) → (took s p o).says.refusa
 unfolding took found is_bad
 refusal_exactly s p o = by_short (ltb (length o) 260)
   where
-    by-split : (v : Split) → (found s.kept p o v).says.refusal ≡ cond (is_bad v) 4 0
+    by-split : (v : Standing) → (found s.kept p o v).says.refusal ≡ cond (is_bad v) 4 0
     by-split Frame = refl
     by-split MoreNeeded = refl
     by-split Refused = refl
@@ -55,7 +55,7 @@ record Tells (s : Stream) (p o : List ℕ) (d : TakeOutcome) : Type 0 where
   -- where the mark is not set and the buffer is long enough, something is taken of a piece that is not empty
   uses : s.marked ≡ false → frame_buffer ≤ length o → 0 < length p → 0 < d.says.taken
 
-found-tells : (s : Stream) (p o : List ℕ) → s.marked ≡ false → standing_of s.kept ≡ MoreNeeded → (v : Split) → standing_of (s.kept ++ p) ≡ v → Tells s p o (found s.kept p o v)
+found-tells : (s : Stream) (p o : List ℕ) → s.marked ≡ false → standing_of s.kept ≡ MoreNeeded → (v : Standing) → standing_of (s.kept ++ p) ≡ v → Tells s p o (found s.kept p o v)
 unfolding found
 found-tells s p o m w Frame e =
     let h = (starts (s.kept ++ p) e).whole in

@@ -13,8 +13,8 @@ use Rattle.numbers.specs.Numbers.{uncounted, frame_buffer}
 use Rattle.laws.proofs.Choice.{true_or}
 use Rattle.wire.proofs.FrameLaws.{framed as is_framed}
 use Rattle.wire.specs.Splitting.{standing_of, frames}
-use Rattle.wire.specs.declared.splitting.Split.{Split}
-use Rattle.wire.specs.declared.splitting.Split.TheVariants.{Frame, MoreNeeded, Refused}
+use Rattle.wire.specs.Splitting.{Standing}
+use Rattle.wire.specs.Splitting.Standing.{Frame, MoreNeeded, Refused}
 use Rattle.wire.specs.Plain.{Whole}
 use Rattle.wire.proofs.SplittingLaws.{starts, first-size, first-none, refusal_stays, frames_back_rest}
 use Rattle.stream.specs.Stream.{stream, TakeOutcome, found, took}
@@ -120,7 +120,7 @@ pub record Offers (r : List ℕ) (f : Fed) (p : List ℕ) (d : TakeOutcome) : Ty
   pub all : again d.says ≡ false → Offered (r ++ p) (with f p d)
 
 -- on a stream that still waits
-found_offers : (f : Fed) (p o : List ℕ) → Reads f → f.after.marked ≡ false → (v : Split) → standing_of (f.after.kept ++ p) ≡ v → Offers f.bytes f p (found f.after.kept p o v)
+found_offers : (f : Fed) (p o : List ℕ) → Reads f → f.after.marked ≡ false → (v : Standing) → standing_of (f.after.kept ++ p) ≡ v → Offers f.bytes f p (found f.after.kept p o v)
 unfolding found
 found_offers f p o h m Frame e =
     let k = f.after.kept in

@@ -5,17 +5,18 @@ use mathlib.Core.Path.{◌≡◌, refl, ap, sym, ◌∙◌}
 use mathlib.Core.Logic.{⊎_elim}
 use mathlib.Core.List.{List, [], ◌++◌}
 use native.Mathlib.Omega.{arith}
-use native.Mathlib.Numerals.{add-one}
-use lib.ListN.{length, take, drop, get_or, set, length-append, length-take, take-append-drop}
-use lib.Seq.{paste, paste-suc, take-paste, take_all, take-append-add, length-take-le, take-take}
+use lib.ListN.{length, take, drop, length-append, length-drop, length-take, take-append-drop}
+use lib.Seq.{take_all, take-append-add, length-take-le, take-take}
+use borrow.Rule.Slice.PartMut.{put_mid}
 use borrow.Author.Tests.{lt-ltb, le-ltb, eq-eqb, ne_eqb}
+use Rattle.std.proofs.lemmas.Slice.{take-put_mid}
 use Rattle.numbers.specs.Numbers.{uncounted, frame_buffer, most_frame}
 use Rattle.laws.specs.Bytes.{over}
 use Rattle.laws.proofs.Choice.{lt_or}
 use Rattle.wire.specs.Splitting.{standing_of, first_frame}
-use Rattle.wire.specs.declared.splitting.Split.{Split}
-use Rattle.wire.specs.declared.splitting.Split.TheVariants.{Frame, MoreNeeded, Refused}
-use Rattle.wire.proofs.SplittingLaws.{short_waits, starts, first-size, first-none, frame_stays, refused as is_refused_lem, refusal_stays}
+use Rattle.wire.specs.Splitting.{Standing}
+use Rattle.wire.specs.Splitting.Standing.{Frame, MoreNeeded, Refused}
+use Rattle.wire.proofs.SplittingLaws.{short_waits, starts, first-size, frame_stays, refused as is_refused_lem, refusal_stays}
 use Rattle.stream.specs.Stream.{fresh, refused, framed, wanting, take_outcome, found, took}
 use Rattle.stream.specs.Lent.{lent_stream, stream_of, MadeStream, Takes, Filled}
 use Rattle.stream.proofs.StreamLaws.{unmarked, frame_ends_behind, refusal_is_new, six_are_bad, waits_short}
@@ -24,23 +25,20 @@ use Rattle.stream.proofs.StreamLaws.{unmarked, frame_ends_behind, refusal_is_new
 pub fresh-made : (b : List ℕ) (k : ℕ) → length b ≡ most_frame → k ≡ 0 → MadeStream (lent_stream b 0 k)
 fresh-made b k l z = record { long = l; most = omega arith; stands = rw (eq-eqb k 0 z) (short_waits [] (omega arith)); six = λ y. absurd (unmarked (rw (eq-eqb k 0 z) at y)) }
 
--- one byte more behind the bytes kept
-pub pasted_more : (b p : List ℕ) (from i : ℕ) (d : List ℕ) → from + i < length b → i < length p → d ≡ paste b from p i → set d (from + i) (get_or p i 0) ≡ paste b from p (i + 1)
-pasted_more b p from i d h l e = rw (e, add-one i) (paste-suc b from p i 0 h l)
-
 -- as much of the piece as there is room for
-pub pasted_all : (b p : List ℕ) (from n : ℕ) (d : List ℕ) → length b ≡ most_frame → from ≤ most_frame → n ≡ min (most_frame - from) (length p) → length d ≡ most_frame → d ≡ paste b from p n
-    → Filled b from p (from + n) d
-pasted_all b p from n d l f m k e =
+pub filled : (b p : List ℕ) (from n : ℕ) (part : List ℕ) → length b ≡ most_frame → from ≤ most_frame → n ≡ min (length p) (most_frame - from) → part ≡ take n p
+    → Filled b from p (from + n) (put_mid from (from + n - from) b part)
+filled b p from n part l f m e =
     let a = length-take-le from b (omega arith) in
+    let h : length part ≡ n = rw e (length-take-le n p (omega arith)) in
     let z : take n p ≡ take (most_frame - from) p = ⊎_elim
     (λ (t : most_frame - from < length p). let y : n ≡ most_frame - from = omega arith in ap (λ x. take x p) y)
     (λ (t : length p ≤ most_frame - from). take_all n p (omega arith) ∙ sym (take_all (most_frame - from) p t))
     (lt_or (most_frame - from) (length p)) in
     let y : most_frame ≡ length (take from b) + (most_frame - from) = omega arith in
     record {
-      run = ap (take (from + n)) e ∙ take-paste b from p n (omega arith) (omega arith) ∙ ap (λ x. take from b ++ x) z ∙ sym (take-append-add (take from b) p (most_frame - from)) ∙ ap (λ x. take x (take from b ++ p)) (sym y);
-      long = k;
+      run = take-put_mid from (from + n - from) b part (from + n) (omega arith) (omega arith) ∙ ap (λ x. take from b ++ x) (e ∙ z) ∙ sym (take-append-add (take from b) p (most_frame - from)) ∙ ap (λ x. take x (take from b ++ p)) (sym y);
+      long = simp (length-append, length-drop) (omega arith);
       fits = omega arith;
       behind = omega arith;
     }
@@ -52,22 +50,10 @@ cut_stands r = ⊎_elim
     (λ (b : most_frame ≤ length r). by_cases (standing_of (take most_frame r)) refl (length-take-le most_frame r b))
     (lt_or (length r) most_frame)
   where
-    by_cases : (v : Split) → standing_of (take most_frame r) ≡ v → length (take most_frame r) ≡ most_frame → standing_of (take most_frame r) ≡ standing_of r
+    by_cases : (v : Standing) → standing_of (take most_frame r) ≡ v → length (take most_frame r) ≡ most_frame → standing_of (take most_frame r) ≡ standing_of r
     by_cases Frame e l = e ∙ sym (rw (take-append-drop most_frame r) at (frame_stays (take most_frame r) (drop most_frame r) e).0)
     by_cases MoreNeeded e l = let h = waits_short (take most_frame r) e in absurd (omega arith)
     by_cases Refused e l = e ∙ sym (rw (take-append-drop most_frame r) at (refusal_stays (take most_frame r) (drop most_frame r) e))
-
--- a first frame that is not empty stands there
-pub stands_there : (p : List ℕ) → (length (first_frame p) ≡ 0 → ⊥) → standing_of p ≡ Frame
-stands_there p h = by_cases (standing_of p) refl
-  where
-    other : (standing_of p ≡ Frame → ⊥) → ⊥
-    other n = h (ap length (first-none p n))
-
-    by_cases : (v : Split) → standing_of p ≡ v → standing_of p ≡ Frame
-    by_cases Frame e = e
-    by_cases MoreNeeded e = absurd (other (λ q. let z : ◌≡◌ {A = ℕ} 0 1 = cc in omega arith))
-    by_cases Refused e = absurd (other (λ q. let z : ◌≡◌ {A = ℕ} 0 1 = cc in omega arith))
 
 -- a frame has at most 260 bytes
 pub most_long : (r : List ℕ) → standing_of r ≡ Frame → length (first_frame r) ≤ most_frame
@@ -112,10 +98,10 @@ module _ {b : List ℕ} {n k : ℕ} {p o : List ℕ} {end : ℕ} {d : List ℕ} 
   had : length (take n b) ≡ n
   had = let a = h.made.most in let c = h.made.long in length-take-le n b (omega arith)
 
-  in_run : (v : Split) → standing_of (take end d) ≡ v → standing_of run ≡ v
+  in_run : (v : Standing) → standing_of (take end d) ≡ v → standing_of run ≡ v
   in_run v e = sym (cut_stands run) ∙ ap standing_of (sym f.run) ∙ e
 
-  found_is : (v : Split) → standing_of (take end d) ≡ v → took (stream_of (lent_stream b n k)) p o ≡ found (take n b) p o v
+  found_is : (v : Standing) → standing_of (take end d) ≡ v → took (stream_of (lent_stream b n k)) p o ≡ found (take n b) p o v
   unfolding took
   found_is v e = rw (le-ltb (length o) frame_buffer h.long, eq-eqb k 0 h.none) (ap (found (take n b) p o) (in_run v e))
 
@@ -170,7 +156,3 @@ module _ {b : List ℕ} {n k : ℕ} {p o : List ℕ} {end : ℕ} {d : List ℕ} 
         made = record { long = f.long; most = omega arith; stands = rw (take-take uncounted end d (omega arith)) at c; six = λ y. refl };
         left = λ _ (y : uncounted - n ≡ 0). absurd (omega arith);
       }
-
-  -- the part of the bytes that is looked at has as many bytes as are in it
-  pub run_long : end ≡ length (take end d)
-  run_long = sym (length-take-le end d (omega (arith, f.long, f.fits)))

@@ -16,8 +16,8 @@ use Rattle.laws.proofs.Choice.{true_or, lt_or, or_right}
 use Rattle.laws.proofs.ByteLaws.{pair_append}
 use Rattle.wire.specs.Frame.{protocol_of, length_of, misframed}
 use Rattle.wire.specs.Splitting.{bad_header, standing_of, first_frame}
-use Rattle.wire.specs.declared.splitting.Split.{Split}
-use Rattle.wire.specs.declared.splitting.Split.TheVariants.{Frame, MoreNeeded, Refused}
+use Rattle.wire.specs.Splitting.{Standing}
+use Rattle.wire.specs.Splitting.Standing.{Frame, MoreNeeded, Refused}
 use Rattle.wire.specs.Plain.{Whole}
 use Rattle.wire.proofs.SplittingLaws.{starts, stands, refused as is_refused_lem, six_decide, short_waits, whole_stands, first_taken, first-size, first_is_whole}
 use Rattle.stream.specs.Stream.{Stream, refused, take_outcome, found, took}
@@ -114,7 +114,7 @@ pub reads_on : (f : Fed) (p : List ℕ) (n : ℕ) (o : List ℕ) → Reads f →
 reads_on f p n o h = record { whole = rw (append-nil f.frames) h.whole; parts = rw (append-nil f.frames, append-nil f.bytes) h.parts; stands = h.stands; six = h.six }
 
 -- a call on a stream that still waits
-pub found_reads : (f : Fed) (p o : List ℕ) → f.after.marked ≡ false → Reads f → (v : Split) → standing_of (f.after.kept ++ p) ≡ v → Reads (with f p (found f.after.kept p o v))
+pub found_reads : (f : Fed) (p o : List ℕ) → f.after.marked ≡ false → Reads f → (v : Standing) → standing_of (f.after.kept ++ p) ≡ v → Reads (with f p (found f.after.kept p o v))
 unfolding found
 found_reads f p o m h Frame e =
     let k = f.after.kept in

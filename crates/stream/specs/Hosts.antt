@@ -4,8 +4,8 @@ use Rattle.std.specs.Prelude.{ℕ, zero, suc, Bool, true, false, cond, length, t
 use mathlib.Core.List.{List, [], ◌∷◌, ◌++◌, flatten}
 use Rattle.numbers.specs.Numbers.{uncounted}
 use Rattle.wire.specs.Splitting.{standing_of, frames}
-use Rattle.wire.specs.declared.splitting.Split.{Split}
-use Rattle.wire.specs.declared.splitting.Split.TheVariants.{Frame, MoreNeeded, Refused}
+use Rattle.wire.specs.Splitting.{Standing}
+use Rattle.wire.specs.Splitting.Standing.{Frame, MoreNeeded, Refused}
 use Rattle.stream.specs.Stream.{Stream, stream, fresh, is_frame, TakeOutcome, took}
 use Rattle.stream.specs.declared.Taken.{Taken}
 
@@ -63,7 +63,7 @@ pieces o f (p ∷ ps) = pieces o (drained (suc (length p)) o f p) ps
 abbrev pub remains : List ℕ → List ℕ
 remains r = drop (length (flatten (frames (length r) r))) r
 
-unfoldable pub is_bad : Split → Bool
+unfoldable pub is_bad : Standing → Bool
 is_bad Frame = false
 is_bad MoreNeeded = false
 is_bad Refused = true

@@ -3,8 +3,8 @@
 use Rattle.std.specs.Prelude.{ℕ, ◌≤◌, ◌<◌, ◌≡◌, Bool, true, false, not, List, ◌++◌, length, take, eqb}
 use Rattle.numbers.specs.Numbers.{uncounted, most_frame}
 use Rattle.wire.specs.Splitting.{standing_of}
-use Rattle.wire.specs.declared.splitting.Split.{Split}
-use Rattle.wire.specs.declared.splitting.Split.TheVariants.{MoreNeeded, Refused}
+use Rattle.wire.specs.Splitting.{Standing}
+use Rattle.wire.specs.Splitting.Standing.{MoreNeeded, Refused}
 use Rattle.stream.specs.Stream.{Stream, stream, fresh, is_done, taking, take_outcome, took}
 use Rattle.stream.specs.declared.Taken.{Taken}
 use Rattle.stream.specs.declared.LentStream.{LentStream}
@@ -17,7 +17,7 @@ abbrev pub stream_of : LentStream → Stream
 stream_of i = stream (take i.count i.bytes) (not (eqb i.mark 0))
 
 -- what stands first in the bytes that a stream keeps: more are needed, or, where the mark is set, a bad header
-abbrev pub stood : Bool → Split
+abbrev pub stood : Bool → Standing
 stood true = Refused
 stood false = MoreNeeded
 

@@ -4,8 +4,8 @@ use Rattle.std.specs.Prelude.{ℕ, ◌-◌, Bool, true, false, cond, List, [], �
 use Rattle.numbers.specs.Numbers.{uncounted, frame_buffer}
 use Rattle.laws.specs.Bytes.{over}
 use Rattle.wire.specs.Splitting.{standing_of, first_frame}
-use Rattle.wire.specs.declared.splitting.Split.{Split}
-use Rattle.wire.specs.declared.splitting.Split.TheVariants.{Frame, MoreNeeded, Refused}
+use Rattle.wire.specs.Splitting.{Standing}
+use Rattle.wire.specs.Splitting.Standing.{Frame, MoreNeeded, Refused}
 use Rattle.stream.specs.declared.Taken.{Taken}
 
 -- the bytes of an unfinished frame, and the mark that refusal 4 sets
@@ -55,7 +55,7 @@ take_outcome a s w = record { says = a; after = s; written = w }
 
 -- by what stands first in the bytes kept with the piece behind them: a frame is written and nothing of it is kept; where more bytes are needed the whole piece is kept;
 -- a bad header is refusal 4 at its sixth byte: the bytes up to that are taken, and the mark is set
-unfoldable pub found : (kept piece out : List ℕ) → Split → TakeOutcome
+unfoldable pub found : (kept piece out : List ℕ) → Standing → TakeOutcome
 found k p o Frame = let f = first_frame (k ++ p) in take_outcome (framed (length f) (length f - length k)) fresh (over f o)
 found k p o MoreNeeded = take_outcome (wanting (length p)) (stream (k ++ p) false) o
 found k p o Refused = take_outcome (refused 4 (uncounted - length k)) (stream (take uncounted (k ++ p)) true) o

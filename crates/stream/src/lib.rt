@@ -1,9 +1,10 @@
 // Bytes as they arrive: a stream keeps the bytes of an unfinished frame, takes pieces of any size, and yields frames one by one.
 #![tactic(auto)]
 
-ghost use Rattle.std.specs.Prelude.{◌≡◌, ◌≤◌, min, length};
+ghost use Rattle.std.specs.Prelude.{◌≡◌, ◌≤◌, length};
 ghost use Rattle.numbers.specs.Numbers.{most_frame, frame_buffer};
-ghost use Rattle.stream.specs.Lent.{lent_stream, MadeStream, Takes, Resets, Filled};
+ghost use Rattle.stream.specs.Stream.{refused, framed, wanting};
+ghost use Rattle.stream.specs.Lent.{MadeStream, Takes, Resets, Filled};
 
 use wire::splitting::Split;
 
@@ -18,7 +19,7 @@ pub struct LentStream {
 
 // What a call on a stream answers: C's zb_taken.
 #[repr(C)]
-#[derive(Clone, Copy)]
+#[derive(Clone, Copy, Default)]
 pub struct Taken {
     pub refusal: u32,
     pub outcome: u32,
@@ -33,146 +34,111 @@ const FRAME: u32 = 8;
 
 const MORE: u32 = 9;
 
-// The lesser of two numbers.
-fn lesser(a: usize, b: usize) -> usize
-    ensures { result ≡ min a b }
-{
-    if a < b {
-        return a;
+impl Taken {
+    // A refusal by its number, after which so many bytes of the piece are taken.
+    fn refused(refusal: u32, taken: u32) -> Taken
+        ensures { result ≡ refused refusal taken }
+    {
+        Taken {
+            refusal,
+            taken,
+            ..Taken::default()
+        }
     }
-    b
+
+    // A frame of so many bytes.
+    fn framed(length: u32, taken: u32) -> Taken
+        ensures { result ≡ framed length taken }
+    {
+        Taken {
+            outcome: FRAME,
+            length,
+            taken,
+            ..Taken::default()
+        }
+    }
+
+    // More bytes are needed.
+    fn wanting(taken: u32) -> Taken
+        ensures { result ≡ wanting taken }
+    {
+        Taken {
+            outcome: MORE,
+            taken,
+            ..Taken::default()
+        }
+    }
 }
 
 // Writes a piece behind the bytes kept, as far as there is room, and says where it ends.
 fn fill(bytes: &mut [u8; numbers::MOST_FRAME], from: usize, piece: &[u8]) -> usize
-    requires { (from ≤ most_frame) × (length bytes.old ≡ most_frame) }
+    requires { from ≤ most_frame }
     ensures { Filled bytes.old from piece.now result bytes.new }
 {
-    let n = lesser(numbers::MOST_FRAME - from, piece.len());
-    let mut i: usize = 0;
-    while i < n {
-        bytes[from + i] = piece[i];
-        i += 1;
-    }
+    let n = piece.len().min(numbers::MOST_FRAME - from);
+    bytes[from..from + n].copy_from_slice(&piece[..n]);
     from + n
 }
 
-// Takes a piece behind the bytes kept, of which no frame is whole, and writes the frame once it is.
-fn take_behind<'a>(
-    bytes: &'a mut [u8; numbers::MOST_FRAME],
-    count: &'a mut u32,
-    mark: &'a mut u32,
-    piece: &[u8],
-    out: &mut [u8],
-) -> Taken
-    requires { MadeStream (lent_stream bytes.old count.old mark.old) × (frame_buffer ≤ length out.old) × (mark.old ≡ 0) }
-    ensures { Takes (lent_stream bytes.old count.old mark.old) piece.now out.old result (lent_stream bytes.new count.new mark.new) out.new }
-{
-    let before = *count;
-    let end = fill(bytes, before as usize, piece);
-    let all: &[u8] = bytes;
-    let run = &all[..end];
-    match wire::splitting::standing(run) {
-        Split::Frame => {
-            let frame = wire::splitting::first_frame(run);
-            let size = frame.len();
-            wire::copy(out, frame);
-            let length = size as u32;
-            *count = 0;
-            Taken {
-                refusal: 0,
-                outcome: FRAME,
-                length,
-                taken: length - before,
-            }
-        }
-        Split::MoreNeeded => {
-            let length = end as u32;
-            *count = length;
-            Taken {
-                refusal: 0,
-                outcome: MORE,
-                length: 0,
-                taken: length - before,
-            }
-        }
-        Split::Refused => {
-            let header = numbers::UNCOUNTED as u32;
-            *count = header;
-            *mark = 1;
-            Taken {
-                refusal: 4,
-                outcome: 0,
-                length: 0,
-                taken: header - before,
-            }
+impl LentStream {
+    // A stream for a new connection, whatever it was.
+    pub fn reset(&mut self) -> Taken
+        ensures { Resets result self.new }
+    {
+        self.count = 0;
+        self.mark = 0;
+        Taken {
+            outcome: DONE,
+            ..Taken::default()
         }
     }
-}
 
-// Takes of a piece what belongs to the next frame, and writes that frame once it is whole. One that lies whole in the piece is copied from there.
-pub fn take_piece<'a>(
-    bytes: &'a mut [u8; numbers::MOST_FRAME],
-    count: &'a mut u32,
-    mark: &'a mut u32,
-    piece: &[u8],
-    out: &mut [u8],
-) -> Taken
-    requires { MadeStream (lent_stream bytes.old count.old mark.old) }
-    ensures { Takes (lent_stream bytes.old count.old mark.old) piece.now out.old result (lent_stream bytes.new count.new mark.new) out.new }
-{
-    if out.len() < numbers::FRAME_BUFFER {
-        return Taken {
-            refusal: 1,
-            outcome: 0,
-            length: 0,
-            taken: 0,
-        };
+    // Takes of a piece what belongs to the next frame, and writes that frame once it is whole. One that lies whole in the piece is copied from there.
+    pub fn take_piece(&mut self, piece: &[u8], out: &mut [u8]) -> Taken
+        requires { MadeStream self.old }
+        ensures { Takes self.old piece.now out.old result self.new out.new }
+    {
+        if out.len() < numbers::FRAME_BUFFER {
+            return Taken::refused(1, 0);
+        }
+        if self.mark != 0 {
+            return Taken::refused(4, 0);
+        }
+        if self.count == 0 {
+            if let Split::Frame(frame) = wire::splitting::standing(piece) {
+                wire::copy(out, frame);
+                let length = frame.len() as u32;
+                return Taken::framed(length, length);
+            }
+        }
+        self.take_behind(piece, out)
     }
-    if *mark != 0 {
-        return Taken {
-            refusal: 4,
-            outcome: 0,
-            length: 0,
-            taken: 0,
-        };
-    }
-    let before = *count;
-    let lying = wire::splitting::first_frame(piece);
-    let whole = lying.len();
-    if (before == 0) & (whole != 0) {
-        wire::copy(out, lying);
-        let length = whole as u32;
-        return Taken {
-            refusal: 0,
-            outcome: FRAME,
-            length,
-            taken: length,
-        };
-    }
-    take_behind(bytes, count, mark, piece, out)
-}
 
-// An array has as many bytes as its type says: proved, and nothing in the compiled code.
-fn tells_length(a: [u8; numbers::MOST_FRAME])
-    ensures { length a ≡ most_frame }
-{}
-
-// A stream for a new connection, whatever it was.
-pub fn reset<'a>(
-    bytes: &'a mut [u8; numbers::MOST_FRAME],
-    count: &'a mut u32,
-    mark: &'a mut u32,
-) -> Taken
-    ensures { Resets result (lent_stream bytes.new count.new mark.new) }
-{
-    tells_length(*bytes);
-    *count = 0;
-    *mark = 0;
-    Taken {
-        refusal: 0,
-        outcome: DONE,
-        length: 0,
-        taken: 0,
+    // Takes a piece behind the bytes kept, of which no frame is whole, and writes the frame once it is.
+    fn take_behind(&mut self, piece: &[u8], out: &mut [u8]) -> Taken
+        requires { MadeStream self.old × (frame_buffer ≤ length out.old) × (self.old.mark ≡ 0) }
+        ensures { Takes self.old piece.now out.old result self.new out.new }
+    {
+        let before = self.count;
+        let end = fill(&mut self.bytes, before as usize, piece);
+        match wire::splitting::standing(&self.bytes[..end]) {
+            Split::Frame(frame) => {
+                wire::copy(out, frame);
+                let length = frame.len() as u32;
+                self.count = 0;
+                Taken::framed(length, length - before)
+            }
+            Split::MoreNeeded => {
+                let length = end as u32;
+                self.count = length;
+                Taken::wanting(length - before)
+            }
+            Split::Refused => {
+                let header = numbers::UNCOUNTED as u32;
+                self.count = header;
+                self.mark = 1;
+                Taken::refused(4, header - before)
+            }
+        }
     }
 }

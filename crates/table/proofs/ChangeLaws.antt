@@ -13,7 +13,7 @@ use Rattle.laws.specs.Circle.{turn}
 use Rattle.laws.proofs.Choice.{true_or, lt_or}
 use Rattle.laws.proofs.ListLaws.{tab_ext, map-tab}
 use Rattle.settings.specs.Grammar.{Value}
-use Rattle.pdu.specs.Replies.{What}
+use Rattle.pdu.specs.declared.What.{What}
 use Rattle.pdu.specs.Words.{what_of}
 use Rattle.book.specs.Book.{Party, Live, book, entry, added, struck, marked, is_of, without, at, apply}
 use Rattle.book.specs.Book.Move.{join, issue, reply, strike, mark}

@@ -17,7 +17,7 @@ use Rattle.numbers.specs.Numbers.{ids, places, room, party_places}
 use Rattle.laws.specs.Lists.{tab}
 use Rattle.laws.proofs.Choice.{true_or, eq_or, lt_or}
 use Rattle.laws.proofs.ListLaws.{tab_ext, tab-set, get_d_tab, get_d_repeat, tab_repeat}
-use Rattle.pdu.specs.Replies.{What}
+use Rattle.pdu.specs.declared.What.{What}
 use Rattle.pdu.specs.Words.{word_of, what_of, closed_in, Proper}
 use Rattle.book.specs.Book.{Live, entry}
 use Rattle.pdu.proofs.WordLaws.{word_unclosed}

@@ -17,7 +17,7 @@ use Rattle.laws.proofs.LeastLaws.{least_cut, least_ext}
 use Rattle.laws.proofs.CountLaws.{count_cut, count_ext}
 use Rattle.laws.proofs.SearchLaws.{best_ext, best-nothing, best_cut, first_ext}
 use Rattle.settings.specs.Grammar.{Value}
-use Rattle.pdu.specs.Replies.{What}
+use Rattle.pdu.specs.declared.What.{What}
 use Rattle.pdu.specs.Words.{word_of, what_of, Proper}
 use Rattle.cache.specs.Cache.{Cache}
 use Rattle.book.specs.Book.{Live, at, has_id}

@@ -15,7 +15,7 @@ use Rattle.laws.specs.Lists.{tab}
 use Rattle.laws.proofs.Choice.{true_or, eq_or}
 use Rattle.laws.proofs.ListLaws.{length-tab, get_d_tab}
 use Rattle.settings.specs.Grammar.{Value}
-use Rattle.pdu.specs.Replies.{What}
+use Rattle.pdu.specs.declared.What.{What}
 use Rattle.book.specs.Book.{Live, at, has_id, live_in}
 use Rattle.book.specs.Desk.{is_live, lower_id, sooner, is_due as is_due_in}
 use Rattle.machine.specs.Machine.{Note}

@@ -6,10 +6,11 @@ use Rattle.numbers.specs.Numbers.{ids, places, room, party_places}
 use Rattle.laws.specs.Lists.{tab}
 use Rattle.laws.specs.Bits.{with}
 use Rattle.settings.specs.Grammar.{Value}
-use Rattle.pdu.specs.Replies.{What}
+use Rattle.pdu.specs.declared.What.{What}
 use Rattle.pdu.specs.Words.{word_of, what_of, closed_bit, closed_in, Proper}
 use Rattle.book.specs.Book.{Party, Live, book, entry}
 use Rattle.machine.specs.Machine.{Note, Live_book}
+use Rattle.table.specs.declared.LiveTable.{LiveTable}
 
 -- 0 in `ids` is a free place, else the proxy id + 1; `asked` is what was asked as one word, with bit 32 where it is a read that is closed; `callers` is the client that it was issued for; the parties of place k
 -- stand from k × room on, `counts` of them; no place from `top` on is live
@@ -25,6 +26,10 @@ pub record Columns : Type 0 where
 
 abbrev pub columns : (ids asked callers deadlines counts clients originals : List ℕ) → ℕ → Columns
 columns i a n d k c o t = record { ids = i; asked = a; callers = n; deadlines = d; counts = k; clients = c; originals = o; top = t }
+
+-- the columns that a table of the code has; the next id to try is not one of them
+abbrev pub columns_of : LiveTable → Columns
+columns_of t = columns t.ids t.asked t.callers t.deadlines t.counts t.clients t.originals t.top
 
 abbrev pub party : ℕ → ℕ → Party
 party c o = record { client = c; original = o }

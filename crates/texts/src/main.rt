@@ -10,7 +10,7 @@ mod texts;
 use parts::input::read_full;
 use parts::output::Output;
 use parts::tally::Tally;
-use parts::{before, end_of, head, rest, tally};
+use parts::{before, head, rest, tally};
 use std::io;
 
 fn row<'a>(t: Tally, pieces: &'a [u8], row: &'a [u8], output: &mut Output) -> Tally {
@@ -29,11 +29,8 @@ fn row<'a>(t: Tally, pieces: &'a [u8], row: &'a [u8], output: &mut Output) -> Ta
 // Every row of a table.
 fn rows<'a>(t: Tally, pieces: &'a [u8], table: &'a [u8], output: &mut Output) -> Tally {
     let mut tally = t;
-    let mut at: usize = 0;
-    while at < table.len() {
-        let end = end_of(table, at, b'\n');
-        tally = row(tally, pieces, &table[at..end], output);
-        at = end + 1;
+    for line in table.split(|byte| *byte == b'\n') {
+        tally = row(tally, pieces, line, output);
     }
     tally
 }
@@ -43,8 +40,8 @@ fn main(rt: HostRuntime) -> io::Result<()> {
     let mut buffer = [0u8; 131072];
     let size = read_full(&mut rt.stdin(), &mut buffer)?;
     let table = before(&buffer, size);
-    let t = tally::start(size, &buffer);
+    let t = Tally::start(size, &buffer);
     let t = rows(t, head(table, b'\n'), rest(table, b'\n'), &mut output);
-    tally::print(b"texts: ", t, b" read, ", &mut output);
+    t.print(b"texts: ", b" read, ", &mut output);
     output.end()
 }

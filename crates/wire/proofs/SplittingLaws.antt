@@ -16,8 +16,8 @@ use Rattle.numbers.specs.Numbers.{uncounted, least_length, most_length}
 use Rattle.laws.proofs.Choice.{true_or, or_left, or_right}
 use Rattle.wire.specs.Frame.{protocol_of, length_of, misframed}
 use Rattle.wire.specs.Splitting.{bad_header, standing_of, size_if, first_frame, frames}
-use Rattle.wire.specs.declared.splitting.Split.{Split}
-use Rattle.wire.specs.declared.splitting.Split.TheVariants.{Frame, MoreNeeded, Refused}
+use Rattle.wire.specs.Splitting.{Standing}
+use Rattle.wire.specs.Splitting.Standing.{Frame, MoreNeeded, Refused}
 use Rattle.laws.proofs.Choice.{cond-first, cond_second}
 use Rattle.laws.proofs.ListLaws.{take_part, front_rest}
 use Rattle.laws.proofs.ByteLaws.{pair_append}
@@ -83,7 +83,7 @@ stands r h =
     whole_stands r (omega arith) b h.whole
 
 -- the first frame of a run whose outcome is known
-pub first-at : (r : List ℕ) {s : Split} → standing_of r ≡ s → first_frame r ≡ take (size_if s (uncounted + length_of r)) r
+pub first-at : (r : List ℕ) {s : Standing} → standing_of r ≡ s → first_frame r ≡ take (size_if s (uncounted + length_of r)) r
 unfolding first_frame
 first-at r e = rw e
 
@@ -96,7 +96,7 @@ first_taken r e = first-at r e
 pub first-size : (r : List ℕ) → standing_of r ≡ Frame → length (first_frame r) ≡ uncounted + length_of r
 first-size r e = ap length (first_taken r e) ∙ length-take-le (uncounted + length_of r) r (starts r e).whole
 
-size_none : (s : Split) (n : ℕ) → (s ≡ Frame → ⊥) → size_if s n ≡ 0
+size_none : (s : Standing) (n : ℕ) → (s ≡ Frame → ⊥) → size_if s n ≡ 0
 unfolding size_if
 size_none Frame n h = absurd (h refl)
 size_none MoreNeeded n h = refl
@@ -213,7 +213,7 @@ frames_are_part (suc n) r =
     (true_or (eqb (length f) 0))
 
 -- a frame stands first or not
-frame_or : (s : Split) → (s ≡ Frame) ⊎ (s ≡ Frame → ⊥)
+frame_or : (s : Standing) → (s ≡ Frame) ⊎ (s ≡ Frame → ⊥)
 frame_or Frame = inl refl
 frame_or MoreNeeded = inr more_frame
 frame_or Refused = inr refused-frame

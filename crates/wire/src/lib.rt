@@ -12,10 +12,7 @@ ghost use Rattle.wire.specs.Frame.{unit_of, function_of, pdu_size};
 pub fn byte_at(s: &[u8], k: usize) -> u8
     ensures { result ≡ get_or s.now k 0 }
 {
-    if s.len() <= k {
-        return 0;
-    }
-    s[k]
+    s.get(k).copied().unwrap_or(0)
 }
 
 // The 16-bit number at k, the high byte first; what is past the end counts as 0.
@@ -23,11 +20,10 @@ pub fn pair_at(s: &[u8], k: usize) -> u16
     ensures { result ≡ pair_at s.now k }
 {
     if k < s.len() {
-        let high = byte_at(s, k) as u16;
-        let low = byte_at(s, k + 1) as u16;
-        return high * 256 + low;
+        u16::from_be_bytes([s[k], byte_at(s, k + 1)])
+    } else {
+        0
     }
-    0
 }
 
 // The unit of a frame, the first byte that its length counts, and its function; 0 past the end.
@@ -47,11 +43,7 @@ pub fn function_of(frame: &[u8]) -> u8
 pub fn pdu_size(frame: &[u8]) -> usize
     ensures { result ≡ pdu_size frame.now }
 {
-    if frame.len() < numbers::HEADER_SIZE {
-        0
-    } else {
-        frame.len() - numbers::HEADER_SIZE
-    }
+    frame.len().saturating_sub(numbers::HEADER_SIZE)
 }
 
 // Puts a 16-bit number at k, the high byte first.
@@ -59,8 +51,7 @@ pub fn put_at(d: &mut [u8], k: usize, n: u16)
     requires { k + 1 < length d.old }
     ensures { d.new ≡ put_at d.old k n }
 {
-    d[k] = (n / 256) as u8;
-    d[k + 1] = (n % 256) as u8;
+    d[k..k + 2].copy_from_slice(&n.to_be_bytes());
 }
 
 // Writes s over the start of out.
@@ -68,9 +59,5 @@ pub fn copy(out: &mut [u8], s: &[u8])
     requires { length s.now ≤ length out.old }
     ensures { out.new ≡ over s.now out.old }
 {
-    let mut i: usize = 0;
-    while i < s.len() {
-        out[i] = s[i];
-        i += 1;
-    }
+    out[..s.len()].copy_from_slice(s);
 }

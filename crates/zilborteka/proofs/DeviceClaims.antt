@@ -28,10 +28,10 @@ use Rattle.settings.specs.TagWords.{kind_of, tag_of, Ascending}
 use Rattle.settings.proofs.ValidLaws.{valid_exactly}
 use Rattle.settings.proofs.TagLaws.{valid-ascends}
 use Rattle.pdu.specs.Requests.{class_of, bad_function, bad_length, asked_of, fault_of, checked_of}
-use Rattle.pdu.specs.Replies.{What, excepts}
+use Rattle.pdu.specs.Replies.{excepts}
+use Rattle.pdu.specs.declared.What.{What}
 use Rattle.pdu.specs.Words.{what_of, closed_bit, closed_in}
 use Rattle.pdu.specs.Spoiling.{spoils}
-use Rattle.pdu.specs.declared.Checked.TheVariants as check
 use Rattle.pdu.proofs.ReadLaws.{reads_exactly}
 use Rattle.rewrite.specs.Registers.{registers_at}
 use Rattle.rewrite.specs.Rewriting.{own_in, Rewritten}
@@ -79,7 +79,7 @@ use Rattle.machine.proofs.Claims as claim
 use Rattle.table.specs.Columns.{parties_at, note_of}
 use Rattle.proxy.specs.State.{value_in}
 use Rattle.proxy.proofs.MakingLaws.{adopted-valid}
-use Rattle.device.specs.declared.Device.{Device}
+use Rattle.proxy.specs.declared.Device.{Device}
 use Rattle.device.specs.Device.{Freshly, Awaited}
 use Rattle.device.proofs.DeviceLaws.{same-device}
 use Rattle.zilborteka.specs.Lives.{in_force, machine_in, Called, Line, calls_of, Lived, granted_in, told_in, ledger_in, AsTheMachine, outcome_in, hit_in, issue_in, join_in, exception_in, LiveIn}
@@ -90,6 +90,8 @@ use Rattle.zilborteka.proofs.Lived.{left, seen, came, report-tells, tells, lived
 use Rattle.zilborteka.proofs.Handed.{lives_as, replied, timed_out_lem, answers_what}
 use Rattle.zilborteka.proofs.Places.{place_live, live_in}
 use Rattle.zilborteka.proofs.Shown.{issue_among, fills-line, fills-call, shows_seen, cache_is, last_line, last_call}
+use Rattle.pdu.specs.declared.Fault.TheVariants as check
+use Rattle.std.specs.Prelude.{Ok, Err}
 
 -- the whole report of a hit, an issue, a join and an exception, and which of the four it is
 module _ {m : Machine} {c t : ℕ} {f o : List ℕ} {y : Outcome} {r : Report} where
@@ -164,8 +166,8 @@ module _ (from : Settings) {r : Report} {d d' : Device} (ls : List Line) (fresh 
   )
 
   -- The settings in force stay those that fresh adopted: in the machine that the device is, and in the device's own fields, timeout, join and the words of its tags.
-  pub the_settings_in_force_stay : (settings (machine_in d') ≡ in_force from) × (d'.timeout ≡ (in_force from).timeout) × (d'.join ≡ (in_force from).join)
-      × (map tag_of (take d'.tag_count d'.tag_words) ≡ (in_force from).tags)
+  pub the_settings_in_force_stay : (settings (machine_in d') ≡ in_force from) × (d'.settings.timeout ≡ (in_force from).timeout) × (d'.settings.join ≡ (in_force from).join)
+      × (map tag_of (take d'.settings.tag_count d'.settings.tag_words) ≡ (in_force from).tags)
   unfolding machine_in value_in
   the_settings_in_force_stay =
       let e = ap (λ (m : Machine). settings m) lived.after ∙ claim.the_settings_in_force_stay v xs in
@@ -405,7 +407,7 @@ module _ (from : Settings) {r : Report} {d d' : Device} (ls : List Line) (fresh 
   what_the_clock_shows = rw (clock_is, lived.granted) (claim.what_the_clock_shows v xs)
 
   -- 3: the cursor is the last issued id + 1, 0 after 65,535, and 0 where none was issued.
-  pub where_the_cursor_stands : d'.cursor ≡ behind ids (last_given issued_id (told_in (in_force from) ls))
+  pub where_the_cursor_stands : d'.table.cursor ≡ behind ids (last_given issued_id (told_in (in_force from) ls))
   unfolding machine_in
   where_the_cursor_stands = ap (λ (m : Machine). m.book.cursor) lived.after ∙ rw lived.told (claim.where_the_cursor_stands v xs)
 
@@ -415,9 +417,9 @@ module _ (from : Settings) {r : Report} {d d' : Device} (ls : List Line) (fresh 
   which_ids_are_live id w c u = Iff.trans (live_in d' lived.next id w c u) (rw (lived.after, lived.told) (claim.which_ids_are_live v xs id w c u))
 
   -- its parties are those that wait under the id in the host's ledger, in the order in which they were accepted;
-  pub who_stands_where : (k id : ℕ) → get_or d'.ids k 0 ≡ id + 1 → parties_at d'.counts d'.clients d'.originals k ≡ parties_of (waiting_under (told_in (in_force from) ls) id)
+  pub who_stands_where : (k id : ℕ) → get_or d'.table.ids k 0 ≡ id + 1 → parties_at d'.table.counts d'.table.clients d'.table.originals k ≡ parties_of (waiting_under (told_in (in_force from) ls) id)
   who_stands_where k id e =
-      let i : get_or d'.ids k 0 - 1 ≡ id = omega arith in
+      let i : get_or d'.table.ids k 0 - 1 ≡ id = omega arith in
       rw i at ((a_device_accounts_for_every_request from ls fresh life).entries k _ (place_live d' lived.next k (λ z. omega arith)))
 
   -- and each issue is a line of this life: a request that was reported issued under that id; it asked what the frame asks, and is due at the request's time plus the timeout.
@@ -427,14 +429,14 @@ module _ (from : Settings) {r : Report} {d d' : Device} (ls : List Line) (fresh 
 
   -- Request #102: a live place of the device whose function is 01, 02, 03 or 04 is open, so that its word has no bit 32, exactly if nothing that spoils what it asks was issued since its own
   -- issue. In the word of any other function bit 32 says nothing of the kind: nothing joins that.
-  pub what_is_open : (k id : ℕ) → get_or d'.ids k 0 ≡ id + 1
-      → let w = what_of (get_or d'.asked k 0) in
+  pub what_is_open : (k id : ℕ) → get_or d'.table.ids k 0 ≡ id + 1
+      → let w = what_of (get_or d'.table.asked k 0) in
       ((w.function ≡ 1) ⊎ (w.function ≡ 2)) ⊎ ((w.function ≡ 3) ⊎ (w.function ≡ 4))
-      → (has (get_or d'.asked k 0) closed_bit ≡ false) ↔ Unspoiled (told_in (in_force from) ls) id w (get_or d'.deadlines k 0)
+      → (has (get_or d'.table.asked k 0) closed_bit ≡ false) ↔ Unspoiled (told_in (in_force from) ls) id w (get_or d'.table.deadlines k 0)
   unfolding note_of closed_in
   what_is_open k id e reads =
-      let i : get_or d'.ids k 0 - 1 ≡ id = omega arith in
-      rw ((reads_exactly (get_or d'.asked k 0)).1 reads, i, ← lived.told) at (claim.what_is_open v xs k _ (rw lived.after at (place_live d' lived.next k (λ z. omega arith))))
+      let i : get_or d'.table.ids k 0 - 1 ≡ id = omega arith in
+      rw ((reads_exactly (get_or d'.table.asked k 0)).1 reads, i, ← lived.told) at (claim.what_is_open v xs k _ (rw lived.after at (place_live d' lived.next k (λ z. omega arith))))
 
   -- A read after a write is not stale: where a line tells that any request was issued, and a later request joins that it spoils, what this one joins was issued after it, and is live
   -- since.
@@ -638,7 +640,7 @@ module _ (from : Settings) {r : Report} {d d' : Device} (ls : List Line) (fresh 
   -- bytes give neither exception 03 nor 02 reports exception 03 exactly if some strict tag has a register in the write and another outside it, or lies in it with a value outside its range, in
   -- plain numbers (`Violates`). All ten numbers, the buffer, and that nothing is issued, closed or dropped then: `an_exception_is_this`. What is lent is bytes, which a line does not say.
   pub a_strict_tag_forbids_exactly : (c t : ℕ) (f o : List ℕ) → ((k : ℕ) → get_or f k 0 < 256) → {saw : Seen} {d'' : Device} → Called d' (request c t f o) saw d'' → saw.report.refusal ≡ 0
-      → checked_of f ≡ check.Legal (asked_of f) → (base start quantity : ℕ) → Carries (asking f).asked base start quantity
+      → checked_of f ≡ Ok (asked_of f) → (base start quantity : ℕ) → Carries (asking f).asked base start quantity
       → ((saw.report.outcome ≡ is_exception) × (saw.report.code ≡ 3)) ↔ Violates (in_force from).tags f base start quantity
   a_strict_tag_forbids_exactly c t f o bytes s z fine base start quantity carries =
       let x = request c t f o in
@@ -649,8 +651,8 @@ module _ (from : Settings) {r : Report} {d d' : Device} (ls : List Line) (fresh 
   -- registers that a strict tag forbids, or a 22 (#109) whose register a tag has. No read, no write of coils and no other function is forbidden, and bytes that give 02 do not get 03.
   pub only_a_tag_forbids : (c t : ℕ) (f o : List ℕ) → ((k : ℕ) → get_or f k 0 < 256) → {saw : Seen} {d'' : Device} → Called d' (request c t f o) saw d'' → saw.report.refusal ≡ 0
       → ((saw.report.outcome ≡ is_exception) × (saw.report.code ≡ 3))
-      ↔ ((checked_of f ≡ check.Excepted 3)
-      ⊎ ((checked_of f ≡ check.Legal (asked_of f))
+      ↔ ((checked_of f ≡ Err (check.Excepted 3))
+      ⊎ ((checked_of f ≡ Ok (asked_of f))
       × (((base : ℕ) × (start : ℕ) × (quantity : ℕ) × Carries (asking f).asked base start quantity × Violates (in_force from).tags f base start quantity)
       ⊎ ((get_or f 7 0 ≡ 22) × ((tag : Tag) × Memᴰ tag (in_force from).tags × Has tag (number_at f 8))))))
   only_a_tag_forbids c t f o bytes s z =
@@ -703,7 +705,7 @@ module _ (from : Settings) {r : Report} {d d' : Device} (ls : List Line) (fresh 
       rw lived.after (sees x s ∙ ap seen_of comes, rw lived.after at (left x s) ∙ ap (λ (y : Outcome). y.after) comes, w.1)
 
   -- Tender 3: live proxy ids differ, place by place of the device.
-  pub live_ids_differ : (i j : ℕ) → (get_or d'.ids i 0 ≡ 0 → ⊥) → get_or d'.ids i 0 ≡ get_or d'.ids j 0 → i ≡ j
+  pub live_ids_differ : (i j : ℕ) → (get_or d'.table.ids i 0 ≡ 0 → ⊥) → get_or d'.table.ids i 0 ≡ get_or d'.table.ids j 0 → i ≡ j
   live_ids_differ i j n e =
       let live = place_live d' lived.next in
       claim.live_ids_differ v xs i j _ _ (rw lived.after at (live i n)) (rw lived.after at (live j (rw e at n))) (ap (λ (k : ℕ). k - 1) e)

@@ -22,7 +22,7 @@ use Rattle.reports.specs.Reports.{short_report, SplitPromised, ReadPromised, Wri
 use Rattle.reports.specs.declared.SettingsRead.{SettingsRead}
 use Rattle.reports.proofs.SaysLaws as says
 use Rattle.proxy.proofs.MakingLaws.{adopts_valid, adopts_usual}
-use Rattle.device.specs.declared.Device.{Device}
+use Rattle.proxy.specs.declared.Device.{Device}
 use Rattle.device.specs.Device.{Freshly}
 use Rattle.zilborteka.specs.Lives.{in_force, machine_in}
 

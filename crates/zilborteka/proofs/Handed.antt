@@ -10,7 +10,7 @@ use lib.ListN.{length, length-map}
 use Rattle.laws.specs.Bytes.{over}
 use Rattle.wire.specs.Frame.{laid, exception}
 use Rattle.settings.specs.Grammar.{Value}
-use Rattle.pdu.specs.Replies.{What}
+use Rattle.pdu.specs.declared.What.{What}
 use Rattle.rewrite.specs.declared.Way.TheVariants.{ToBinary}
 use Rattle.rewrite.specs.Frames.{returned}
 use Rattle.rewrite.specs.Plain.{Rewrites}

@@ -6,7 +6,7 @@ use mathlib.Core.Logic.{⊎_elim}
 use mathlib.Core.List.{List, [], ◌∷◌, ◌++◌, Memᴰ}
 use Rattle.settings.specs.declared.Settings.{Settings}
 use Rattle.settings.specs.Grammar.{Value}
-use Rattle.pdu.specs.Replies.{What}
+use Rattle.pdu.specs.declared.What.{What}
 use Rattle.book.specs.Book.{Event}
 use Rattle.book.specs.Follower.{Accounted, state_after, lines_of}
 use Rattle.machine.specs.Machine.{Machine, rules}
@@ -19,7 +19,7 @@ use Rattle.machine.specs.Histories.{Seen, seen_of, events, after_calls, after_fr
 use Rattle.machine.specs.declared.Report.{Report}
 use Rattle.machine.proofs.NumberLaws.{numbers-tell, refusal-told}
 use Rattle.machine.proofs.Histories.{accounted}
-use Rattle.device.specs.declared.Device.{Device}
+use Rattle.proxy.specs.declared.Device.{Device}
 use Rattle.device.specs.Device.{MadeDevice, Freshly}
 use Rattle.zilborteka.specs.Lives.{in_force, machine_in, Called, Line, calls_of, Lived, granted_in, told_in, ledger_in, AsTheMachine}
 use Rattle.zilborteka.specs.Lives.Lived.{none, then}

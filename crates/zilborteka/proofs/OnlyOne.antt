@@ -8,11 +8,12 @@ use Rattle.machine.specs.Calls.{Call}
 use Rattle.machine.specs.declared.Report.{Report}
 use Rattle.machine.specs.declared.NextDeadline.{NextDeadline}
 use Rattle.proxy.specs.State.{machine_of}
-use Rattle.device.specs.declared.Device.{Device}
+use Rattle.proxy.specs.declared.Device.{Device}
 use Rattle.reports.specs.declared.SettingsRead.{SettingsRead}
 use Rattle.machine.specs.Numbers.{Reported}
 use Rattle.reports.specs.Reports.{TextSeen, SplitPromised, ReadPromised, WritePromised}
-use Rattle.device.specs.Fields.{state_of, state_size}
+use Rattle.proxy.specs.State.{state_of}
+use Rattle.device.specs.Fields.{state_size}
 use Rattle.device.specs.Device.{Served, Freshly, Awaited}
 use Rattle.device.proofs.DeviceLaws.{same-device}
 use Rattle.machine.specs.Numbers.{is_done}

@@ -6,7 +6,7 @@ use mathlib.Core.List.{List, [], ◌∷◌, ◌++◌, map-append, append_assoc}
 use Rattle.laws.proofs.Choice.{never}
 use Rattle.settings.specs.declared.Settings.{Settings}
 use Rattle.settings.specs.Grammar.{Value}
-use Rattle.pdu.specs.Replies.{What}
+use Rattle.pdu.specs.declared.What.{What}
 use Rattle.pdu.specs.declared.ProxyId.{ProxyId}
 use Rattle.cache.specs.Cache.{Cache}
 use Rattle.cache.specs.Plain.{Takes, Cacheable, Life}
@@ -27,7 +27,7 @@ use Rattle.machine.specs.declared.Answer.TheVariants as answer
 use Rattle.machine.specs.declared.Report.{Report}
 use Rattle.machine.proofs.NumberLaws.{numbers-tell, refusal-told}
 use Rattle.machine.proofs.Claims as claim
-use Rattle.device.specs.declared.Device.{Device}
+use Rattle.proxy.specs.declared.Device.{Device}
 use Rattle.device.specs.Device.{Freshly}
 use Rattle.zilborteka.specs.Lives.{in_force, machine_in, Line, calls_of, Lived, told_in, AsTheMachine}
 use Rattle.zilborteka.specs.Cached.{cache_in, FillsIn, SparesIn, LastReplyIn, LatestIn, ShowsIn}

@@ -3,7 +3,7 @@
 -- Assumes nothing.
 use Rattle.std.specs.Prelude.{ℕ, ◌-◌, ◌≤◌, ◌<◌, ◌≡◌, false, List, [], ◌∷◌, ◌++◌, length, get_or}
 use Rattle.settings.specs.Grammar.{Value}
-use Rattle.pdu.specs.Replies.{What}
+use Rattle.pdu.specs.declared.What.{What}
 use Rattle.pdu.specs.Spoiling.{spoils}
 use Rattle.pdu.specs.declared.Table.TheVariants.{Registers}
 use Rattle.pdu.specs.declared.Asked.TheVariants.{Read}
@@ -16,12 +16,12 @@ use Rattle.machine.specs.Numbers.{ten, is_issued}
 use Rattle.machine.specs.Spelled.{asking}
 use Rattle.machine.specs.Histories.{Seen}
 use Rattle.machine.specs.Closed.{Unspoiled, number_at}
-use Rattle.device.specs.declared.Device.{Device}
+use Rattle.proxy.specs.declared.Device.{Device}
 use Rattle.zilborteka.specs.Lives.{Line, Lived, told_in}
 
 -- the cache that a device's own fields are
 abbrev pub cache_in : Device → Cache
-cache_in d = cache_of d.cache d.shown
+cache_in d = cache_of d.cache.numbers d.cache.shown
 
 -- behind the lines ks, where the settings are v, the line x is a reply that fills the cache for the read r
 pub record FillsIn (v : Value) (ks : List Line) (x : Line) (r : What) : Type 0 where

@@ -6,7 +6,8 @@ use Rattle.laws.specs.Lists.{filter}
 use Rattle.laws.specs.Bytes.{over}
 use Rattle.wire.specs.Frame.{laid}
 use Rattle.settings.specs.Grammar.{Value}
-use Rattle.pdu.specs.Replies.{What, answering, excepts}
+use Rattle.pdu.specs.Replies.{answering, excepts}
+use Rattle.pdu.specs.declared.What.{What}
 use Rattle.rewrite.specs.Plain.{Brings, Rewrites}
 use Rattle.rewrite.specs.Frames.{returned}
 use Rattle.rewrite.specs.declared.Way.TheVariants.{ToBinary}

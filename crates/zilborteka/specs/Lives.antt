@@ -5,7 +5,7 @@ use Rattle.std.specs.Prelude.{ℕ, ◌+◌, ◌≡◌, cond, List, [], ◌∷◌
 use Rattle.settings.specs.declared.Settings.{Settings}
 use Rattle.settings.specs.Grammar.{Value}
 use Rattle.settings.specs.Values.{value_of}
-use Rattle.pdu.specs.Replies.{What}
+use Rattle.pdu.specs.declared.What.{What}
 use Rattle.pdu.specs.Words.{what_of}
 use Rattle.book.specs.Book.{Event}
 use Rattle.book.specs.Ledger.{Ledger, empty, posts}
@@ -19,8 +19,8 @@ use Rattle.machine.specs.declared.Answer.TheVariants as answer
 use Rattle.machine.specs.declared.Report.{Report}
 use Rattle.proxy.specs.State.{machine_of}
 use Rattle.proxy.specs.Gates.{adopted}
-use Rattle.device.specs.declared.Device.{Device}
-use Rattle.device.specs.Fields.{state_of}
+use Rattle.proxy.specs.declared.Device.{Device}
+use Rattle.proxy.specs.State.{state_of}
 use Rattle.device.specs.Device.{Served, MadeDevice}
 
 -- the settings in force on a device that is made fresh from a value
@@ -93,4 +93,4 @@ exception_in r = answer.Excepted r.code
 
 -- a place of the device is live under the id: its word asks w, it was issued for the client c and is due at u
 abbrev pub LiveIn : Device → ℕ → What → ℕ → ℕ → Type 0
-LiveIn d id w c u = (k : ℕ) × (get_or d.ids k 0 ≡ id + 1) × (what_of (get_or d.asked k 0) ≡ w) × (get_or d.callers k 0 ≡ c) × (get_or d.deadlines k 0 ≡ u)
+LiveIn d id w c u = (k : ℕ) × (get_or d.table.ids k 0 ≡ id + 1) × (what_of (get_or d.table.asked k 0) ≡ w) × (get_or d.table.callers k 0 ≡ c) × (get_or d.table.deadlines k 0 ≡ u)

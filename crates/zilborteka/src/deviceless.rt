@@ -28,17 +28,7 @@ pub extern "C" fn zb_settings_read(text: &[u8]) -> SettingsRead
 pub extern "C" fn zb_settings_write(from: &Settings, text: &mut [u8]) -> Report
     ensures { WritePromised from.now text.old result text.new }
 {
-    reports::write(
-        &from.timeout,
-        &from.join,
-        &from.tags,
-        &from.addr,
-        &from.width,
-        &from.sign,
-        &from.ttl,
-        &from.strict,
-        text,
-    )
+    reports::write(from, text)
 }
 
 // How many bytes a device has.

@@ -1,4 +1,4 @@
-// The C boundary: the exported calls on the device that a host lends. Written by tools/fields.py from lib.rt.in.
+// The C boundary: the exported calls on the device that a host lends.
 #![tactic(auto)]
 
 pub mod deviceless;
@@ -8,8 +8,8 @@ ghost use Rattle.std.specs.Prelude.{[]};
 ghost use Rattle.machine.specs.Calls.Call.{attach as attaches, detach as detaches, request as asks, reply as replies, tick as ticks, link_lost};
 ghost use Rattle.device.specs.Device.{MadeDevice, Served, Freshly, Awaited};
 
-use device::Device;
 use machine::{NextDeadline, Report};
+use proxy::Device;
 use settings::Settings;
 
 // Makes the device fresh from a settings value that is lent, whatever it was. An invalid value is refusal 10, and the device then has the usual one.
@@ -17,33 +17,7 @@ use settings::Settings;
 pub extern "C" fn zb_fresh(st: &mut Device, from: &Settings) -> Report
     ensures { Freshly from.now result st.new }
 {
-    reports::report_of(proxy::making::fresh(
-        &mut st.ids,
-        &mut st.asked,
-        &mut st.callers,
-        &mut st.deadlines,
-        &mut st.counts,
-        &mut st.clients,
-        &mut st.originals,
-        &mut st.top,
-        &mut st.cursor,
-        &mut st.attached,
-        &mut st.clock,
-        &mut st.timeout,
-        &mut st.join,
-        &mut st.tag_count,
-        &mut st.tag_words,
-        &mut st.cache,
-        &mut st.shown,
-        &from.timeout,
-        &from.join,
-        &from.tags,
-        &from.addr,
-        &from.width,
-        &from.sign,
-        &from.ttl,
-        &from.strict,
-    ))
+    reports::report_of(proxy::making::fresh(st, from))
 }
 
 // Attaches a client.
@@ -52,7 +26,7 @@ pub extern "C" fn zb_attach(st: &mut Device, client: u32) -> Report
     requires { MadeDevice st.old }
     ensures { Served st.old (attaches client) result st.new [] [] }
 {
-    reports::report_of(proxy::attaching::attach(&mut st.attached, client))
+    reports::report_of(proxy::attaching::attach(st, client))
 }
 
 // Detaches a client, and strikes its parties out.
@@ -61,14 +35,7 @@ pub extern "C" fn zb_detach(st: &mut Device, client: u32) -> Report
     requires { MadeDevice st.old }
     ensures { Served st.old (detaches client) result st.new [] [] }
 {
-    reports::report_of(proxy::attaching::detach(
-        &mut st.counts,
-        &mut st.clients,
-        &mut st.originals,
-        &mut st.top,
-        &mut st.attached,
-        client,
-    ))
+    reports::report_of(proxy::attaching::detach(st, client))
 }
 
 // A client's request.
@@ -83,29 +50,7 @@ pub extern "C" fn zb_request(
     requires { MadeDevice st.old }
     ensures { Served st.old (asks client time frame.now out.old) result st.new out.new [] }
 {
-    reports::report_of(requesting::request(
-        &mut st.ids,
-        &mut st.asked,
-        &mut st.callers,
-        &mut st.deadlines,
-        &mut st.counts,
-        &mut st.clients,
-        &mut st.originals,
-        &mut st.top,
-        &mut st.cursor,
-        &mut st.attached,
-        &mut st.clock,
-        &mut st.timeout,
-        &mut st.join,
-        &mut st.tag_count,
-        &mut st.tag_words,
-        &mut st.cache,
-        &mut st.shown,
-        client,
-        time,
-        frame,
-        out,
-    ))
+    reports::report_of(requesting::request(st, client, time, frame, out))
 }
 
 // The controller's reply.
@@ -120,27 +65,7 @@ pub extern "C" fn zb_reply(
     requires { MadeDevice st.old }
     ensures { Served st.old (replies time frame.now out.old list.old) result st.new out.new list.new }
 {
-    reports::report_of(answering::reply(
-        &mut st.ids,
-        &mut st.asked,
-        &mut st.callers,
-        &mut st.deadlines,
-        &mut st.counts,
-        &mut st.clients,
-        &mut st.originals,
-        &mut st.top,
-        &mut st.clock,
-        &mut st.timeout,
-        &mut st.join,
-        &mut st.tag_count,
-        &mut st.tag_words,
-        &mut st.cache,
-        &mut st.shown,
-        time,
-        frame,
-        out,
-        list,
-    ))
+    reports::report_of(answering::reply(st, time, frame, out, list))
 }
 
 // Time goes on.
@@ -149,20 +74,7 @@ pub extern "C" fn zb_tick(st: &mut Device, time: u64, out: &mut [u8], list: &mut
     requires { MadeDevice st.old }
     ensures { Served st.old (ticks time out.old list.old) result st.new out.new list.new }
 {
-    reports::report_of(answering::tick(
-        &mut st.ids,
-        &mut st.asked,
-        &mut st.callers,
-        &mut st.deadlines,
-        &mut st.counts,
-        &mut st.clients,
-        &mut st.originals,
-        &mut st.top,
-        &mut st.clock,
-        time,
-        out,
-        list,
-    ))
+    reports::report_of(answering::tick(st, time, out, list))
 }
 
 // The link is lost.
@@ -171,12 +83,7 @@ pub extern "C" fn zb_link_lost(st: &mut Device) -> Report
     requires { MadeDevice st.old }
     ensures { Served st.old (link_lost) result st.new [] [] }
 {
-    reports::report_of(proxy::attaching::link_lost(
-        &mut st.ids,
-        &mut st.top,
-        &mut st.attached,
-        &mut st.cache,
-    ))
+    reports::report_of(proxy::attaching::link_lost(st))
 }
 
 // How many requests are live, and the earliest deadline of them: a host sleeps until then.
@@ -185,5 +92,5 @@ pub extern "C" fn zb_next_deadline(st: &Device) -> NextDeadline
     requires { MadeDevice st.now }
     ensures { Awaited st.now result }
 {
-    finding::next_deadline(&st.ids, &st.deadlines, &st.top)
+    finding::next_deadline(&st.table)
 }

@@ -8,7 +8,7 @@ use stream::{LentStream, Taken};
 pub extern "C" fn zb_stream_reset(st: &mut LentStream) -> Taken
     ensures { Resets result st.new }
 {
-    stream::reset(&mut st.bytes, &mut st.count, &mut st.mark)
+    st.reset()
 }
 
 // Takes of a piece what belongs to the next frame, and writes that frame once it is whole.
@@ -17,5 +17,5 @@ pub extern "C" fn zb_stream_take(st: &mut LentStream, piece: &[u8], out: &mut [u
     requires { MadeStream st.old }
     ensures { Takes st.old piece.now out.old result st.new out.new }
 {
-    stream::take_piece(&mut st.bytes, &mut st.count, &mut st.mark, piece, out)
+    st.take_piece(piece, out)
 }

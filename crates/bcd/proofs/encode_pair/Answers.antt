@@ -5,7 +5,8 @@ use Rattle.bcd.proofs.RegisterLaws.{pair_encoded}
 use Rattle.bcd.proofs.encode_pair.Goals as goal
 
 pub returns-then-v-lt-EIGHT_DIGITS : goal.returns-then-v-lt-EIGHT_DIGITS
-returns-then-v-lt-EIGHT_DIGITS c = pair_encoded 4 4 _ _ _ c.if-v-lt-EIGHT_DIGITS.true c.pack-low.ensures c.pack-high.ensures
+returns-then-v-lt-EIGHT_DIGITS c =
+    rw (c.from.ensures, c.from-then-v-lt-EIGHT_DIGITS.ensures) (pair_encoded 4 4 _ _ _ c.if-v-lt-EIGHT_DIGITS.true c.pack-low.ensures c.pack-high.ensures)
 
 pub returns-else-v-lt-EIGHT_DIGITS : goal.returns-else-v-lt-EIGHT_DIGITS
 returns-else-v-lt-EIGHT_DIGITS c = sym (encoded_above 8 _ c.if-v-lt-EIGHT_DIGITS.false)

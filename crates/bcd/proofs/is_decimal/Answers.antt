@@ -5,4 +5,4 @@ use Rattle.bcd.proofs.is_decimal.Goals as goal
 
 pub returns : goal.returns
 unfolding ones
-returns c = no_carry 4 c.args.w
+returns c = rw c.from-n.ensures (no_carry 4 c.args.w)

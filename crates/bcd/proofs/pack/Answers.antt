@@ -17,4 +17,4 @@ unfolding packed digits value
 heavier n tens hundreds thousands l e f g = rw (apart tens hundreds thousands, e, f, g) (omega arith)
 
 pub returns : goal.returns
-returns c = heavier c.args.n _ _ _ c.requires (omega arith) (omega arith) (omega arith)
+returns c = rw c.from-v.ensures (heavier c.args.n _ _ _ c.requires (omega arith) (omega arith) (omega arith))

@@ -1,26 +1,22 @@
--- `finding::find` meets its contract. The loop's invariant: no place passed holds the id.
-use mathlib.Core.Path.{sym}
-use mathlib.Core.Bool.{false}
-use native.Mathlib.Omega.{arith}
-use borrow.Author.Count.{below_more, below_none}
-use borrow.Author.Tests.{eq-eqb, ne_eqb}
+-- `finding::find` meets its contract: the first number of the column that is the id's.
+use Prim.Native.Nat.{◌+◌}
+use mathlib.Core.Path.{◌≡◌, ap}
+use lib.Dec.{eqb}
+use lib.ListN.{take}
+use Rattle.std.proofs.Common.{rules, get_or-take}
+use Rattle.std.specs.List.{position}
+use Rattle.std.proofs.lemmas.Iterator.{YieldsList-from_slice}
+use Rattle.std.proofs.lemmas.Iterator.Search.{position_from_yields_List}
+use borrow.Author.Tests.{tests}
 use Rattle.numbers.specs.Numbers.{places}
 use Rattle.table.specs.inner.Places.{holds}
-use Rattle.laws.proofs.SearchLaws.{best-nothing, first_found}
+use Rattle.finding.proofs.ScanLaws.{found_place}
 use Rattle.finding.proofs.find.Goals as goal
 
-pub loop-k-init : goal.loop-k-init
-loop-k-init c = (omega arith, below_none _)
-
-pub returns-then-ids-k : goal.returns-then-ids-k
-returns-then-ids-k c =
-    let a = c.args in
-    sym (first_found (holds a.ids.now a.id.0) places a.top c.loop-k.k c.requires c.loop-k-test.true c.loop-k.invariant.1 (eq-eqb _ _ c.if-ids-k.true))
-
-pub loop-k-preserved : goal.loop-k-preserved
-loop-k-preserved c = (omega arith, below_more _ _ c.loop-k.invariant.1 (ne_eqb _ _ c.if-ids-k.false))
-
-pub returns : goal.returns
-returns c =
-    let a = c.args in
-    sym (best-nothing (holds a.ids.now a.id.0) (λ j k. false) places a.top (λ j h. c.loop-k.invariant.1 j (omega arith)))
+pub returns-clause-found : goal.returns-clause-found
+returns-clause-found c =
+    let t = c.args.table.now in
+    let id = c.args.id.0 in
+    let e : c.position.result ≡ position (λ x. eqb x (id + 1)) (take t.top t.ids) =
+    position_from_yields_List _ _ _ c.position.result c.position.ensures.ran (YieldsList-from_slice (take t.top t.ids) cc) (λ x b q k. search (rules, tests)) in
+    rw e (found_place (λ x. eqb x (id + 1)) (take t.top t.ids) (holds t.ids id) places t.top c.requires (search rules) (λ k h. ap (λ x. eqb x (id + 1)) (get_or-take t.top t.ids k 0 h)))

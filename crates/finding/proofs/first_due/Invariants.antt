@@ -1,12 +1,9 @@
 -- `finding::first_due` meets its contract: no place that is passed is due.
-use Prim.Native.Nat.{ℕ, ◌-◌, ◌≤◌, ◌<◌}
+use Prim.Native.Nat.{ℕ, ◌<◌}
 use mathlib.Core.Path.{◌≡◌}
 use mathlib.Core.Bool.{false}
 use Rattle.table.specs.inner.Places.{is_due}
 use Rattle.finding.proofs.first_due.Given as goal
 
 abbrev pub invariant-loop-k : goal.invariant-loop-k
-invariant-loop-k l = (l.k ≤ l.top) × ((j : ℕ) → j < l.k → is_due l.ids l.deadlines l.time j ≡ false)
-
-abbrev pub decreases-loop-k : goal.decreases-loop-k
-decreases-loop-k l = l.top - l.k
+invariant-loop-k l = (j : ℕ) → j < l.k → is_due l.table.ids l.table.deadlines l.time j ≡ false

@@ -1,5 +1,5 @@
 -- `finding::skip_higher` meets its contract: no place that is passed may be sooner.
-use Prim.Native.Nat.{ℕ, ◌-◌, ◌≤◌, ◌<◌}
+use Prim.Native.Nat.{ℕ, ◌+◌, ◌*◌, ◌≤◌, ◌<◌}
 use mathlib.Core.Path.{◌≡◌}
 use mathlib.Core.Bool.{false, ◌&&◌, ◌||◌}
 use lib.Dec.{ltb, leb}
@@ -7,9 +7,7 @@ use lib.ListN.{get_or}
 use Rattle.table.specs.inner.Places.{is_taken}
 use Rattle.finding.proofs.skip_higher.Given as goal
 
-abbrev pub invariant-loop-k : goal.invariant-loop-k
-invariant-loop-k l =
-    (l.from ≤ l.k) × (l.k ≤ l.top) × ((j : ℕ) → l.from ≤ j → j < l.k → (ltb (get_or l.deadlines j 0) l.latest || (is_taken l.ids j && leb (get_or l.ids j 0) l.highest)) ≡ false)
-
-abbrev pub decreases-loop-k : goal.decreases-loop-k
-decreases-loop-k l = l.top - l.k
+abbrev pub invariant-loop-n : goal.invariant-loop-n
+invariant-loop-n l =
+    let t = l.table in
+    (j : ℕ) → l.from ≤ j → j < l.from + 4 * l.n → (ltb (get_or t.deadlines j 0) l.latest || (is_taken t.ids j && leb (get_or t.ids j 0) l.highest)) ≡ false

@@ -1,9 +1,11 @@
 -- `payloads::bring` meets its contract: an exception passes, and each case of what was asked is the definition's.
 use Prim.Native.Nat.{ℕ}
 use mathlib.Core.Path.{◌≡◌, sym, ◌∙◌}
+use mathlib.Core.Logic.{⊎_elim}
 use mathlib.Core.Bool.{false}
+use mathlib.Core.List.{map}
+use Rattle.settings.specs.TagWords.{tag_of}
 use Rattle.pdu.specs.Replies.{what, excepts}
-use Rattle.rewrite.specs.inner.Lent.{tags_of}
 use Rattle.rewrite.specs.Frames.{returned_by, returned}
 use Rattle.rewrite.proofs.FrameLaws.{returned-exception, returned_other}
 use Rattle.payloads.proofs.bring.Goals.{Else-is_exception}
@@ -12,25 +14,17 @@ use Rattle.payloads.proofs.bring.Goals as goal
 pub returns-then-is_exception : goal.returns-then-is_exception
 returns-then-is_exception c unit =
     let a = c.args in
-    sym (returned-exception (tags_of a.count a.words.now) a.frame.now (what unit a.function a.asked) (sym c.is_exception.ensures ∙ c.if-is_exception.true))
+    rw (c.default.ensures.0, c.default.ensures.1)
+    (sym (returned-exception (map tag_of a.tags.words.now) a.frame.now (what unit a.function a.asked) (sym c.is_exception.ensures ∙ c.if-is_exception.true)))
 
 plain : (c : Else-is_exception) → (let a = c.args in excepts a.function a.frame.now ≡ false)
 plain c = sym c.is_exception.ensures ∙ c.if-is_exception.false
 
 by-asked : (c : Else-is_exception) (unit : ℕ)
-    → (let a = c.args in returned (tags_of a.count a.words.now) (what unit a.function a.asked) a.frame.now ≡ returned_by (tags_of a.count a.words.now) a.asked a.frame.now)
+    → (let a = c.args in returned (map tag_of a.tags.words.now) (what unit a.function a.asked) a.frame.now ≡ returned_by (map tag_of a.tags.words.now) a.asked a.frame.now)
 by-asked c unit =
     let a = c.args in
-    returned_other (tags_of a.count a.words.now) a.frame.now (what unit a.function a.asked) (plain c)
-
-pub bring_read-requires : goal.bring_read-requires
-bring_read-requires c = record { run_of = rw c.in-Read.is at (c.requires.brought (plain (goal.at.bring_read-requires c).Else-is_exception)); tag_words = c.requires.tag_words }
-
-pub bring_echo-requires : goal.bring_echo-requires
-bring_echo-requires c = record { run = rw (c.in-SingleWrite.is, c.in-Registers.is) at (c.requires.brought (plain (goal.at.bring_echo-requires c).Else-is_exception)); tag_words = c.requires.tag_words }
-
-pub bring_read-requires-in-ReadWrite : goal.bring_read-requires-in-ReadWrite
-bring_read-requires-in-ReadWrite c = record { run_of = rw c.in-ReadWrite.is at (c.requires.brought (plain (goal.at.bring_read-requires-in-ReadWrite c).Else-is_exception)); tag_words = c.requires.tag_words }
+    returned_other (map tag_of a.tags.words.now) a.frame.now (what unit a.function a.asked) (plain c)
 
 pub returns-in-Read : goal.returns-in-Read
 unfolding returned_by
@@ -40,7 +34,7 @@ returns-in-Read c unit =
 pub returns-in-Bits : goal.returns-in-Bits
 unfolding returned_by
 returns-in-Bits c unit =
-    rw (by-asked (goal.at.returns-in-Bits c).Else-is_exception unit, c.in-SingleWrite.is, c.in-Bits.is)
+    rw (c.default-in-Bits.ensures.0, c.default-in-Bits.ensures.1, by-asked (goal.at.returns-in-Bits c).Else-is_exception unit, c.in-SingleWrite.is, c.in-Bits.is)
 
 pub returns-in-Registers : goal.returns-in-Registers
 returns-in-Registers c unit =
@@ -53,12 +47,6 @@ returns-in-ReadWrite c unit =
 
 pub returns-in-MultipleWrite : goal.returns-in-MultipleWrite
 unfolding returned_by
-returns-in-MultipleWrite c unit = rw (by-asked (goal.at.returns-in-MultipleWrite c).Else-is_exception unit, c.in-MultipleWrite.is)
-
-pub returns-in-MaskWrite : goal.returns-in-MaskWrite
-unfolding returned_by
-returns-in-MaskWrite c unit = rw (by-asked (goal.at.returns-in-MaskWrite c).Else-is_exception unit, c.in-MaskWrite.is)
-
-pub returns-in-Other : goal.returns-in-Other
-unfolding returned_by
-returns-in-Other c unit = rw (by-asked (goal.at.returns-in-Other c).Else-is_exception unit, c.in-Other.is)
+returns-in-MultipleWrite c unit =
+    rw (c.default-in-MultipleWrite.ensures.0, c.default-in-MultipleWrite.ensures.1, by-asked (goal.at.returns-in-MultipleWrite c).Else-is_exception unit)
+    (⊎_elim (λ e. rw e.3) (⊎_elim (λ e. rw e.3) (λ e. rw e)) c.in-MultipleWrite.is)

@@ -9,4 +9,4 @@ returns-then-is_reencoded c = rw (sym c.is_reencoded.ensures ∙ c.if-is_reencod
 
 pub returns : goal.returns
 unfolding returned_by
-returns c = rw (sym c.is_reencoded.ensures ∙ c.if-is_reencoded.false)
+returns c = rw (c.default.ensures.0, c.default.ensures.1, sym c.is_reencoded.ensures ∙ c.if-is_reencoded.false)

@@ -12,12 +12,12 @@ use Rattle.payloads.specs.declared.carrying.Carried.TheVariants.{Nothing, Mask, 
 -- a run of registers; of bits there is nothing
 abbrev pub run_of : Table → (base start quantity : ℕ) → Carried
 run_of Bits base start quantity = Nothing
-run_of Registers base start quantity = Run base start quantity
+run_of Registers base start quantity = Run (record { base = base; start = start; quantity = quantity })
 
 abbrev pub carried_by : Asked → Carried
 carried_by (Read t s q) = Nothing
 carried_by (SingleWrite t a v) = run_of t single_base a 1
 carried_by (MultipleWrite t s q) = run_of t multiple_base s q
 carried_by (MaskWrite a x y) = Mask a
-carried_by (ReadWrite s q u p) = Run read_write_base u p
+carried_by (ReadWrite s q u p) = run_of Registers read_write_base u p
 carried_by Other = Nothing

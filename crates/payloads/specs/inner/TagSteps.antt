@@ -1,17 +1,9 @@
 -- What the code that rewrites one tag gives back, as the definitions of rewriting have it.
 -- Assumes nothing.
 use Rattle.std.specs.Prelude.{ℕ, List}
-use Rattle.std.proofs.Math.Option.{Option, some, none}
 use Rattle.rewrite.specs.Rewriting.{Rewritten, with_counts}
-use Rattle.rewrite.specs.declared.Turned.{Turned}
-use Rattle.rewrite.specs.declared.Turned.TheVariants.{Number, LeftRaw}
 use Rattle.rewrite.specs.declared.Rawness.{Rawness}
 use Rattle.rewrite.specs.declared.Rawness.TheVariants as rawness
-
--- what the code makes of a tag's number, as the definition has it
-abbrev pub number_in : Turned → Option ℕ
-number_in (Number n) = some n
-number_in LeftRaw = none
 
 -- what a tag came to: the counts, by whether it was left raw, and the buffer
 abbrev pub counted : Rawness → List ℕ → Rewritten

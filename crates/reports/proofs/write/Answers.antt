@@ -1,4 +1,6 @@
 -- `reports::write` meets its contract: each case of what writing comes to.
+use Rattle.std.specs.Prelude.{Err}
+use mathlib.Core.Path.{ap, ◌∙◌}
 use native.Mathlib.Omega.{arith}
 use Rattle.reports.specs.Reports.{wrote_told}
 use Rattle.reports.proofs.ReportLaws.{written_low, write_is}
@@ -6,17 +8,17 @@ use Rattle.reports.proofs.write.Goals as goal
 
 pub overflow_cast-size : goal.overflow_cast-size
 overflow_cast-size c =
-    let low = written_low _ _ _ _ _ c.write_text.ensures c.in-Text.is in
+    let low = written_low _ _ _ _ _ c.write_text.ensures c.in-Ok.is in
     record { fits = omega arith }
 
-pub returns-in-Text : goal.returns-in-Text
+pub returns-in-Ok : goal.returns-in-Ok
 unfolding wrote_told
-returns-in-Text c = write_is _ c.said.ensures c.in-Text.is c.write_text.ensures
+returns-in-Ok c = write_is _ c.said.ensures c.in-Ok.is c.write_text.ensures
 
-pub returns-in-TooShort : goal.returns-in-TooShort
+pub returns-in-Err-TooShort : goal.returns-in-Err-TooShort
 unfolding wrote_told
-returns-in-TooShort c = write_is _ c.said-in-TooShort.ensures c.in-TooShort.is c.write_text.ensures
+returns-in-Err-TooShort c = write_is _ c.said-in-Err-TooShort.ensures (c.in-Err-TooShort.is ∙ ap Err c.in-Err-TooShort.field-0-is) c.write_text.ensures
 
-pub returns-in-Invalid : goal.returns-in-Invalid
+pub returns-in-Err-Invalid : goal.returns-in-Err-Invalid
 unfolding wrote_told
-returns-in-Invalid c = write_is _ c.said-in-Invalid.ensures c.in-Invalid.is c.write_text.ensures
+returns-in-Err-Invalid c = write_is _ c.said-in-Err-Invalid.ensures (c.in-Err-Invalid.is ∙ ap Err c.in-Err-Invalid.field-0-is) c.write_text.ensures

@@ -13,8 +13,9 @@ pub show-length-requires : goal.show-length-requires
 show-length-requires c = record { sound_cache = c.requires.sound_cache; frame_buffer_in_bounds = c.requires.frame_buffer_in_bounds.0 }
 
 pub value_at-value-requires : goal.value_at-value-requires
-value_at-value-requires c = ((c.args.shown.now, c.requires.sound_cache.0), c.requires.sound_cache.1)
+value_at-value-requires c = ((c.args.cache.now.shown, c.requires.sound_cache.0), c.requires.sound_cache.1)
 
 pub returns : goal.returns
 returns c m =
-    hit_made m c.args.cache.now c.args.shown.now c.args.place c.args.frame.now c.args.out.now c.requires.sound_cache.1 c.requires.sound_cache.2 c.show-length.ensures (c.value_at-value.ensures c.args.shown.now)
+    let cache = c.args.cache.now in
+    hit_made m cache.numbers cache.shown c.args.place c.args.frame.now c.args.out.now c.requires.sound_cache.1 c.requires.sound_cache.2 c.show-length.ensures (c.value_at-value.ensures cache.shown)

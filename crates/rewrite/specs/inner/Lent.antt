@@ -1,7 +1,6 @@
 -- What the callers of the rewriter vouch for: the tag words, a run of registers in a buffer, and a frame that carries what was asked.
 -- Assumes nothing.
-use Rattle.std.specs.Prelude.{ℕ, ◌+◌, ◌*◌, ◌≤◌, ◌≡◌, Bool, List, map, length, get_or, take, leb}
-use Rattle.std.proofs.Math.Option.{some, none}
+use Rattle.std.specs.Prelude.{ℕ, ◌+◌, ◌*◌, ◌≤◌, ◌≡◌, Bool, List, map, length, get_or, take, leb, Some, None}
 use Rattle.numbers.specs.Numbers.{most_tags, addresses, least_frame}
 use Rattle.bcd.specs.declared.Kind.{Kind}
 use Rattle.bcd.specs.Bcd.{registers}
@@ -20,6 +19,11 @@ use Rattle.rewrite.specs.Frames.{read_base, single_base, multiple_base, read_wri
 -- the tags that the first words are
 abbrev pub tags_of : ℕ → List ℕ → List Tag
 tags_of tag_count words = map tag_of (take tag_count words)
+
+-- words of tags, each of which counts
+pub record TagList (words : List ℕ) : Type 0 where
+  pub few : length words ≤ most_tags
+  pub ascending : Ascending 0 (map tag_of words)
 
 -- tag words as a state keeps them
 pub record TagWords (tag_count : ℕ) (words : List ℕ) : Type 0 where
@@ -66,4 +70,4 @@ reaches words start k = leb start (last_of (tag_of (get_or words k 0)))
 -- what becomes of a whole tag whose registers stand from byte k on
 unfoldable pub whole_laid : Way → Kind → ℕ → List ℕ → Rewritten
 whole_laid way kind k d =
-    elim (turned way kind (number_of (registers_at k (registers kind) d))) [ none ↦ with_counts 0 1 d | some n ↦ with_counts 0 0 (laid_at k (words_of kind n) d) ]
+    elim (turned way kind (number_of (registers_at k (registers kind) d))) [ None ↦ with_counts 0 1 d | Some n ↦ with_counts 0 0 (laid_at k (words_of kind n) d) ]

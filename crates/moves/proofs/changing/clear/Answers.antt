@@ -3,6 +3,6 @@ use mathlib.Core.Path.{refl}
 use Rattle.table.specs.inner.Changes.{blank}
 use Rattle.moves.proofs.changing.clear.Goals as goal
 
-pub returns : goal.returns
+pub returns-clause-cleared : goal.returns-clause-cleared
 unfolding blank
-returns c = refl
+returns-clause-cleared c = refl

@@ -4,5 +4,5 @@ use Rattle.pdu.specs.Reads.{is_read}
 use Rattle.table.proofs.ClosingLaws.{closed_read, closed_all}
 use Rattle.moves.proofs.closing.close.Goals as goal
 
-pub returns-else-not-is_read : goal.returns-else-not-is_read
-returns-else-not-is_read c = λ word unit what. closed_all _ _ _ _ _ (closed_read _ _ _ _ (ap is_read what ∙ sym c.is_read.ensures ∙ c.if-not-is_read.false))
+pub returns-else-not-is_read-clause-closed : goal.returns-else-not-is_read-clause-closed
+returns-else-not-is_read-clause-closed c = λ word unit asked. closed_all _ _ _ _ _ (closed_read _ _ _ _ (ap is_read asked ∙ sym c.is_read.ensures ∙ c.if-not-is_read.false))

@@ -12,7 +12,7 @@ has-two Width32 h = refl
 has-two Signed16 h = absurd (h refl)
 
 pub word_tag-requires : goal.word_tag-requires
-word_tag-requires c = record { run = c.requires; word_value = ap registers (sym c.tag_kind.ensures) ∙ sym c.registers_of.ensures ∙ c.if-registers_of-eq1.true }
+word_tag-requires c = record { in_buffer = c.requires; word_value = ap registers (sym c.tag_kind.ensures) ∙ sym c.registers_of.ensures ∙ c.if-registers_of-eq1.true }
 
 pub pair_tag-requires : goal.pair_tag-requires
-pair_tag-requires c = record { run = c.requires; word_value = sym c.tag_kind.ensures ∙ has-two c.tag_kind.result (λ e. c.if-registers_of-eq1.false (c.registers_of.ensures ∙ e)) }
+pair_tag-requires c = record { in_buffer = c.requires; word_value = sym c.tag_kind.ensures ∙ has-two c.tag_kind.result (λ e. c.if-registers_of-eq1.false (c.registers_of.ensures ∙ e)) }

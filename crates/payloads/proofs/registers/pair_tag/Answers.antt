@@ -15,22 +15,22 @@ known c =
     record { first_is = c.tag_address-address.ensures; final_is = omega (arith, c.tag_address-address.ensures, behind_last (tag_of c.args.word), ap registers c.requires.word_value); bytes = λ i. (c.type_inv.d i).fits }
 
 pub returns-then-last-from : goal.returns-then-last-from
-returns-then-last-from c = let a = c.args in one_outside a.way a.base a.start a.quantity (known (goal.at.returns-then-last-from c).After-tag_address-address) c.if-last-from.true
+returns-then-last-from c = let a = c.args in one_outside a.way a.run.base a.run.start a.run.quantity (known (goal.at.returns-then-last-from c).After-tag_address-address) (rw c.end-end.ensures at c.if-last-from.true)
 
 pub returns-then-address-from : goal.returns-then-address-from
-returns-then-address-from c = let a = c.args in one_partial a.way a.base a.start a.quantity (known (goal.at.returns-then-address-from c).After-tag_address-address) c.if-last-from.false c.if-address-from.true
+returns-then-address-from c = let a = c.args in one_partial a.way a.run.base a.run.start a.run.quantity (known (goal.at.returns-then-address-from c).After-tag_address-address) (rw c.end-end.ensures at c.if-last-from.false) (rw c.end-end.ensures at c.if-address-from.true)
 
 pub overflow_sub-k : goal.overflow_sub-k
-overflow_sub-k c = let a = c.args in (one_room a.way a.base a.start a.quantity (known (goal.at.overflow_sub-k c).After-tag_address-address) c.if-address-from.false).0
+overflow_sub-k c = let a = c.args in (one_room a.way a.run.base a.run.start a.run.quantity (known (goal.at.overflow_sub-k c).After-tag_address-address) (rw c.end-end.ensures at c.if-address-from.false)).0
 
 pub whole_pair-requires : goal.whole_pair-requires
 unfolding registers
 whole_pair-requires c =
     let a = c.args in
-    omega (arith, c.requires.run.room, one_room a.way a.base a.start a.quantity (known (goal.at.whole_pair-requires c).After-tag_address-address) c.if-address-from.false, ap registers c.requires.word_value)
+    omega (arith, c.requires.in_buffer.room, one_room a.way a.run.base a.run.start a.run.quantity (known (goal.at.whole_pair-requires c).After-tag_address-address) (rw c.end-end.ensures at c.if-address-from.false), ap registers c.requires.word_value)
 
 pub returns : goal.returns
 returns c =
     let a = c.args in
     c.whole_pair.ensures
-    ∙ rw c.requires.word_value at (one_whole a.way a.base a.start a.quantity (known (goal.at.returns c).After-tag_address-address) c.if-address-from.false (a.base + 2 * (c.tag_address-address.result - a.start)) refl)
+    ∙ rw c.requires.word_value at (one_whole a.way a.run.base a.run.start a.run.quantity (known (goal.at.returns c).After-tag_address-address) (rw c.end-end.ensures at c.if-address-from.false) (a.run.base + 2 * (c.tag_address-address.result - a.run.start)) refl)

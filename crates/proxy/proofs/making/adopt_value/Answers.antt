@@ -8,7 +8,7 @@ adopt-requires c = sym c.is_valid.ensures ∙ c.if-is_valid.true
 
 pub returns-then-is_valid : goal.returns-then-is_valid
 returns-then-is_valid c =
-    takes _ (adopts_valid _ (sym c.is_valid.ensures ∙ c.if-is_valid.true)) (c.adopt.ensures.tag_words_after, c.adopt.ensures.settled)
+    takes _ (adopts_valid _ (sym c.is_valid.ensures ∙ c.if-is_valid.true)) (c.adopt.ensures.kept, c.adopt.ensures.settled)
 
 pub returns : goal.returns
-returns c = takes _ (adopts_usual _ (sym c.is_valid.ensures ∙ c.if-is_valid.false)) kept_usual
+returns c = rw c.from.ensures (takes _ (adopts_usual _ (sym c.is_valid.ensures ∙ c.if-is_valid.false)) kept_usual)

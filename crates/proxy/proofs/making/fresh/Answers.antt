@@ -3,4 +3,4 @@ use Rattle.proxy.proofs.MakingLaws.{blank_bytes, made-fresh}
 use Rattle.proxy.proofs.making.fresh.Goals as goal
 
 pub returns : goal.returns
-returns c = made-fresh _ _ _ _ _ _ c.clear.ensures c.adopt_value.ensures (c.empty.ensures _ blank_bytes)
+returns c = rw c.empty.ensures.stays (made-fresh _ _ _ _ _ _ c.clear.ensures.cleared c.adopt_value.ensures (c.empty.ensures.emptied _ blank_bytes))

@@ -1,14 +1,8 @@
 -- `scripts::naming::length_in` meets its contract: the number behind the comma, up to the most.
-use native.Mathlib.Omega.{arith}
-use Rattle.scripts.proofs.WordLaws.{length-given, length_most}
+use Rattle.std.proofs.Common.{arith}
+use Rattle.scripts.specs.Words.{length_in}
 use Rattle.scripts.proofs.naming.length_in.Goals as goal
 
-pub returns-then-given-most : goal.returns-then-given-most
-returns-then-given-most c =
-    let a = c.args in
-    (length-given a.call.now a.letter a.usual a.most c.number-given.result (rw (c.field-word.ensures, c.rest-2.ensures, c.rest.ensures) at c.number-given.ensures) (omega arith), omega arith)
-
-pub returns-else-given-most : goal.returns-else-given-most
-returns-else-given-most c =
-    let a = c.args in
-    (length_most a.call.now a.letter a.usual a.most c.number-given.result (rw (c.field-word.ensures, c.rest-2.ensures, c.rest.ensures) at c.number-given.ensures) (omega arith), omega arith)
+pub returns : goal.returns
+unfolding length_in
+returns c = (rw (← c.rest.ensures, ← c.rest-2.ensures, ← c.field-word.ensures, ← c.number.ensures) c.min.ensures, omega arith)

@@ -2,4 +2,4 @@
 use Rattle.scripts.proofs.naming.short_number.Goals as goal
 
 pub returns : goal.returns
-returns c = rw (c.number.ensures, c.field.ensures)
+returns c = rw (c.number.ensures, c.field.ensures, c.from.ensures)

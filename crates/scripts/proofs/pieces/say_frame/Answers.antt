@@ -1,16 +1,14 @@
 -- `scripts::pieces::say_frame` meets its contract: the ':' and the bytes are said as one.
-use mathlib.Core.Path.{sym}
-use native.Mathlib.Omega.{arith}
-use Rattle.parts.proofs.SaidLaws.{said-nothing}
-use Rattle.scripts.proofs.PieceLaws.{frame-none, frame-some}
+use Rattle.parts.proofs.SayingLaws.{says_says, says_nothing}
+use Rattle.std.proofs.Common.{sym, ◌∙◌, refl}
+use Rattle.scripts.specs.Pieces.{frame_text}
 use Rattle.scripts.proofs.pieces.say_frame.Goals as goal
 
-pub returns-then-frame-eq0 : goal.returns-then-frame-eq0
-returns-then-frame-eq0 c =
-    let a = c.args in
-    rw (frame-none a.frame.now c.if-frame-eq0.true) (sym (said-nothing a.right.now a.at (omega arith)))
+pub returns-then-not-is_empty : goal.returns-then-not-is_empty
+unfolding frame_text
+returns-then-not-is_empty c = rw (sym c.is_empty.ensures ∙ c.if-not-is_empty.true) (says_says c.say_colon.ensures c.say_hex.ensures)
 
-pub returns : goal.returns
-returns c =
-    let a = c.args in
-    cc (frame-some a.right.now a.at a.frame.now (λ z. c.if-frame-eq0.false (cc)))
+pub returns-else-not-is_empty : goal.returns-else-not-is_empty
+unfolding frame_text
+returns-else-not-is_empty c =
+    rw (sym c.is_empty.ensures ∙ c.if-not-is_empty.false) (says_nothing c.args.said.now c.args.said.now refl refl)

@@ -1,14 +1,13 @@
 -- `scripts::pieces::say_touched` meets its contract: nothing is said of what was kept.
-use mathlib.Core.Path.{sym}
-use native.Mathlib.Omega.{arith}
-use Rattle.parts.proofs.SaidLaws.{said-nothing}
-use Rattle.scripts.proofs.PieceLaws.{touched_kept, touched_changed}
+use Rattle.std.proofs.Common.{refl}
+use Rattle.parts.proofs.SayingLaws.{says_nothing}
+use Rattle.scripts.specs.Pieces.{touched}
 use Rattle.scripts.proofs.pieces.say_touched.Goals as goal
 
-pub returns-then-kept : goal.returns-then-kept
-returns-then-kept c =
-    let a = c.args in
-    rw (touched_kept a.kept c.if-kept.true) (sym (said-nothing a.right.now a.at (omega arith)))
+pub returns-then-not-kept : goal.returns-then-not-kept
+unfolding touched
+returns-then-not-kept c = rw c.if-not-kept.true c.say.ensures
 
-pub returns-else-kept : goal.returns-else-kept
-returns-else-kept c = cc (touched_changed c.args.kept c.if-kept.false)
+pub returns-else-not-kept : goal.returns-else-not-kept
+unfolding touched
+returns-else-not-kept c = rw c.if-not-kept.false (says_nothing c.args.said.now c.args.said.now refl refl)

@@ -1,22 +1,13 @@
--- `scripts::telling::kept_places` meets its contract. The loop's invariant: what is left is all as it was exactly where the whole is.
-use mathlib.Core.Path.{sym, ◌∙◌}
-use native.Mathlib.Omega.{arith}
+-- `scripts::telling::kept_places` meets its contract: every place from the one on is looked at.
+use Rattle.std.proofs.Common.{◌∙◌, eqb, rules, tests, drop}
+use Rattle.std.proofs.lemmas.Iterator.{YieldsList-from_slice}
+use Rattle.std.proofs.lemmas.Iterator.Search.{all_from_yields_List}
+use Rattle.std.proofs.lemmas.Iterator.Adapters.{YieldsList-from_skip}
 use Rattle.scripts.specs.Pieces.{kept_place}
-use Rattle.scripts.proofs.PieceLaws.{all_more, all_broken, all_done}
-use borrow.Author.Rules.{rules}
+use Rattle.scripts.proofs.PieceLaws.{all_list}
 use Rattle.scripts.proofs.telling.kept_places.Goals as goal
-
-pub returns-then-list-at : goal.returns-then-list-at
-returns-then-list-at c =
-    let l = c.loop-at in
-    sym (all_broken kept_place c.args.list.now l.at (omega arith) (search rules)) ∙ l.invariant
-
-pub loop-at-preserved : goal.loop-at-preserved
-loop-at-preserved c =
-    let l = c.loop-at in
-    sym (all_more kept_place c.args.list.now l.at (omega arith) (search rules)) ∙ l.invariant
 
 pub returns : goal.returns
 returns c =
-    let l = c.loop-at in
-    sym (all_done kept_place c.args.list.now l.at (omega arith)) ∙ l.invariant
+    let list = c.args.list.now in
+    all_from_yields_List (λ x. eqb x kept_place) _ _ _ c.all.ensures.ran (YieldsList-from_skip c.args.from (YieldsList-from_slice list (cc)) (cc)) (λ x b q k. search (rules, tests)) ∙ all_list kept_place (drop c.args.from list)

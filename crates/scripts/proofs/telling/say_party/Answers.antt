@@ -3,4 +3,4 @@ use Rattle.scripts.proofs.telling.say_party.Goals as goal
 
 pub returns : goal.returns
 returns c =
-    rw (c.behind-form.ensures, c.skipped.ensures, c.place_at-client.ensures, c.place_at-id.ensures) at c.say_form.ensures
+    rw (c.behind-form.ensures, c.skipped.ensures, c.from.ensures, c.from-2.ensures, c.place_at-client.ensures, c.place_at-id.ensures) at c.say_form.ensures

@@ -1,18 +1,15 @@
--- `settingstext::reading::begins` meets its contract: so many bytes of the key stand in the text. The measure is what is left of the key.
-use Rattle.settingstext.proofs.PlaceLaws.{begun_none, begun_all, begun_short, begun_other, begun_more}
+-- `settingstext::reading::begins` meets its contract: what starts with the key has something behind it.
+use Prim.Native.Nat.{◌-◌, ◌≤◌}
+use mathlib.Core.Path.{◌∙◌}
+use native.Mathlib.Omega.{arith}
+use lib.ListN.{length, drop, length-drop}
+use Rattle.std.proofs.lemmas.List.{take_all}
+use Rattle.settingstext.proofs.PlaceLaws.{starts-found}
 use Rattle.settingstext.proofs.reading.begins.Goals as goal
 
-pub loop-i-init : goal.loop-i-init
-loop-i-init c = begun_none _ _ _
-
-pub returns-then-text-place : goal.returns-then-text-place
-returns-then-text-place c = begun_short _ _ _ _ c.loop-i.invariant c.loop-i-test.true c.if-text-place.true
-
-pub returns-then-text-place-2 : goal.returns-then-text-place-2
-returns-then-text-place-2 c = begun_other _ _ _ _ c.loop-i.invariant c.loop-i-test.true c.if-text-place.false c.if-text-place-2.true
-
-pub loop-i-preserved : goal.loop-i-preserved
-loop-i-preserved c = begun_more _ _ _ _ c.loop-i.invariant c.loop-i-test.true c.if-text-place.false c.if-text-place-2.false
-
 pub returns : goal.returns
-returns c = begun_all _ _ _ _ c.loop-i.invariant c.loop-i-test.false
+returns c =
+    let t = c.args.text.now in
+    let h : length (drop c.args.at t) ≤ length t - c.args.at = omega (arith, length-drop c.args.at t) in
+    let all = take_all (length t - c.args.at) (drop c.args.at t) h in
+    rw all at c.starts_with.ensures.value ∙ starts-found c.args.key.now (drop c.args.at t)

@@ -1,11 +1,6 @@
--- `settingstext::reading::number_at` meets its contract: the digits so far are a number. The measure is what is left of the text.
-use Prim.Native.Nat.{◌-◌}
-use lib.ListN.{length}
+-- `settingstext::reading::number_at` meets its contract: the digits so far are a number.
 use Rattle.settingstext.proofs.PlaceLaws.{Counted}
 use Rattle.settingstext.proofs.reading.number_at.Given as goal
 
 abbrev pub invariant-loop-next : goal.invariant-loop-next
 invariant-loop-next l = Counted l.text l.at l.next l.number
-
-abbrev pub decreases-loop-next : goal.decreases-loop-next
-decreases-loop-next l = length l.text - l.next

@@ -1,6 +1,7 @@
 -- `settingstext::writing::write_text` meets its contract: refusal 10, refusal 1, or the one text and nothing beyond it.
 use mathlib.Core.Path.{sym, ◌∙◌}
 use native.Mathlib.Omega.{arith}
+use Rattle.settings.specs.Values.{value_of}
 use Rattle.settings.proofs.ValueLaws.{valid_few}
 use Rattle.settingstext.proofs.WritingLaws.{length_text, laid_text, wrote_invalid, wrote_short, wrote_text_lem}
 use Rattle.settingstext.proofs.writing.write_text.Goals as goal
@@ -16,12 +17,14 @@ returns-then-text-text_length c =
     wrote_short _ _ c.is_valid.ensures c.if-not-is_valid.false c.text_length.ensures c.if-text-text_length.true
 
 pub write_head-at-requires : goal.write_head-at-requires
-write_head-at-requires c = omega (arith, c.text_length.ensures ∙ length_text _, c.if-text-text_length.false)
+write_head-at-requires c = omega (arith, c.text_length.ensures ∙ length_text c.args.s.now, c.if-text-text_length.false)
 
 pub write_tags-requires : goal.write_tags-requires
+unfolding value_of
 write_tags-requires c =
-    (valid_few _ (sym c.is_valid.ensures ∙ c.if-not-is_valid.false), omega (arith, c.text_length.ensures ∙ length_text _, c.if-text-text_length.false))
+    (valid_few _ (sym c.is_valid.ensures ∙ c.if-not-is_valid.false), omega (arith, c.text_length.ensures ∙ length_text c.args.s.now, c.if-text-text_length.false))
 
 pub returns : goal.returns
+unfolding value_of
 returns c =
-    wrote_text_lem _ c.is_valid.ensures c.if-not-is_valid.false c.text_length.ensures c.if-text-text_length.false (laid_text _ c.write_head-at.ensures c.write_tags.ensures)
+    wrote_text_lem _ c.is_valid.ensures c.if-not-is_valid.false c.text_length.ensures c.if-text-text_length.false (laid_text c.args.s.now c.write_head-at.ensures c.write_tags.ensures)

@@ -1,8 +1,0 @@
--- `caching::drop_met` meets its contract: a read drops nothing, and any other request what it spoils.
-use mathlib.Core.Path.{ap, sym, ◌∙◌}
-use Rattle.pdu.specs.Reads.{is_read}
-use Rattle.caching.proofs.DropLaws.{dropped_read, dropped_all}
-use Rattle.caching.proofs.drop_met.Goals as goal
-
-pub returns-else-not-is_read : goal.returns-else-not-is_read
-returns-else-not-is_read c w unit what = dropped_all _ _ _ (dropped_read _ _ _ (ap is_read what ∙ sym c.is_read.ensures ∙ c.if-not-is_read.false))
