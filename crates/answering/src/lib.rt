@@ -27,7 +27,7 @@ use payloads::tags::Tags;
 use pdu::{Asked, Table, What};
 use proxy::Device;
 
-// Refusals 1 and 3, of buffers and time, which need no frame.
+// Refusals 1 and 3, of buffers and time, which need no frame. (Time, buffer and list are lent by C one by one.)
 #[tactic(auto, unfolding(proxy::specs::Gates::tick_gate, machine::specs::Refusals::lowest))]
 fn buffer_or_time_refusal(
     device: &Device,
@@ -80,6 +80,7 @@ fn life_given(word: u64, what: What, frame: &[u8], tags: Tags) -> Option<u16>
     else {
         return None;
     };
+    // A nested pattern was tried: its default arm has no fact that the proof could cite.
     match table {
         Table::Bits => None,
         Table::Registers => caching::lives::life_of(tags, start, quantity),

@@ -91,7 +91,7 @@ fn encode_word(v: u32) -> Option<u32>
     }
 }
 
-// The digits of two registers: the low four in the low word.
+// The digits of two registers: the low four in the low word. (One function for one register and for two, over a count, would need a loop and a power of the count: no plainer. So with their values below.)
 fn encode_pair(v: u32) -> Option<u32>
     ensures { result ≡ encoded_digits (2 * digits_per_register) v }
 {

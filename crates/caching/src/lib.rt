@@ -34,7 +34,7 @@ const HEAD: usize = 9;
 
 const HEAD_COUNTED: u8 = 3;
 
-// The cache of replies, as the host lends it. (Order and types are C's struct zb_state: its fields `cache` and `shown`.)
+// The cache of replies, as the host lends it. (Order and types are C's struct zb_state: its fields `cache` and `shown`. What holds of a cache stands in clauses, since a host lends whatever bytes it has to be made fresh.)
 #[repr(C)]
 #[derive(Drop)]
 pub struct ReplyCache {
@@ -113,7 +113,7 @@ impl ReplyCache {
         None
     }
 
-    // The place that was filled first, of several the lowest.
+    // The place that was filled first, of several the lowest. (`min_by_key` answers an Option that is never none, so that it is no plainer.)
     fn oldest_place(&self) -> usize
         ensures { result ≡ best (λ k. true) (is_earlier self.now.numbers) cache_places cache_places }
     {

@@ -54,7 +54,7 @@ fn asked_bits(asked: Asked) -> u64
     }
 }
 
-// What was asked as one word.
+// What was asked as one word. (`word_of` and `what_of` are functions and no `From`: docs/TRIALS.md names them.)
 pub fn word_of(what: What) -> u64
     ensures { result ≡ word_of what }
 {

@@ -22,9 +22,10 @@ pub enum Refusal {
     Settings = 10,
 }
 
-// What a call answers. Each case's numbers for the C host are in specs/Numbers.antt.
+// What a call answers. Each case's numbers for the C host are in specs/Numbers.antt. (A refusal is a number and an exception its code here, and the counts stand apart, as the theorems on answers have them.)
 #[derive(Clone, Copy)]
 pub enum Answer {
+    // A number, not a Refusal, and below a code, which is a byte of the frame: the theorems on what is refused and excepted, as `refused_is`, conclude `Refused n` and `Excepted code`.
     Refused {
         number: u32,
     },
@@ -73,7 +74,7 @@ impl From<Refusal> for Answer {
     }
 }
 
-// The C host's answer: a field that a call does not speak of is 0.
+// The C host's answer, numbers alone: a field that a call does not speak of is 0.
 #[repr(C)]
 #[derive(Clone, Copy, Default)]
 pub struct Report {
@@ -89,7 +90,7 @@ pub struct Report {
     pub code: u32,
 }
 
-// How many requests are live, and the earliest deadline of them, NO_DEADLINE where none is.
+// How many requests are live, and the earliest deadline of them, NO_DEADLINE where none is: C's struct zb_next has no place for "none".
 #[repr(C)]
 #[derive(Clone, Copy)]
 pub struct NextDeadline {

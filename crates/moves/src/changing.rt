@@ -11,7 +11,7 @@ ghost use Rattle.table.specs.inner.Changes.{Runs, Joined, blank};
 use pdu::{OriginalId, ProxyId};
 use table::LiveTable;
 
-// Stores a new entry with its first party at a free place.
+// Stores a new entry with its first party at a free place. (Client and original id are two columns, and the client is the caller too.)
 pub fn issue(
     table: &mut LiveTable,
     place: usize,

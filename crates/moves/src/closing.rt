@@ -17,7 +17,7 @@ fn word_after(what: What, id: u32, held: u64) -> u64
     held
 }
 
-// Closes what the request spoils at the places below top.
+// Closes what the request spoils at the places below top. (The cache has such a loop, which empties what this one closes.)
 fn close_met(
     ids: &[u32; numbers::PLACES],
     asked: &mut [u64; numbers::PLACES],

@@ -2,7 +2,7 @@
 ghost use Rattle.std.specs.Prelude.{◌≡◌, ◌<◌, ◌≤◌, min, max, length, take, drop};
 ghost use Rattle.parts.specs.Digits.{IsPrefixLen, last_digits, IsDigitCount, hex_digit_ascii};
 
-// Puts n's decimal digits at the start of out, and returns how many there are.
+// Puts n's decimal digits at the start of out, and returns how many there are. (`decimal` and `hex` have a definition each, and so two contracts. They promise each digit in a lent buffer, and docs/TRIALS.md names them: a Display would stand beside them.)
 pub fn decimal(n: u64, out: &mut [u8; 20]) -> usize
     ensures in_bounds { IsPrefixLen result out.new }
     ensures len { IsDigitCount 10 1 n result }
@@ -52,6 +52,7 @@ fn write_digits(n: u64, base: u64, k: usize, out: &mut [u8])
     }
 }
 
+// A digit in lower case; the one of `hex.rt` is in upper case, and each has its definition.
 fn digit_to_ascii(d: u64) -> u8
     requires { d < 16 }
     ensures { result ≡ hex_digit_ascii d }

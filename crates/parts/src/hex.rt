@@ -5,7 +5,7 @@ ghost use Rattle.parts.specs.Texts.{nibble as nibbleOf, bytes_of, digit as digit
 
 use crate::behind;
 
-// The number that a hexadecimal digit is: 0 to 9, A to F.
+// The number that a hexadecimal digit is: 0 to 9, A to F. (Not `to_digit`, which takes lower case too and is none for another byte.)
 fn nibble(digit: u8) -> u8
     ensures { (result ≡ nibbleOf digit) × (result ≤ 15) }
 {

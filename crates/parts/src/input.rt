@@ -4,7 +4,7 @@ ghost use Rattle.std.specs.Prelude.{◌≤◌, length, IfOk};
 use std::io;
 use std::io::Read;
 
-// Reads until a buffer is full or the input ends, and tells how many bytes it put at the start of the buffer.
+// Reads until a buffer is full or the input ends, and tells how many bytes it put at the start of the buffer. (`read_exact` fails where less comes, and says nothing of how much did.)
 pub fn read_full<R: Read>(input: &mut R, buffer: &mut [u8]) -> io::Result<usize>
     ensures { IfOk result (λ n. n ≤ length buffer.new) }
 {

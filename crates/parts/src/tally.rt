@@ -72,7 +72,7 @@ pub fn print_line(label: &[u8], text: &[u8], output: &mut Output) {
     output.print(b"\n");
 }
 
-// Prints a number in decimal digits.
+// Prints a number in decimal digits. (By `decimal`: for `write!` the output would need the trait Write, and the digits a second way.)
 fn print_decimal(n: u64, output: &mut Output) {
     let mut digits = [0u8; 20];
     let size = decimal(n, &mut digits);

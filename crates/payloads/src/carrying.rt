@@ -28,7 +28,7 @@ impl Run {
     }
 }
 
-// What a request has for registers: nothing, masks for the one at an address, or a run of them.
+// What a request has for registers: nothing, masks for the one at an address, or a run of them. (Three cases, two with a value: no Option.)
 #[derive(Clone, Copy)]
 pub enum Carried {
     Nothing,

@@ -22,7 +22,7 @@ use rewrite::{Raw, Way};
 // The byte at which the registers of a reply to 03, 04 and 23 begin: specs/Frames.antt of rewrite has it under the same name.
 const READ_BASE: usize = 9;
 
-// A request's registers to BCD, in its own frame.
+// A request's registers to BCD, in its own frame. (That the registers lie in the frame is said of both, and stays a clause: a struct of a lent frame and a run would be made again for each call.)
 fn send(frame: &mut [u8], asked: Asked, tags: Tags) -> Raw
     requires sent { Sent asked frame.old }
     ensures { with_counts result.partial result.value frame.new ≡ forwarded (map tag_of tags.entry.words.now) asked frame.old }
@@ -79,6 +79,7 @@ fn bring(frame: &mut [u8], function: u8, asked: Asked, tags: Tags) -> Raw
             start,
             quantity,
         } => bring_read(frame, table, start, quantity, tags),
+        // A nested pattern was tried: the check gives no name to the fact that these are registers.
         Asked::SingleWrite {
             table,
             address,
@@ -90,6 +91,7 @@ fn bring(frame: &mut [u8], function: u8, asked: Asked, tags: Tags) -> Raw
         Asked::ReadWrite {
             start,
             quantity,
+            // Named, since the wrong program reply-23-by-its-write-start reads it.
             write_start: _,
             write_quantity: _,
         } => bring_read(frame, Table::Registers, start, quantity, tags),
@@ -110,7 +112,7 @@ pub fn forward(out: &mut [u8], frame: &[u8], id: ProxyId, asked: Asked, tags: Ta
     raw
 }
 
-// Writes a reply's frame over the start of out, with id 0, its registers rewritten.
+// Writes a reply's frame over the start of out, with id 0, its registers rewritten. (Function and what was asked are two, since the promise is for every unit; `forward` has other registers and another id in the same four steps.)
 pub fn give_back(out: &mut [u8], frame: &[u8], function: u8, asked: Asked, tags: Tags) -> Raw
     requires framed { Framed frame.now out.old }
     requires brought { excepts function frame.now ≡ false → Brought asked frame.now }

@@ -50,7 +50,7 @@ fn turn(way: Way, kind: Kind, n: u32) -> Option<u32>
     }
 }
 
-// A whole tag of two registers, the low word first.
+// A whole tag of two registers, the low word first. (One function for one and two registers would branch on the count at each step, where the speed of a reply is: no plainer. So with `pair_tag` and `word_tag` below.)
 fn whole_pair(d: &mut [u8], k: usize, way: Way) -> Rawness
     requires { k + 3 < length d.old }
     ensures { counted result d.new ≡ whole_laid way Kind.Width32 k d.old }

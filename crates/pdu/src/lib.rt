@@ -76,7 +76,7 @@ pub enum Asked {
     Other,
 }
 
-// Why a request is not forwarded: refusal 5, refusal 6, or an exception with its code.
+// Why a request is not forwarded: refusal 5, refusal 6, or an exception with its code, the byte that goes into the frame, as the definitions have it.
 #[derive(Clone, Copy, PartialEq, Eq)]
 pub enum Fault {
     BadFunction,
@@ -112,7 +112,7 @@ impl ProxyId {
     }
 }
 
-// The id that the client gave its request.
+// The id that the client gave its request. (Beside `proxy_of` a function of its own, since the two ids are two types that may not be mixed.)
 pub fn original_of(frame: &[u8]) -> OriginalId
     ensures { result.0 ≡ id_of frame.now }
 {
@@ -126,7 +126,7 @@ pub fn proxy_of(frame: &[u8]) -> ProxyId
     ProxyId(wire::pair_at(frame, 0))
 }
 
-// The class that a function belongs to.
+// The class that a function belongs to. (A function and no `From<u8>`: docs/CLAIMS.md names it.)
 #[tactic(auto, unfolding(crate::specs::Requests::class_of))]
 pub fn class_of(function: u8) -> Class
     ensures { result ≡ class_of function }
@@ -163,7 +163,7 @@ impl Table {
         }
     }
 
-    // The most that one request may read, and the most that one may write.
+    // The most that one request may read, and the most that one may write. (Two functions, as document 02 has two limits: one over a flag would be no plainer.)
     pub fn most_read(self) -> u16
         ensures { result ≡ most_read_of self }
     {

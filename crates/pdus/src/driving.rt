@@ -1,5 +1,4 @@
 // A request forwarded and a reply given back, behind every check of its frame, with document 01's two tags, width 16 at 1024 and width 32 at 1026, and two more: a signed one at 1028, and width 32 at 1029.
-ghost use Rattle.std.specs.Prelude.{◌≡◌};
 ghost use Rattle.rewrite.specs.inner.Lent.{TagWords};
 
 use machine::Refusal;
@@ -19,28 +18,15 @@ pub struct Given {
     pub raw: Raw,
 }
 
-// A tag that is not strict.
-fn tag(address: u16, width: u16, sign: u16, ttl: u16) -> Tag
-    ensures { result ≡ record { address = address; width = width; sign = sign; ttl = ttl; strict = 0 } }
-{
-    Tag {
-        address,
-        width,
-        sign,
-        ttl,
-        strict: 0,
-    }
-}
-
 // Two of the tags have a ttl: it changes nothing of a frame.
 fn tag_words() -> [u64; numbers::MOST_TAGS]
     ensures { TagWords 4 result }
 {
     let mut words = [0u64; numbers::MOST_TAGS];
-    words[0] = tag_word(tag(1024, 16, 0, 60000));
-    words[1] = tag_word(tag(1026, 32, 0, 0));
-    words[2] = tag_word(tag(1028, 16, 1, 500));
-    words[3] = tag_word(tag(1029, 32, 0, 0));
+    words[0] = tag_word(Tag::new(1024, 16, 0, 60000, 0));
+    words[1] = tag_word(Tag::new(1026, 32, 0, 0, 0));
+    words[2] = tag_word(Tag::new(1028, 16, 1, 500, 0));
+    words[3] = tag_word(Tag::new(1029, 32, 0, 0, 0));
     words
 }
 
@@ -60,13 +46,9 @@ pub fn send(frame: &[u8], out: &mut [u8]) -> Result<Given, Refusal> {
         Err(Fault::Excepted(code)) => {
             let id = wire::pair_at(frame, 0);
             wire::frames::except(out, id, unit, function, code);
-            let raw = Raw {
-                partial: 0,
-                value: 0,
-            };
             Ok(Given {
                 size: numbers::EXCEPTION_FRAME,
-                raw,
+                raw: Raw::default(),
             })
         }
         Ok(asked) => {

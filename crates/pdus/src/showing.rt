@@ -63,7 +63,7 @@ fn example(t: Tally, row: &[u8], output: &mut Output) -> Tally {
     t.ended(said)
 }
 
-// Every row of a table.
+// Every row of a table. (The programs have such a loop each, of two lines, over different states.)
 pub fn examples(t: Tally, table: &[u8], output: &mut Output) -> Tally {
     let mut tally = t;
     for line in table.split(|byte| *byte == b'\n') {

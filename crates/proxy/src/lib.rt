@@ -12,7 +12,7 @@ use caching::ReplyCache;
 use payloads::tags::Tags;
 use table::LiveTable;
 
-// The settings inside a device: timeout, join, and the tags as words, of which so many count.
+// The settings inside a device: timeout, join, and the tags as words, of which so many count. (`join` is 0 or 1, and the count stands beside the words, as in C's struct zb_state.)
 #[repr(C)]
 #[derive(Drop)]
 pub struct KeptSettings {

@@ -27,7 +27,7 @@ pub enum Outcome {
 
 pub const EXCEPTION: u32 = Outcome::Exception as u32;
 
-// The numbers of an answer.
+// The numbers of an answer. (A function and no `From`: docs/CLAIMS.md names it.)
 #[tactic(auto, unfolding(machine::specs::Numbers::numbers))]
 pub fn report_of(a: Answer) -> Report
     ensures { result ≡ numbers a }

@@ -33,7 +33,7 @@ use pdu::{Asked, Fault, What};
 use proxy::{Device, KeptSettings};
 use table::LiveTable;
 
-// The refusals 1 to 4, the lowest that applies.
+// The refusals 1 to 4, the lowest that applies. (Client, time, frame and buffer are lent by C one by one, and each function takes those that it uses.)
 fn gate(device: &Device, client: u32, time: u64, frame: &[u8], out: &[u8]) -> Result<(), Refusal>
     ensures { refused_by result ≡ request_gate (length out.now) client device.now.attached time device.now.clock frame.now }
 {
@@ -99,7 +99,7 @@ fn join_request(table: &mut LiveTable, place: usize, client: u8, frame: &[u8]) -
     Answer::Joined { id }
 }
 
-// Issues a legal request into the lowest free place, closes the reads that it spoils, drops what is cached of such, and sends its frame on.
+// Issues a legal request into the lowest free place, closes the reads that it spoils, drops what is cached of such, and sends its frame on. (The word stands beside `what`, made once: it is what the columns keep.)
 fn issue_request(
     device: &mut Device,
     client: u8,

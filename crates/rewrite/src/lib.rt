@@ -20,7 +20,7 @@ pub struct Raw {
     pub value: u32,
 }
 
-// Whether a tag was left raw: not, or for partial cover, or for its value.
+// Whether a tag was left raw: not, or for partial cover, or for its value. (Three outcomes without a value: an Option of a reason would say no more.)
 #[derive(Clone, Copy)]
 pub enum Rawness {
     NotRaw,

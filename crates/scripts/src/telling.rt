@@ -16,7 +16,7 @@ pub const KEPT: u8 = 165;
 // Each place of a lent list before a call.
 pub const KEPT_PLACE: u16 = 42405;
 
-// The number that an outcome's name begins with: a refusal's, an exception's code, or the proxy id.
+// The number that an outcome's name begins with: a refusal's, an exception's code, or the proxy id. (By the report's numbers, of which `outcome_text` is said.)
 fn first_number(r: Report) -> u32
     ensures { result ≡ first_number r }
 {
@@ -53,7 +53,7 @@ fn say_name(said: &mut Saying, answer: Answer, r: Report)
     }
 }
 
-// A place of a list; 0 past its end.
+// A place of a list; 0 past its end. (`byte_at` is the same of bytes: one line each.)
 fn place_at(list: &[u16], k: usize) -> u16
     ensures { result ≡ get_or list.now k 0 }
 {

@@ -8,7 +8,7 @@ ghost use Rattle.settings.specs.TagWords.{kind_of};
 
 use bcd::Kind;
 
-// The boundary's settings: how many of the tag places count, and each tag's address, width, sign and ttl, and whether it is strict.
+// The boundary's settings: how many of the tag places count, and each tag's address, width, sign and ttl, and whether it is strict. (Columns, and numbers for kinds, as C's struct zb_settings has them.)
 #[repr(C)]
 #[derive(Clone, Copy)]
 pub struct Settings {
@@ -28,17 +28,17 @@ impl Settings {
         requires { k < most_tags }
         ensures { result ≡ tag_in self.now k }
     {
-        Tag {
-            address: self.addr[k],
-            width: self.width[k],
-            sign: self.sign[k],
-            ttl: self.ttl[k],
-            strict: self.strict[k],
-        }
+        Tag::new(
+            self.addr[k],
+            self.width[k],
+            self.sign[k],
+            self.ttl[k],
+            self.strict[k],
+        )
     }
 }
 
-// A tag: its address, width, sign and ttl, and whether it is strict.
+// A tag: its address, width, sign and ttl, and whether it is strict. (Numbers, as C's columns have them: it also holds what `is_valid` refuses.)
 #[derive(Clone, Copy, PartialEq, Eq)]
 pub struct Tag {
     pub address: u16,
@@ -49,6 +49,19 @@ pub struct Tag {
 }
 
 impl Tag {
+    // A tag of these five numbers.
+    pub fn new(address: u16, width: u16, sign: u16, ttl: u16, strict: u16) -> Tag
+        ensures { result ≡ record { address = address; width = width; sign = sign; ttl = ttl; strict = strict } }
+    {
+        Tag {
+            address,
+            width,
+            sign,
+            ttl,
+            strict,
+        }
+    }
+
     // The kind of a tag, which its width and its sign decide.
     #[tactic(auto, unfolding(crate::specs::TagWords::kind_of))]
     pub fn kind(self) -> Kind

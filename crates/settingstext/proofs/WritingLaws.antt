@@ -1,12 +1,13 @@
 -- The writer's parts: decimals of any number of digits, lines, tags and the whole text, their lengths and how they are laid over the buffer.
 -- Assumes nothing.
-use Rattle.std.specs.Prelude.{Ok, Err}
+use Rattle.std.specs.Prelude.{Ok, Err, Option, Some, None, IsSome, IfSome}
+use Rattle.std.specs.Option.{unwrap_or}
 use Prim.Native.Nat.{ℕ, zero, suc, ◌+◌, ◌*◌, ◌-◌, ◌/◌, ◌%◌, ◌^◌, ◌≤◌, ◌<◌}
 use mathlib.Core.Path.{◌≡◌, refl, ap, sym, ◌∙◌}
-use mathlib.Core.Logic.{⊎_elim}
-use mathlib.Core.Bool.{Bool, true, false}
+use mathlib.Core.Logic.{⊎_elim, ◌↔◌}
+use mathlib.Core.Bool.{Bool, true, false, false≢true}
 use mathlib.Core.List.{List, [], ◌∷◌, ◌++◌, flat_map, append_assoc, append-nil}
-use native.Mathlib.Nat.{pow-succ', zero-add, add-zero}
+use native.Mathlib.Nat.{pow-succ', one-le-pow, pow-le-pow_right, zero-add, add-zero}
 use native.Mathlib.Omega.{arith}
 use lib.ListN.{length, set, length-append}
 use borrow.Author.Tests.{lt-ltb, le-ltb}
@@ -20,31 +21,10 @@ use Rattle.settings.specs.declared.Settings.{Settings}
 use Rattle.settings.specs.Values.{value_of}
 use Rattle.settingstext.specs.TextWritten.{writing, written_to}
 use Rattle.settingstext.specs.declared.writing.WriteError.TheVariants.{TooShort, Invalid}
-use Rattle.settingstext.specs.inner.Parts.{Laid, head_text, tag_text, tags_text}
+use Rattle.settingstext.specs.declared.writing.Writer.{Writer}
+use Rattle.settingstext.specs.inner.Parts.{Laid, Room, Lays, head_text, tag_text, tags_text}
 use Rattle.settings.proofs.ValueLaws.{tag_at}
 use Rattle.laws.proofs.ByteLaws.{over_at-none, length-over_at, over_at_front, over_at-behind, over_at-over}
-
--- one digit is the number itself; a number of more digits is written as its tenth and the last digit
-pub decimal_last : (k n : ℕ) → n < 10 → decimal_of (suc k) n ≡ (digit_zero + n % 10) ∷ []
-unfolding decimal_of
-decimal_last k n h = let e : n % 10 ≡ n = omega arith in rw (lt-ltb n 10 h, e)
-
--- room for one digit more than a number has changes nothing
-pub decimal-room : (k n : ℕ) → n < 10 ^ suc k → decimal_of (suc (suc k)) n ≡ decimal_of (suc k) n
-unfolding decimal_of
-decimal-room zero n h = let l : n < 10 = omega (arith, h, pow-succ' 10 0) in rw (lt-ltb n 10 l)
-decimal-room (suc k) n h =
-    ⊎_elim
-    (λ l. rw (lt-ltb n 10 l))
-    (λ l. rw (le-ltb n 10 l) (ap (λ (x : List ℕ). x ++ ((digit_zero + n % 10) ∷ [])) (decimal-room k (n / 10) (omega (arith, h, pow-succ' 10 (suc k))))))
-    (lt_or n 10)
-
-pub decimal_more : (k n : ℕ) → 9 < n → n < 10 ^ suc (suc k) → decimal_of (suc (suc k)) n ≡ decimal_of (suc (suc k)) (n / 10) ++ ((digit_zero + n % 10) ∷ [])
-unfolding decimal_of
-decimal_more k n l h = whole ∙ ap (λ (x : List ℕ). x ++ ((digit_zero + n % 10) ∷ [])) (sym (decimal-room k (n / 10) (omega (arith, h, pow-succ' 10 (suc k)))))
-  where
-    whole : decimal_of (suc (suc k)) n ≡ decimal_of (suc k) (n / 10) ++ ((digit_zero + n % 10) ∷ [])
-    whole = rw (le-ltb n 10 (omega arith))
 
 pub decimal_most : (k n : ℕ) → length (decimal_of k n) ≤ k
 unfolding decimal_of
@@ -55,39 +35,42 @@ decimal_most (suc k) n =
     (λ l. rw (le-ltb n 10 l) (omega (arith, length-append (decimal_of k (n / 10)) ((digit_zero + n % 10) ∷ []), decimal_most k (n / 10))))
     (lt_or n 10)
 
-pub decimal-least : (k n : ℕ) → 1 ≤ length (decimal_of (suc k) n)
+-- how many digits a number has, by its power of ten
+digits-log : (e k n : ℕ) → 10 ^ e ≤ n → n < 10 ^ suc e → e < k → length (decimal_of k n) ≡ e + 1
 unfolding decimal_of
-decimal-least k n =
+digits-log e zero n l h r = absurd (omega arith)
+digits-log zero (suc k) n l h r = rw (lt-ltb n 10 (omega (arith, pow-succ' 10 0))) refl
+digits-log (suc e) (suc k) n l h r =
+    let one : 1 ≤ 10 ^ e = one-le-pow e 10 (omega arith) in
+    let many : 10 ≤ n = omega (arith, pow-succ' 10 e) in
+    let rest = digits-log e k (n / 10) (omega (arith, pow-succ' 10 e)) (omega (arith, pow-succ' 10 (suc e))) (omega arith) in
+    rw (le-ltb n 10 many) (omega (arith, rest, length-append (decimal_of k (n / 10)) ((digit_zero + n % 10) ∷ [])))
+
+-- the logarithm of a number of 32 bits tells how many: 0 has none, and one digit
+pub digits_counted : (n : ℕ) (log : Option ℕ) → n < 2 ^ 32 → (IsSome log ↔ ((0 < n) × (2 ≤ 10))) → IfSome log (λ k. 10 ^ k ≤ n) → IfSome log (λ k. n < 10 * 10 ^ k) → unwrap_or log 0 + 1 ≡ length (decimal n)
+unfolding decimal_of
+digits_counted n None h some low high =
+    let none : n ≡ 0 = ⊎_elim (λ (l : 0 < n). absurd (false≢true (some.1 (l, omega arith)))) (λ (l : n ≤ 0). omega arith) (lt_or 0 n) in
+    rw none refl
+digits_counted n (Some e) h some low high =
+    let few : e < 20 = ⊎_elim (λ (l : e < 20). l) (λ (l : 20 ≤ e). absurd (let more : 10 ^ 20 ≤ 10 ^ e = pow-le-pow_right (omega arith) l in omega arith)) (lt_or e 20) in
+    sym (digits-log e 20 n low (omega (arith, pow-succ' 10 e)) few)
+
+-- the last k digits of a number are its decimal, where it has so many
+pub lasts : ℕ → ℕ → List ℕ
+lasts zero n = []
+lasts (suc k) n = lasts k (n / 10) ++ ((digit_zero + n % 10) ∷ [])
+
+lasts_all : (k n : ℕ) → decimal_of k n ≡ lasts (length (decimal_of k n)) n
+unfolding decimal_of lasts
+lasts_all zero n = refl
+lasts_all (suc k) n =
     ⊎_elim
-    (λ l. rw (lt-ltb n 10 l) (omega arith))
-    (λ l. rw (le-ltb n 10 l) (omega (arith, length-append (decimal_of k (n / 10)) ((digit_zero + n % 10) ∷ []))))
+    (λ (l : n < 10). let e : n % 10 ≡ n = omega arith in rw (lt-ltb n 10 l) (rw e refl))
+    (λ (l : 10 ≤ n).
+    let m : length (decimal_of k (n / 10) ++ ((digit_zero + n % 10) ∷ [])) ≡ suc (length (decimal_of k (n / 10))) = omega (arith, length-append (decimal_of k (n / 10)) ((digit_zero + n % 10) ∷ [])) in
+    rw (le-ltb n 10 l, m) (ap (λ (x : List ℕ). x ++ ((digit_zero + n % 10) ∷ [])) (lasts_all k (n / 10))))
     (lt_or n 10)
-
--- counting digits: those counted and those of what is left
-pub record Counted (n left count : ℕ) : Type 0 where
-  pub low : left ≤ n
-  pub all : count + length (decimal left) ≡ length (decimal n) + 1
-
--- every number of 32 bits has room
-room : (n : ℕ) → n < 2 ^ 32 → n < 10 ^ 20
-room n h = omega arith
-
-pub counted_none : (n : ℕ) → Counted n n 1
-counted_none n = record { low = omega arith; all = omega arith }
-
-pub counted_more : {n left count : ℕ} → n < 2 ^ 32 → 9 < left → Counted n left count → Counted n (left / 10) (count + 1)
-counted_more {n} {left} {count} f h w =
-    record {
-      low = omega (arith, w.low);
-      all = omega (arith, w.all, ap length (decimal_more 18 left h (omega (arith, w.low))), length-append (decimal (left / 10)) ((digit_zero + left % 10) ∷ []));
-    }
-
-pub counted_all : {n left count : ℕ} → left ≤ 9 → Counted n left count → count ≡ length (decimal n)
-counted_all {n} {left} {count} h w = omega (arith, w.all, ap length (decimal_last 19 left (omega arith)))
-
--- one byte
-pub laid_byte : (x at : ℕ) (b : List ℕ) → at < length b → Laid (x ∷ []) at b (set b at x) (at + 1)
-laid_byte x at b h = record { bytes = ap (λ (y : List ℕ). set y at x) (sym (over_at-none (at + 1) b)) ∙ over_at_front [] at b x h; behind = refl }
 
 -- how long the parts are
 pub length-line : (key : List ℕ) (n : ℕ) → length (line_of key n) ≡ length key + 1 + length (decimal n) + 1
@@ -164,55 +147,45 @@ longer s k (suc d) =
 tags-some : (s : Settings) (k : ℕ) → k ≤ s.tags → length (tags_to s k) ≤ length (tags_to s s.tags)
 tags-some s k h = let e : k + (s.tags - k) ≡ s.tags = omega arith in rw e at (longer s k (s.tags - k))
 
--- writing digits from the last one on: those that stand already, and the place of the next one
-pub record Digits (n at : ℕ) (before after : List ℕ) (left place : ℕ) : Type 0 where
+-- writing digits from the last one on: those that stand already, from a place on, and those of what is left in front of it
+pub record Digits (n : ℕ) (before now : Writer) (left place : ℕ) : Type 0 where
+  pub same : now.text.ghost_name ≡ before.text.ghost_name
+  pub here : now.at ≡ before.at
+  pub within : before.at ≤ place
   pub done : List ℕ
-  pub whole : decimal n ≡ decimal left ++ done
-  pub bytes : after ≡ over_at done (place + 1) before
-  pub meets : place + 1 ≡ at + length (decimal left)
-  pub fits : at + length (decimal n) ≤ length before
-  pub low : left ≤ n
+  pub whole : decimal n ≡ lasts (place - before.at) left ++ done
+  pub bytes : now.text.now ≡ over_at done place before.text.now
+  pub meets : place + length done ≡ before.at + length (decimal n)
+  pub fits : Room (length (decimal n)) before
 
-pub digits-none : (n at : ℕ) (b : List ℕ) (place : ℕ) → at + length (decimal n) ≤ length b → place + 1 ≡ at + length (decimal n) → Digits n at b b n place
-digits-none n at b place f e = record { done = []; whole = sym (append-nil (decimal n)); bytes = sym (over_at-none (place + 1) b); meets = e; fits = f; low = omega arith }
+pub digits-none : (n : ℕ) (w : Writer) (place : ℕ) → Room (length (decimal n)) w → place ≡ w.at + length (decimal n) → Digits n w w n place
+digits-none n w place f e =
+    let k : place - w.at ≡ length (decimal n) = omega arith in
+    record { same = refl; here = refl; within = omega arith; done = []; whole = rw k (lasts_all 20 n ∙ sym (append-nil _)); bytes = sym (over_at-none place w.text.now); meets = omega arith; fits = f }
 
-module _ {n at : ℕ} {b a : List ℕ} {left place : ℕ} (w : Digits n at b a left place) where
-  sizes : length (decimal n) ≡ length (decimal left) + length w.done
-  sizes = ap length w.whole ∙ length-append (decimal left) w.done
+module _ {n : ℕ} {b a : Writer} {left place : ℕ} (w : Digits n b a left place) where
+  digits_long : length a.text.now ≡ length b.text.now
+  digits_long = ap length w.bytes ∙ length-over_at w.done place b.text.now (omega (arith, w.meets, w.fits))
 
-  pub digits_long : length a ≡ length b
-  digits_long = ap length w.bytes ∙ length-over_at w.done (place + 1) b (omega (arith, sizes, w.meets, w.fits))
-
-  pub digits-place : place < length a
-  digits-place = omega (arith, digits_long, sizes, w.meets, w.fits)
-
-  -- the store of a digit in front of those that stand
-  store : (x : ℕ) → set a place x ≡ over_at (x ∷ w.done) place b
-  store x = ap (λ (y : List ℕ). set y place x) w.bytes ∙ over_at_front w.done place b x (omega (arith, digits-place, digits_long))
-
-  pub digits_more : n < 2 ^ 32 → 9 < left → (1 ≤ place) × Digits n at b (set a place (digit_zero + left % 10)) (left / 10) (place - 1)
-  digits_more f h =
-      let e = decimal_more 18 left h (omega (arith, w.low)) in
-      let l : length (decimal left) ≡ length (decimal (left / 10)) + 1 = ap length e ∙ length-append (decimal (left / 10)) ((digit_zero + left % 10) ∷ []) in
-      let m = decimal-least 19 (left / 10) in
-      let p : place - 1 + 1 ≡ place = omega (arith, w.meets) in (
-        omega (arith, w.meets),
+  module _ (more : b.at < place) where
+    pub digits_more : {c : Writer} → c.text.ghost_name ≡ a.text.ghost_name → c.at ≡ a.at → c.text.now ≡ set a.text.now (place - 1) (digit_zero + left % 10) → Digits n b c (left / 10) (place - 1)
+    unfolding lasts
+    digits_more {c} s h t =
+        let x : ℕ = digit_zero + left % 10 in
+        let k : place - b.at ≡ suc (place - 1 - b.at) = omega arith in
+        let p : place - 1 + 1 ≡ place = omega arith in
+        let whole : decimal n ≡ lasts (suc (place - 1 - b.at)) left ++ w.done = rw k at w.whole in
+        let front : set (over_at w.done (place - 1 + 1) b.text.now) (place - 1) x ≡ over_at (x ∷ w.done) (place - 1) b.text.now = over_at_front w.done (place - 1) b.text.now x (omega (arith, w.meets, w.fits)) in
         record {
-          done = (digit_zero + left % 10) ∷ w.done;
-          whole = w.whole ∙ rw e (append_assoc (decimal (left / 10)) ((digit_zero + left % 10) ∷ []) w.done);
-          bytes = rw p (store (digit_zero + left % 10));
+          same = s ∙ w.same;
+          here = h ∙ w.here;
+          within = omega arith;
+          done = x ∷ w.done;
+          whole = whole ∙ append_assoc (lasts (place - 1 - b.at) (left / 10)) (x ∷ []) w.done;
+          bytes = t ∙ ap (λ (y : List ℕ). set y (place - 1) x) w.bytes ∙ rw p at front;
           meets = omega (arith, w.meets);
           fits = w.fits;
-          low = omega (arith, w.low);
-        },
-      )
-
-  pub digits_all : (end : ℕ) → end ≡ at + length (decimal n) → left ≤ 9 → Laid (decimal n) at b (set a place (digit_zero + left % 10)) end
-  digits_all end q h =
-      let e = decimal_last 19 left (omega arith) in
-      let p : place ≡ at = omega (arith, w.meets, ap length e) in
-      let d : decimal n ≡ (digit_zero + left % 10) ∷ w.done = w.whole ∙ rw e refl in
-      record { bytes = store (digit_zero + left % 10) ∙ rw (d, p); behind = q }
+        }
 
 -- measuring the text: so far, and no more than fits a number
 pub record Measured (s : Settings) (size k : ℕ) : Type 0 where
@@ -264,58 +237,49 @@ pub laid_then : {w v : List ℕ} {at : ℕ} {b m a : List ℕ} {next end : ℕ} 
 laid_then {w} {v} {at} {b} {m} {a} {next} {end} h x y =
     record { bytes = y.bytes ∙ rw (x.behind, x.bytes) (over_at-behind w v at b h); behind = omega (arith, x.behind, y.behind, length-append w v) }
 
-pub laid-line : (n : ℕ) {key : List ℕ} {at : ℕ} {b m₁ m₂ m₃ a : List ℕ} {e₁ e₂ e₃ end : ℕ} → at ≤ length b
-    → Laid key at b m₁ e₁ → Laid (equals ∷ []) e₁ m₁ m₂ e₂ → Laid (decimal n) e₂ m₂ m₃ e₃ → Laid (line_feed ∷ []) e₃ m₃ a end
-    → Laid (line_of key n) at b a end
+pub lays_then : {w v : List ℕ} {b m a : Writer} → b.at ≤ length b.text.now → Lays w b m → Lays v m a → Lays (w ++ v) b a
+lays_then h x y = record { same = y.same ∙ x.same; long = y.long ∙ x.long; laid = laid_then h x.laid y.laid }
+
+pub lays_line : (n : ℕ) {key : List ℕ} {b m₁ m₂ m₃ a : Writer} → b.at ≤ length b.text.now → Lays key b m₁ → Lays (equals ∷ []) m₁ m₂ → Lays (decimal n) m₂ m₃ → Lays (line_feed ∷ []) m₃ a → Lays (line_of key n) b a
 unfolding line_of
-laid-line n h x y z t = simp append_assoc at (laid_then h (laid_then h (laid_then h x y) z) t)
+lays_line n h x y z t = simp append_assoc at (lays_then h (lays_then h (lays_then h x y) z) t)
 
-pub laid_head : (timeout join tags : ℕ) {b m₁ m₂ m₃ a : List ℕ} {e₁ e₂ e₃ end : ℕ}
-    → Laid (line_of version_key newest.number) 0 b m₁ e₁ → Laid (line_of timeout_key timeout) e₁ m₁ m₂ e₂ → Laid (line_of join_key join) e₂ m₂ m₃ e₃ → Laid (line_of tags_key tags) e₃ m₃ a end
-    → Laid (head_text timeout join tags) 0 b a end
-laid_head timeout join tags {b} x y z t =
-    let h : 0 ≤ length b = omega arith in
-    rw (head_lines_lem timeout join tags) (simp append_assoc at (laid_then h (laid_then h (laid_then h x y) z) t))
+pub lays_head : (timeout join tags : ℕ) {b m₁ m₂ m₃ a : Writer} → b.at ≤ length b.text.now
+    → Lays (line_of version_key newest.number) b m₁ → Lays (line_of timeout_key timeout) m₁ m₂ → Lays (line_of join_key join) m₂ m₃ → Lays (line_of tags_key tags) m₃ a
+    → Lays (head_text timeout join tags) b a
+lays_head timeout join tags h x y z t = rw (head_lines_lem timeout join tags) (simp append_assoc at (lays_then h (lays_then h (lays_then h x y) z) t))
 
-pub laid-tag : (g : Tag) {at : ℕ} {b m₁ m₂ m₃ m₄ a : List ℕ} {e₁ e₂ e₃ e₄ end : ℕ} → at ≤ length b
-    → Laid (line_of addr_key g.address) at b m₁ e₁ → Laid (line_of width_key g.width) e₁ m₁ m₂ e₂ → Laid (line_of sign_key g.sign) e₂ m₂ m₃ e₃ → Laid (line_of ttl_key g.ttl) e₃ m₃ m₄ e₄ → Laid (line_of strict_key g.strict) e₄ m₄ a end
-    → Laid (tag_text g) at b a end
-laid-tag g h x y z t u = rw (tag_lines_lem g) (simp append_assoc at (laid_then h (laid_then h (laid_then h (laid_then h x y) z) t) u))
+pub lays_tag : (g : Tag) {b m₁ m₂ m₃ m₄ a : Writer} → b.at ≤ length b.text.now
+    → Lays (line_of addr_key g.address) b m₁ → Lays (line_of width_key g.width) m₁ m₂ → Lays (line_of sign_key g.sign) m₂ m₃ → Lays (line_of ttl_key g.ttl) m₃ m₄ → Lays (line_of strict_key g.strict) m₄ a
+    → Lays (tag_text g) b a
+lays_tag g h x y z t u = rw (tag_lines_lem g) (simp append_assoc at (lays_then h (lays_then h (lays_then h (lays_then h x y) z) t) u))
 
 -- writing the tags: the first k stand
-pub record Written (s : Settings) (at : ℕ) (before after : List ℕ) (next k : ℕ) : Type 0 where
+pub record Written (s : Settings) (before now : Writer) (k : ℕ) : Type 0 where
   pub within : k ≤ s.tags
-  pub room : at + length (tags_to s s.tags) ≤ length before
-  pub long : length after ≡ length before
-  pub stands : Laid (tags_to s k) at before after next
+  pub room : Room (length (tags_to s s.tags)) before
+  pub stands : Lays (tags_to s k) before now
 
-pub written_none : (s : Settings) (at : ℕ) (b : List ℕ) → at + length (tags_to s s.tags) ≤ length b → Written s at b b at 0
-written_none s at b h =
+pub written_none : (s : Settings) (b : Writer) → Room (length (tags_to s s.tags)) b → Written s b b 0
+written_none s b h =
     record {
       within = omega arith;
       room = h;
-      long = refl;
-      stands = rw (tags-none s) (record { bytes = sym (over_at-none at b); behind = omega arith });
+      stands = rw (tags-none s) (record { same = refl; long = refl; laid = record { bytes = sym (over_at-none b.at b.text.now); behind = omega arith } });
     }
 
-pub written_more : {s : Settings} {at : ℕ} {b m a : List ℕ} {next next' k : ℕ} → k < s.tags → length a ≡ length m → Written s at b m next k → Laid (place_text s k) next m a next' → Written s at b a next' (k + 1)
-written_more {s} {k = k} h l w x =
-    record {
-      within = omega arith;
-      room = w.room;
-      long = l ∙ w.long;
-      stands = rw (tags_more s k) (laid_then (omega (arith, w.room)) w.stands x);
-    }
+pub written_more : {s : Settings} {b m a : Writer} {k : ℕ} → k < s.tags → Written s b m k → Lays (place_text s k) m a → Written s b a (k + 1)
+written_more {s} {k = k} h w x = record { within = omega arith; room = w.room; stands = rw (tags_more s k) (lays_then (omega (arith, w.room)) w.stands x) }
 
-pub written_all : {s : Settings} {at : ℕ} {b a : List ℕ} {next k : ℕ} → s.tags ≤ k → Written s at b a next k → Laid (tags_to s s.tags) at b a next
+pub written_all : {s : Settings} {b a : Writer} {k : ℕ} → s.tags ≤ k → Written s b a k → Lays (tags_to s s.tags) b a
 written_all {s} {k = k} h w = let e : k ≡ s.tags = omega (arith, w.within) in rw e at w.stands
 
 -- one tag more has its place
-pub tag-room : {s : Settings} {at : ℕ} {b a : List ℕ} {next k : ℕ} → k < s.tags → Written s at b a next k → next + length (place_text s k) ≤ length a
-tag-room {s} {k = k} h w = omega (arith, w.room, w.long, w.stands.behind, tags-some s (k + 1) (omega arith), length_more s k)
+pub tag-room : {s : Settings} {b a : Writer} {k : ℕ} → k < s.tags → Written s b a k → Room (length (place_text s k)) a
+tag-room {s} {k = k} h w = omega (arith, w.room, tags-some s (k + 1) (omega arith), length_more s k)
 
-pub laid_text : (s : Settings) {b m a : List ℕ} {next end : ℕ} → Laid (head_text s.timeout s.join s.tags) 0 b m next → Laid (tags_to s s.tags) next m a end → Laid (text_in newest (value_of s)) 0 b a end
-laid_text s x y = rw (text_parts s) (laid_then (omega arith) x y)
+pub lays_text : (s : Settings) {b m a : Writer} → b.at ≤ length b.text.now → Lays (head_text s.timeout s.join s.tags) b m → Lays (tags_to s s.tags) m a → Lays (text_in newest (value_of s)) b a
+lays_text s h x y = rw (text_parts s) (lays_then h x y)
 
 -- what writing comes to: an invalid value, a text that does not fit, the text
 pub wrote_invalid : (v : Value) (b : List ℕ) {right : Bool} → right ≡ valid v → right ≡ false → writing (Err Invalid) b ≡ written_to v b
@@ -326,10 +290,10 @@ pub wrote_short : (v : Value) (b : List ℕ) {right : Bool} {size : ℕ} → rig
 unfolding written_to
 wrote_short v b {size = size} e t q h = rw (← e, t, ← q, lt-ltb (length b) size h)
 
-pub wrote_text_lem : (v : Value) {b a : List ℕ} {right : Bool} {size end : ℕ} → right ≡ valid v → right ≡ true → size ≡ length (text_in newest v) → size ≤ length b → Laid (text_in newest v) 0 b a end
-    → writing (Ok end) a ≡ written_to v b
+pub wrote_text_lem : (v : Value) {b a now : List ℕ} {right : Bool} {size end : ℕ} → right ≡ valid v → right ≡ true → size ≡ length (text_in newest v) → size ≤ length b → Laid (text_in newest v) 0 b a end → now ≡ a
+    → writing (Ok end) now ≡ written_to v b
 unfolding written_to
-wrote_text_lem v {b} {a} {end = end} e t q h w =
+wrote_text_lem v {b} {a} {now} {end = end} e t q h w l =
     let n : end ≡ length (text_in newest v) = w.behind ∙ zero-add (length (text_in newest v)) in
-    let o : a ≡ over (text_in newest v) b = w.bytes ∙ over_at-over (text_in newest v) b in
+    let o : now ≡ over (text_in newest v) b = l ∙ w.bytes ∙ over_at-over (text_in newest v) b in
     rw (← e, t, n, o, le-ltb (length b) (length (text_in newest v)) (omega arith))

@@ -1,11 +1,11 @@
 // From a settings value to its text.
-ghost use Rattle.std.specs.Prelude.{◌≡◌, [], ◌∷◌, ◌+◌, ◌%◌, ◌≤◌, ◌<◌, length};
+ghost use Rattle.std.specs.Prelude.{◌≡◌, [], ◌∷◌, ◌+◌, ◌%◌, ◌≤◌, length};
 ghost use Rattle.numbers.specs.Numbers.{most_tags};
 ghost use Rattle.settings.specs.Lines.{digit_zero, decimal, line_of};
 ghost use Rattle.settings.specs.Grammar.{newest, text_in};
 ghost use Rattle.settings.specs.Values.{value_of};
 ghost use Rattle.settingstext.specs.TextWritten.{writing, written_to};
-ghost use Rattle.settingstext.specs.inner.Parts.{Laid, head_text, tag_text, tags_text};
+ghost use Rattle.settingstext.specs.inner.Parts.{Room, Lays, head_text, tag_text, tags_text};
 
 use settings::{Settings, Tag};
 use values::is_valid;
@@ -17,17 +17,11 @@ pub enum WriteError {
     Invalid,
 }
 
-// How many digits a number has.
+// How many digits a number has. (The programs have such functions too, in crates that stand above this one.)
 fn digit_count(n: u32) -> usize
     ensures { result ≡ length (decimal n) }
 {
-    let mut left = n;
-    let mut count: usize = 1;
-    while 9 < left {
-        left = left / 10;
-        count += 1;
-    }
-    count
+    n.checked_ilog(10).unwrap_or(0) as usize + 1
 }
 
 fn line_length(key: &[u8], n: u32) -> usize
@@ -36,6 +30,7 @@ fn line_length(key: &[u8], n: u32) -> usize
     key.len() + 1 + digit_count(n) + 1
 }
 
+// The lengths stand beside what writes: they are known before the first byte is written, so that a refusal touches nothing.
 fn head_length(s: &Settings) -> usize
     ensures { result ≡ length (head_text s.now.timeout s.now.join s.now.tags) }
 {
@@ -66,87 +61,90 @@ fn text_length(s: &Settings) -> usize
     size
 }
 
-// The functions below lay a part of the text at a place of the buffer and tell where the next part begins.
-fn write_byte(byte: u8, at: usize, text: &mut [u8]) -> usize
-    requires { at < length text.old }
-    ensures { Laid (byte ∷ []) at text.old text.new result }
-{
-    text[at] = byte;
-    at + 1
-}
-
-fn write_bytes(bytes: &[u8], at: usize, text: &mut [u8]) -> usize
-    requires { at + length bytes.now ≤ length text.old }
-    ensures { Laid bytes.now at text.old text.new result }
-{
-    let end = at + bytes.len();
-    text[at..end].copy_from_slice(bytes);
-    end
-}
-
 fn last_digit(n: u32) -> u8
     ensures { result ≡ digit_zero + n % 10 }
 {
     b'0' + (n % 10) as u8
 }
 
-// The digits are written from the last one on.
-fn write_decimal(n: u32, at: usize, text: &mut [u8]) -> usize
-    requires { at + length (decimal n) ≤ length text.old }
-    ensures { Laid (decimal n) at text.old text.new result }
-{
-    let end = at + digit_count(n);
-    let mut rest = n;
-    let mut place = end - 1;
-    while 9 < rest {
-        text[place] = last_digit(rest);
-        rest = rest / 10;
-        place -= 1;
+// A buffer, and the place in it where the next part of the text is laid.
+#[derive(Drop)]
+struct Writer<'a> {
+    text: &'a mut [u8],
+    at: usize,
+}
+
+impl<'a> Writer<'a> {
+    fn byte(&mut self, byte: u8)
+        requires { Room 1 self.old }
+        ensures { Lays (byte ∷ []) self.old self.new }
+    {
+        self.text[self.at] = byte;
+        self.at += 1;
     }
-    text[place] = last_digit(rest);
-    end
-}
 
-fn write_line(key: &[u8], n: u32, at: usize, text: &mut [u8]) -> usize
-    requires { at + length (line_of key.now n) ≤ length text.old }
-    ensures { Laid (line_of key.now n) at text.old text.new result }
-{
-    let sign = write_bytes(key, at, text);
-    let number = write_byte(b'=', sign, text);
-    let end = write_decimal(n, number, text);
-    write_byte(b'\n', end, text)
-}
-
-fn write_head(s: &Settings, text: &mut [u8]) -> usize
-    requires { length (head_text s.now.timeout s.now.join s.now.tags) ≤ length text.old }
-    ensures { Laid (head_text s.now.timeout s.now.join s.now.tags) 0 text.old text.new result }
-{
-    let second = write_line(b"version", numbers::NEWEST_VERSION, 0, text);
-    let third = write_line(b"timeout", s.timeout, second, text);
-    let fourth = write_line(b"join", s.join, third, text);
-    write_line(b"tags", s.tags, fourth, text)
-}
-
-fn write_tag(tag: Tag, at: usize, text: &mut [u8]) -> usize
-    requires { at + length (tag_text tag) ≤ length text.old }
-    ensures { Laid (tag_text tag) at text.old text.new result }
-{
-    let second = write_line(b"addr", tag.address as u32, at, text);
-    let third = write_line(b"width", tag.width as u32, second, text);
-    let fourth = write_line(b"sign", tag.sign as u32, third, text);
-    let fifth = write_line(b"ttl", tag.ttl as u32, fourth, text);
-    write_line(b"strict", tag.strict as u32, fifth, text)
-}
-
-fn write_tags(s: &Settings, at: usize, text: &mut [u8]) -> usize
-    requires { (s.now.tags ≤ most_tags) × (at + length (tags_text (value_of s.now).tags) ≤ length text.old) }
-    ensures { Laid (tags_text (value_of s.now).tags) at text.old text.new result }
-{
-    let mut next = at;
-    for k in 0..s.tags as usize {
-        next = write_tag(s.tag(k), next, text);
+    fn bytes(&mut self, bytes: &[u8])
+        requires { Room (length bytes.now) self.old }
+        ensures { Lays bytes.now self.old self.new }
+    {
+        let end = self.at + bytes.len();
+        self.text[self.at..end].copy_from_slice(bytes);
+        self.at = end;
     }
-    next
+
+    // The digits are written from the last one on.
+    fn decimal(&mut self, n: u32)
+        requires { Room (length (decimal n)) self.old }
+        ensures { Lays (decimal n) self.old self.new }
+    {
+        let end = self.at + digit_count(n);
+        let mut rest = n;
+        for place in (self.at..end).rev() {
+            self.text[place] = last_digit(rest);
+            rest /= 10;
+        }
+        self.at = end;
+    }
+
+    fn line(&mut self, key: &[u8], n: u32)
+        requires { Room (length (line_of key.now n)) self.old }
+        ensures { Lays (line_of key.now n) self.old self.new }
+    {
+        self.bytes(key);
+        self.byte(b'=');
+        self.decimal(n);
+        self.byte(b'\n');
+    }
+
+    fn head(&mut self, s: &Settings)
+        requires { Room (length (head_text s.now.timeout s.now.join s.now.tags)) self.old }
+        ensures { Lays (head_text s.now.timeout s.now.join s.now.tags) self.old self.new }
+    {
+        self.line(b"version", numbers::NEWEST_VERSION);
+        self.line(b"timeout", s.timeout);
+        self.line(b"join", s.join);
+        self.line(b"tags", s.tags);
+    }
+
+    fn tag(&mut self, tag: Tag)
+        requires { Room (length (tag_text tag)) self.old }
+        ensures { Lays (tag_text tag) self.old self.new }
+    {
+        self.line(b"addr", tag.address as u32);
+        self.line(b"width", tag.width as u32);
+        self.line(b"sign", tag.sign as u32);
+        self.line(b"ttl", tag.ttl as u32);
+        self.line(b"strict", tag.strict as u32);
+    }
+
+    fn tags(&mut self, s: &Settings)
+        requires { (s.now.tags ≤ most_tags) × Room (length (tags_text (value_of s.now).tags)) self.old }
+        ensures { Lays (tags_text (value_of s.now).tags) self.old self.new }
+    {
+        for k in 0..s.tags as usize {
+            self.tag(s.tag(k));
+        }
+    }
 }
 
 // The text of a valid value that is lent. The length is known before the first byte is written, so a refusal touches nothing.
@@ -159,6 +157,8 @@ pub fn write_text(s: &Settings, text: &mut [u8]) -> Result<usize, WriteError>
     if text.len() < text_length(s) {
         return Err(WriteError::TooShort);
     }
-    let at = write_head(s, text);
-    Ok(write_tags(s, at, text))
+    let mut writer = Writer { text, at: 0 };
+    writer.head(s);
+    writer.tags(s);
+    Ok(writer.at)
 }

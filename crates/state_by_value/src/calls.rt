@@ -47,7 +47,7 @@ fn zeros() -> Device {
     }
 }
 
-// A fresh state from a settings value. An invalid value is refusal 10, and the state then has the usual one.
+// A fresh state from a settings value. An invalid value is refusal 10, and the state then has the usual one. (Each call spreads, lends and gathers in three lines; a function that takes the call in between would carry its contract in `F.post`, no plainer.)
 pub fn fresh(from: Settings) -> Stepped
     ensures { FreshlyByValue from result }
 {

@@ -22,7 +22,7 @@ pub struct Place {
     pub count: u8,
 }
 
-// One device's state. A place where nothing is live is None. The parties of place k stand from k times ROOM on; no place from `top` on is live.
+// One device's state. A place where nothing is live is None. The parties of place k stand from k times ROOM on; no place from `top` on is live. (The party arrays stay flat, as document 01 has them. That it was made is no part of it: `spread` takes any state, and `gather` makes one of any device.)
 #[derive(Drop)]
 pub struct State {
     pub entries: [Option<Place>; numbers::PLACES],

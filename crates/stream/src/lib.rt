@@ -3,12 +3,15 @@
 
 ghost use Rattle.std.specs.Prelude.{◌≡◌, ◌≤◌, length};
 ghost use Rattle.numbers.specs.Numbers.{most_frame, frame_buffer};
+ghost use Rattle.machine.specs.RefusalNumbers.{number_of};
 ghost use Rattle.stream.specs.Stream.{refused, framed, wanting};
 ghost use Rattle.stream.specs.Lent.{MadeStream, Takes, Resets, Filled};
 
+use machine::Refusal;
+use reports::Outcome;
 use wire::splitting::Split;
 
-// The stream that a host lends, changed in place: C's struct zb_stream.
+// The stream that a host lends, changed in place: C's struct zb_stream, with the count beside the bytes and the mark as a number.
 #[repr(C)]
 #[derive(Drop)]
 pub struct LentStream {
@@ -27,20 +30,13 @@ pub struct Taken {
     pub taken: u32,
 }
 
-// The outcomes' numbers: ZB_DONE, ZB_FRAME and ZB_MORE.
-const DONE: u32 = 1;
-
-const FRAME: u32 = 8;
-
-const MORE: u32 = 9;
-
 impl Taken {
-    // A refusal by its number, after which so many bytes of the piece are taken.
-    fn refused(refusal: u32, taken: u32) -> Taken
-        ensures { result ≡ refused refusal taken }
+    // A refusal, after which so many bytes of the piece are taken.
+    fn refused(refusal: Refusal, taken: u32) -> Taken
+        ensures { result ≡ refused (number_of refusal) taken }
     {
         Taken {
-            refusal,
+            refusal: refusal as u32,
             taken,
             ..Taken::default()
         }
@@ -51,7 +47,7 @@ impl Taken {
         ensures { result ≡ framed length taken }
     {
         Taken {
-            outcome: FRAME,
+            outcome: Outcome::Frame as u32,
             length,
             taken,
             ..Taken::default()
@@ -63,7 +59,7 @@ impl Taken {
         ensures { result ≡ wanting taken }
     {
         Taken {
-            outcome: MORE,
+            outcome: Outcome::More as u32,
             taken,
             ..Taken::default()
         }
@@ -88,7 +84,7 @@ impl LentStream {
         self.count = 0;
         self.mark = 0;
         Taken {
-            outcome: DONE,
+            outcome: Outcome::Done as u32,
             ..Taken::default()
         }
     }
@@ -99,10 +95,10 @@ impl LentStream {
         ensures { Takes self.old piece.now out.old result self.new out.new }
     {
         if out.len() < numbers::FRAME_BUFFER {
-            return Taken::refused(1, 0);
+            return Taken::refused(Refusal::Buffer, 0);
         }
         if self.mark != 0 {
-            return Taken::refused(4, 0);
+            return Taken::refused(Refusal::Frame, 0);
         }
         if self.count == 0 {
             if let Split::Frame(frame) = wire::splitting::standing(piece) {
@@ -137,7 +133,7 @@ impl LentStream {
                 let header = numbers::UNCOUNTED as u32;
                 self.count = header;
                 self.mark = 1;
-                Taken::refused(4, header - before)
+                Taken::refused(Refusal::Frame, header - before)
             }
         }
     }

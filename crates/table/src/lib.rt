@@ -6,7 +6,7 @@ ghost use Rattle.numbers.specs.Numbers.{ids as idCount, places};
 
 use pdu::ProxyId;
 
-// The live table, as the host lends it, and the next proxy id to try. (The order and the types are those of C's struct zb_state: they may not change, and the cursor stands here since it stands so there.)
+// The live table, as the host lends it, and the next proxy id to try. (The order and the types are those of C's struct zb_state: they may not change, and the cursor stands here since it stands so there. No fact is a part of the type, since a host lends whatever bytes it has to be made fresh: what holds of a table stands in the clauses of what works on it.)
 #[repr(C)]
 #[derive(Drop)]
 pub struct LiveTable {

@@ -26,7 +26,7 @@ fn row<'a>(t: Tally, pieces: &'a [u8], row: &'a [u8], output: &mut Output) -> Ta
     texts::read(t, word, before(&text, size), before(&other, room), output)
 }
 
-// Every row of a table.
+// Every row of a table. (The programs have such a loop each, of two lines, over different states.)
 fn rows<'a>(t: Tally, pieces: &'a [u8], table: &'a [u8], output: &mut Output) -> Tally {
     let mut tally = t;
     for line in table.split(|byte| *byte == b'\n') {

@@ -31,22 +31,11 @@ fn is_usual(s: &Settings, tags: u32) -> bool {
     (s.timeout == 3000) & (s.join == 1) & (s.tags == tags)
 }
 
-// A tag of these five numbers.
-fn tag(address: u16, width: u16, sign: u16, ttl: u16, strict: u16) -> Tag {
-    Tag {
-        address,
-        width,
-        sign,
-        ttl,
-        strict,
-    }
-}
-
 // Whether a value is document 01's with this sign at its first tag, with these ttls and with the first tag strict or not, number by number; unused tag places are 0.
 fn is_document(s: &Settings, sign: u16, ttl: u16, second: u16, strict: u16) -> bool {
-    let first = s.tag(0) == tag(1024, 16, sign, ttl, strict);
-    let used = first & (s.tag(1) == tag(1026, 32, 0, second, 0));
-    let blank = tag(0, 0, 0, 0, 0);
+    let first = s.tag(0) == Tag::new(1024, 16, sign, ttl, strict);
+    let used = first & (s.tag(1) == Tag::new(1026, 32, 0, second, 0));
+    let blank = Tag::new(0, 0, 0, 0, 0);
     let unused = (s.tag(2) == blank) & (s.tag(255) == blank);
     is_usual(s, 2) & used & unused
 }
@@ -60,7 +49,7 @@ fn is_written(s: &Settings, text: &[u8], other: &[u8]) -> bool {
     }
 }
 
-// Whether the value that a text was read to is right: that of a wrong text has timeout 3000, join 1 and no tags.
+// Whether the value that a text was read to is right: that of a wrong text has timeout 3000, join 1 and no tags. (A row's word is a number or `ok`, as its table has it.)
 fn is_right(s: &Settings, word: &[u8], text: &[u8], other: &[u8]) -> bool {
     match wire::byte_at(word, 0) {
         b'v' => is_document(s, 0, 0, 0, 0),

@@ -18,7 +18,7 @@ fn head_right(s: &Settings) -> bool
         & ((s.join <= 1) & (s.tags as usize <= numbers::MOST_TAGS))
 }
 
-// The rules of a tag's lines; `from` is the first address above the tag before.
+// The rules of a tag's lines; `from` is the first address above the tag before. (The reader of a text has these rules line by line, since it says which is wrong.)
 fn tag_right(from: u32, tag: Tag) -> bool
     ensures { result ≡ (leb from tag.address && (right_width (tag.address ∷ []) tag.width && (right_sign (tag.address ∷ tag.width ∷ []) tag.sign && (right_ttl tag.ttl && right_strict tag.strict)))) }
 {

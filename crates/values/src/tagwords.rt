@@ -8,7 +8,7 @@ ghost use Rattle.settings.specs.TagWords.{kind_of, kind_number, kind_from, tag_w
 use bcd::Kind;
 use settings::{Settings, Tag};
 
-// A kind's number in a word, and the kind that a number means.
+// A kind's number in a word, and the kind that a number means. (Not the place of the kind in bcd's enum, on which a word may not rest; and From would have to stand in bcd, which knows no words.)
 #[tactic(auto, unfolding(settings::specs::TagWords::kind_number))]
 fn kind_number(kind: Kind) -> u64
     ensures { (result ≡ kind_number kind) × (result ≤ 255) }

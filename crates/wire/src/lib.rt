@@ -8,7 +8,7 @@ ghost use Rattle.std.specs.Prelude.{◌≡◌, ◌+◌, ◌<◌, ◌≤◌, leng
 ghost use Rattle.laws.specs.Bytes.{over, pair_at, put_at};
 ghost use Rattle.wire.specs.Frame.{unit_of, function_of, pdu_size};
 
-// The byte at k, and 0 past the end.
+// The byte at k, and 0 past the end. (Not by `get` in each caller: the definitions have the 0.)
 pub fn byte_at(s: &[u8], k: usize) -> u8
     ensures { result ≡ get_or s.now k 0 }
 {
@@ -26,7 +26,7 @@ pub fn pair_at(s: &[u8], k: usize) -> u16
     }
 }
 
-// The unit of a frame, the first byte that its length counts, and its function; 0 past the end.
+// The unit of a frame, the first byte that its length counts, and its function; 0 past the end. (A line each under the document's two names: one function over the place is `byte_at`.)
 pub fn unit_of(frame: &[u8]) -> u8
     ensures { result ≡ unit_of frame.now }
 {

@@ -5,7 +5,7 @@ ghost use Rattle.wire.specs.Told.{standing_in, frame_in};
 
 use crate::pair_at;
 
-// What stands at the start of a run of received bytes: its first whole frame, the start of one, or a header that is refused.
+// What stands at the start of a run of received bytes: its first whole frame, the start of one, or a header that is refused. (Three outcomes: a Result of an Option would name none of the three.)
 #[derive(Clone, Copy)]
 pub enum Split<'a> {
     Frame(&'a [u8]),
