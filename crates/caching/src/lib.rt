@@ -195,7 +195,7 @@ impl ReplyCache {
         self.store(place, word, time, counted);
         let registers = &frame[HEAD..];
         let at = ROOM * place;
-        self.shown[at..at + registers.len()].copy_from_slice(registers);
+        wire::copy(&mut self.shown[at..at + registers.len()], registers);
     }
 
     // Writes what stands at a place over the start of out, under the id of these two bytes, and says its length.
@@ -208,7 +208,7 @@ impl ReplyCache {
         let count = 2 * (word % FIELDS) as usize;
         put_head(out, high, low, word, count as u8);
         let at = ROOM * place;
-        out[HEAD..HEAD + count].copy_from_slice(&self.shown[at..at + count]);
+        wire::copy(&mut out[HEAD..HEAD + count], &self.shown[at..at + count]);
         (HEAD + count) as u32
     }
 

@@ -8,6 +8,7 @@ use native.Mathlib.Numerals.{add-one}
 use native.Mathlib.Omega.{arith}
 use lib.ListN.{length, get_or, set, take, drop, take-append-drop, length-set, length-append, get_or-append, get_or-eq_default}
 use lib.Seq.{drop-cons, paste, paste-zero, paste-suc, length-paste, take-length, take-suc, take_at, set_at, append_snoc, drop-append-add, drop-drop, length-take-le, sets, sets-eq, get_or-set_same, get_or-set_other, set-set, set_comm, set-get_or}
+use Rattle.std.proofs.Common.{drop_of_length-le}
 use Rattle.laws.specs.Bytes.{over, over_at, pair_at, put_at}
 
 -- a copy from the front: nothing yet, one byte more, all
@@ -104,6 +105,10 @@ over_at-behind w v at b h =
 
 pub over_at-over : (w b : List ℕ) → over_at w 0 b ≡ over w b
 over_at-over w b = rw (zero-add (length w))
+
+-- what is written over no more bytes than it has is all that stands there
+pub over_all : (w b : List ℕ) → length b ≤ length w → over w b ≡ w
+over_all w b h = rw (drop_of_length-le b h) (append-nil w)
 
 -- one number more written over the start of a buffer
 pub over_more : (w d : List ℕ) (n x : ℕ) → length w ≡ n → n < length d → set (over w d) n x ≡ over (w ++ (x ∷ [])) d

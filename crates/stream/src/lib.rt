@@ -72,7 +72,7 @@ fn fill(bytes: &mut [u8; numbers::MOST_FRAME], from: usize, piece: &[u8]) -> usi
     ensures { Filled bytes.old from piece.now result bytes.new }
 {
     let n = piece.len().min(numbers::MOST_FRAME - from);
-    bytes[from..from + n].copy_from_slice(&piece[..n]);
+    wire::copy(&mut bytes[from..from + n], &piece[..n]);
     from + n
 }
 
