@@ -8,8 +8,10 @@ use mathlib.Core.Logic.{⊎_elim, ◌↔◌}
 use mathlib.Core.Bool.{Bool, true, false, false≢true}
 use mathlib.Core.List.{List, [], ◌∷◌, ◌++◌, flat_map, append_assoc, append-nil}
 use native.Mathlib.Nat.{pow-succ', one-le-pow, pow-le-pow_right, zero-add, add-zero}
+use native.Mathlib.Numerals.{add-one}
 use native.Mathlib.Omega.{arith}
-use lib.ListN.{length, set, length-append}
+use lib.ListN.{length, set, length-append, take, get_or}
+use lib.Seq.{take-suc}
 use borrow.Author.Tests.{lt-ltb, le-ltb}
 use Rattle.laws.specs.Lists.{tab}
 use Rattle.laws.specs.Bytes.{over_at, over}
@@ -55,6 +57,11 @@ digits_counted n None h some low high =
 digits_counted n (Some e) h some low high =
     let few : e < 20 = ⊎_elim (λ (l : e < 20). l) (λ (l : 20 ≤ e). absurd (let more : 10 ^ 20 ≤ 10 ^ e = pow-le-pow_right (omega arith) l in omega arith)) (lt_or e 20) in
     sym (digits-log e 20 n low (omega (arith, pow-succ' 10 e)) few)
+
+-- a number below ten has one
+pub decimal_one : (n : ℕ) → n < 10 → (digit_zero + n % 10) ∷ [] ≡ decimal n
+unfolding decimal_of
+decimal_one n l = let e : n % 10 ≡ n = omega arith in rw (lt-ltb n 10 l, e) refl
 
 -- the last k digits of a number are its decimal, where it has so many
 pub lasts : ℕ → ℕ → List ℕ
@@ -253,6 +260,13 @@ pub lays_tag : (g : Tag) {b m₁ m₂ m₃ m₄ a : Writer} → b.at ≤ length 
     → Lays (line_of addr_key g.address) b m₁ → Lays (line_of width_key g.width) m₁ m₂ → Lays (line_of sign_key g.sign) m₂ m₃ → Lays (line_of ttl_key g.ttl) m₃ m₄ → Lays (line_of strict_key g.strict) m₄ a
     → Lays (tag_text g) b a
 lays_tag g h x y z t u = rw (tag_lines_lem g) (simp append_assoc at (lays_then h (lays_then h (lays_then h (lays_then h x y) z) t) u))
+
+-- writing bytes: the first k stand
+pub bytes_none : (s : List ℕ) (b : Writer) → Lays (take 0 s) b b
+bytes_none s b = record { same = refl; long = refl; laid = record { bytes = sym (over_at-none b.at b.text.now); behind = omega arith } }
+
+pub bytes_more : (s : List ℕ) {b m a : Writer} {k : ℕ} → b.at ≤ length b.text.now → k < length s → Lays (take k s) b m → Lays (get_or s k 0 ∷ []) m a → Lays (take (k + 1) s) b a
+bytes_more s {k = k} h l w x = rw (add-one k, take-suc s k 0 l) (lays_then h w x)
 
 -- writing the tags: the first k stand
 pub record Written (s : Settings) (before now : Writer) (k : ℕ) : Type 0 where

@@ -87,16 +87,20 @@ impl<'a> Writer<'a> {
         requires { Room (length bytes.now) self.old }
         ensures { Lays bytes.now self.old self.new }
     {
-        let end = self.at + bytes.len();
-        self.text[self.at..end].copy_from_slice(bytes);
-        self.at = end;
+        for byte in bytes {
+            self.byte(*byte);
+        }
     }
 
-    // The digits are written from the last one on.
+    // The digits are written from the last one on; of one digit, as most numbers of a tag are, without the loop.
     fn decimal(&mut self, n: u32)
         requires { Room (length (decimal n)) self.old }
         ensures { Lays (decimal n) self.old self.new }
     {
+        if n < 10 {
+            self.byte(last_digit(n));
+            return;
+        }
         let end = self.at + digit_count(n);
         let mut rest = n;
         for place in (self.at..end).rev() {

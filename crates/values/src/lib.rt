@@ -46,13 +46,13 @@ pub fn is_valid(s: &Settings) -> bool
     if !head_right(s) {
         return false;
     }
+    // Every tag is looked at: without an end at the first wrong one the compiler takes several a turn.
+    let mut right = true;
     let mut from: u32 = 0;
     for k in 0..s.tags as usize {
         let tag = s.tag(k);
-        if !tag_right(from, tag) {
-            return false;
-        }
+        right = right & tag_right(from, tag);
         from = above(tag);
     }
-    true
+    right
 }

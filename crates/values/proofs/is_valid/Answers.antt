@@ -1,7 +1,6 @@
--- `values::is_valid` meets its contract: the tags so far are right, and the first wrong one decides.
-use mathlib.Core.Path.{sym, ◌∙◌}
+-- `values::is_valid` meets its contract: the loop over the tags decides what the definition says of the value.
 use native.Mathlib.Omega.{arith}
-use Rattle.settings.proofs.ValueLaws.{checked_none, checked_more, refused, refused_tag, few, checked_all}
+use Rattle.settings.proofs.ValueLaws.{checked_none, checked_more, refused, few, checked_all}
 use Rattle.values.proofs.is_valid.Goals as goal
 
 pub returns-then-not-head_right : goal.returns-then-not-head_right
@@ -13,11 +12,7 @@ loop-k-init c = (omega arith, few c.args.s.now c.head_right.ensures c.if-not-hea
 pub loop-k-preserved : goal.loop-k-preserved
 loop-k-preserved c =
     let l = c.loop-k in
-    (omega arith, l.invariant.1, checked_more _ c.above-from.ensures.1 l.invariant.2 c.tag-tag.ensures (sym c.if-not-tag_right.false ∙ c.tag_right.ensures) c.above-from.ensures.0)
-
-pub returns-then-not-tag_right : goal.returns-then-not-tag_right
-returns-then-not-tag_right c =
-    refused_tag _ (omega arith) (omega arith) c.loop-k.invariant.2 c.tag-tag.ensures (sym c.if-not-tag_right.true ∙ c.tag_right.ensures)
+    (omega arith, l.invariant.1, checked_more _ c.above-from.ensures.1 l.invariant.2 c.tag-tag.ensures c.tag_right-right.ensures c.above-from.ensures.0)
 
 pub returns : goal.returns
 returns c = checked_all _ c.head_right.ensures c.if-not-head_right.false (omega arith) c.loop-k.invariant.2
