@@ -30,19 +30,26 @@ pub fn is_stranger(attached: u32, client: u32) -> bool
     }
 }
 
-// Attaches a client: refusal 2 above 31, refusal 9 where it is attached. Whatever the rest of the state is, it stays.
-pub fn attach(device: &mut Device, client: u32) -> Answer
-    ensures does { (s : State) → SoundState (lent_set s device.old.attached) → Does (lent_set s device.old.attached) (attaches client) result (lent_set s device.new.attached) [] [] }
-    ensures stays { state_of device.new ≡ lent_set (state_of device.old) device.new.attached }
+// Attaches a client to a set: refusal 2 above 31, refusal 9 where it is attached. Whatever the rest of the state is.
+pub fn attach_to(attached: &mut u32, client: u32) -> Answer
+    ensures { (s : State) → SoundState (lent_set s attached.old) → Does (lent_set s attached.old) (attaches client) result (lent_set s attached.new) [] [] }
 {
     if numbers::CLIENTS <= client {
         return Answer::from(Refusal::Client);
     }
-    if is_member(device.attached, client) {
+    if is_member(*attached, client) {
         return Answer::from(Refusal::Attached);
     }
-    device.attached |= 1 << client;
+    *attached |= 1 << client;
     Answer::Done
+}
+
+// Attaches a client to the device's set. Whatever the rest of the state is, it stays.
+pub fn attach(device: &mut Device, client: u32) -> Answer
+    ensures does { (s : State) → SoundState (lent_set s device.old.attached) → Does (lent_set s device.old.attached) (attaches client) result (lent_set s device.new.attached) [] [] }
+    ensures stays { state_of device.new ≡ lent_set (state_of device.old) device.new.attached }
+{
+    attach_to(&mut device.attached, client)
 }
 
 // Detaches a client and strikes its parties out of every entry: refusal 2 for a stranger. Whatever the rest of the state is, it stays.

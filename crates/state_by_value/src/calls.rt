@@ -59,17 +59,14 @@ pub fn fresh(from: Settings) -> Stepped
     }
 }
 
-// Attaches a client.
+// Attaches a client: the set alone, without a device.
 pub fn attach(s: State, client: u32) -> Stepped
     requires { MadeState s }
     ensures { ServedByValue s (attaches client) result [] [] }
 {
-    let mut device = spread(s);
-    let answer = proxy::attaching::attach(&mut device, client);
-    Stepped {
-        state: gather(device),
-        answer,
-    }
+    let mut state = s;
+    let answer = proxy::attaching::attach_to(&mut state.attached, client);
+    Stepped { state, answer }
 }
 
 // Detaches a client, and strikes its parties out.

@@ -5,7 +5,7 @@ pub mod calls;
 
 ghost use Rattle.std.specs.Prelude.{◌≡◌};
 ghost use Rattle.proxy.specs.State.{state_of as columned};
-ghost use Rattle.state_by_value.specs.Places.{place_of, number_of, word_in, id_in};
+ghost use Rattle.state_by_value.specs.Places.{place_of, number_of, word_in, caller_of, deadline_of, count_of, id_in};
 ghost use Rattle.state_by_value.specs.States.{gathered, state_of};
 
 use caching::ReplyCache;
@@ -63,6 +63,25 @@ fn word_in(place: Option<Place>) -> u64
     }
 }
 
+// The client that it was issued for, its deadline, and how many parties wait; 0 for a free place.
+fn caller_of(place: Option<Place>) -> u8
+    ensures { result ≡ caller_of place }
+{
+    place.map_or(0, |p| p.caller)
+}
+
+fn deadline_of(place: Option<Place>) -> u64
+    ensures { result ≡ deadline_of place }
+{
+    place.map_or(0, |p| p.entry.deadline)
+}
+
+fn count_of(place: Option<Place>) -> u8
+    ensures { result ≡ count_of place }
+{
+    place.map_or(0, |p| p.count)
+}
+
 // The id that a number in the column of ids stands for; 0 for a free place.
 #[tactic(auto, unfolding(crate::specs::Places::id_in))]
 fn id_in(number: u32) -> ProxyId
@@ -89,16 +108,24 @@ fn place_of(number: u32, word: u64, caller: u8, deadline: u64, count: u8) -> Opt
     })
 }
 
-// The device of a state: the columns of the entries one place after the other, the rest as it is.
+// The device of a state: the columns of the entries one place after the other, the rest as it is. (One pass over the entries: `map` of an array copies them, for each of the five columns.)
 pub fn spread(s: State) -> Device
     ensures { columned result ≡ state_of s }
 {
     let entries = s.entries;
-    let ids = entries.map(number_of);
-    let asked = entries.map(word_in);
-    let callers = entries.map(|place| place.map_or(0, |p| p.caller));
-    let deadlines = entries.map(|place| place.map_or(0, |p| p.entry.deadline));
-    let counts = entries.map(|place| place.map_or(0, |p| p.count));
+    let mut ids = [0u32; numbers::PLACES];
+    let mut asked = [0u64; numbers::PLACES];
+    let mut callers = [0u8; numbers::PLACES];
+    let mut deadlines = [0u64; numbers::PLACES];
+    let mut counts = [0u8; numbers::PLACES];
+    for k in 0..numbers::PLACES {
+        let place = entries[k];
+        ids[k] = number_of(place);
+        asked[k] = word_in(place);
+        callers[k] = caller_of(place);
+        deadlines[k] = deadline_of(place);
+        counts[k] = count_of(place);
+    }
     let clients = s.clients;
     let originals = s.originals;
     let table = LiveTable {
