@@ -58,6 +58,10 @@ digits_counted n (Some e) h some low high =
     let few : e < 20 = ⊎_elim (λ (l : e < 20). l) (λ (l : 20 ≤ e). absurd (let more : 10 ^ 20 ≤ 10 ^ e = pow-le-pow_right (omega arith) l in omega arith)) (lt_or e 20) in
     sym (digits-log e 20 n low (omega (arith, pow-succ' 10 e)) few)
 
+-- a number from a power of ten up to the next has one more than that power
+pub digits_ranged : (e n : ℕ) → e < 20 → 10 ^ e ≤ n → n < 10 ^ suc e → e + 1 ≡ length (decimal n)
+digits_ranged e n few least most = sym (digits-log e 20 n least most few)
+
 -- a number below ten has one
 pub decimal_one : (n : ℕ) → n < 10 → (digit_zero + n % 10) ∷ [] ≡ decimal n
 unfolding decimal_of

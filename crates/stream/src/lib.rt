@@ -100,8 +100,8 @@ impl LentStream {
         if self.mark != 0 {
             return Taken::refused(Refusal::Frame, 0);
         }
-        if self.count == 0 {
-            if let Split::Frame(frame) = wire::splitting::standing(piece) {
+        if let Split::Frame(frame) = wire::splitting::standing(piece) {
+            if self.count == 0 {
                 wire::copy(out, frame);
                 let length = frame.len() as u32;
                 return Taken::framed(length, length);

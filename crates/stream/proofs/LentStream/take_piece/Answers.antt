@@ -33,8 +33,8 @@ copy-requires c = let l = lying-short (goal.at.copy-requires c).In-Frame in omeg
 pub overflow_cast-length : goal.overflow_cast-length
 overflow_cast-length c = let l = lying-short (goal.at.overflow_cast-length c).In-Frame in record { fits = omega arith }
 
-pub returns-in-Frame : goal.returns-in-Frame
-returns-in-Frame c =
+pub returns-then-self-eq0 : goal.returns-then-self-eq0
+returns-then-self-eq0 c =
     let s = c.args.self.now in
     rw (c.framed.ensures, c.copy.ensures, c.in-Frame.ensures.frame)
-    (whole_comes s.bytes s.count s.mark c.args.piece.now c.args.out.now c.requires c.if-out-lt-FRAME_BUFFER.false c.if-self-ne0.false c.if-self-eq0.true (lies (goal.at.returns-in-Frame c).In-Frame))
+    (whole_comes s.bytes s.count s.mark c.args.piece.now c.args.out.now c.requires c.if-out-lt-FRAME_BUFFER.false c.if-self-ne0.false c.if-self-eq0.true (lies (goal.at.returns-then-self-eq0 c).In-Frame))
