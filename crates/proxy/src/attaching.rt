@@ -30,7 +30,7 @@ pub fn is_stranger(attached: u32, client: u32) -> bool
     }
 }
 
-// Attaches a client to a set: refusal 2 above 31, refusal 9 where it is attached. Whatever the rest of the state is.
+// Attaches a client to a set, whatever the rest of the state is: refusal 2 above 31, refusal 9 where it is attached.
 pub fn attach_to(attached: &mut u32, client: u32) -> Answer
     ensures { (s : State) → SoundState (lent_set s attached.old) → Does (lent_set s attached.old) (attaches client) result (lent_set s attached.new) [] [] }
 {

@@ -49,7 +49,7 @@ fn number_in(text: &[u8]) -> Option<(u32, &[u8])>
     None
 }
 
-// The number of the line with this key that a text begins with, and the text behind it, if the number is one of least to most. (Laid into its callers: a number with the rest of a text is handed back through memory, and reading each line by a call took twice as long.)
+// The number of the line with this key that a text begins with, and the text behind it, if the number is one of least to most. (Laid into its callers: a number with the rest of a text is handed back through memory, and reading each line by a call took up to twice as long.)
 #[inline(always)]
 fn line_in<'a>(text: &'a [u8], key: &[u8], least: u32, most: u32) -> Option<(u32, &'a [u8])>
     requires { most < ceiling }

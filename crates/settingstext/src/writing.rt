@@ -17,7 +17,7 @@ pub enum WriteError {
     Invalid,
 }
 
-// How many digits a number has. (The programs have such functions too, in crates that stand above this one.)
+// How many digits a number has. (A `match`: by the library's logarithm a text took longer to measure than by the loop before. The programs have such functions too, in crates that stand above this one.)
 fn digit_count(n: u32) -> usize
     ensures { result ≡ length (decimal n) }
 {
@@ -103,7 +103,7 @@ impl<'a> Writer<'a> {
         }
     }
 
-    // The digits are written from the last one on; of one digit, as most numbers of a tag are, without the loop.
+    // The digits are written from the last one on; of one digit, as two or three of a tag's five are, without the loop.
     fn decimal(&mut self, n: u32)
         requires { Room (length (decimal n)) self.old }
         ensures { Lays (decimal n) self.old self.new }

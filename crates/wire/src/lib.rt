@@ -54,7 +54,7 @@ pub fn put_at(d: &mut [u8], k: usize, n: u16)
     d[k..k + 2].copy_from_slice(&n.to_be_bytes());
 }
 
-// Writes s over the start of out. (A byte a turn: `copy_from_slice` is a call of memmove, which a host would have to bring.)
+// Writes s over the start of out. (A byte a turn: `copy_from_slice` of a length that is not constant is a call of memmove, which a host would have to bring.)
 pub fn copy(out: &mut [u8], s: &[u8])
     requires { length s.now ≤ length out.old }
     ensures { out.new ≡ over s.now out.old }
